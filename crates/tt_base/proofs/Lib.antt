@@ -1,0 +1,4 @@
+pub mod FactLemmas
+pub mod Ranges
+pub mod ReadLemmas
+pub mod SetLemmas
