@@ -1,0 +1,95 @@
+ghost use Rattle.std.specs.Prelude.{◌≡◌, ◌++◌, [], OnErr, OnOk, decimal};
+
+use std::alloc::{AllocError, Global};
+use std::marker::Model;
+
+/// A reply, made piece by piece: contracts see its bytes.
+#[derive(Drop)]
+pub struct Reply {
+    alloc: Global,
+    bytes: Vec<u8>,
+}
+
+impl Model for Reply {
+    ghost use Rattle.std.specs.Prelude.{List, ℕ};
+
+    ghost Value = { List ℕ };
+
+    ghost view = { λ r. r.bytes.items };
+}
+
+impl Reply {
+    /// An empty reply.
+    pub fn new(alloc: Global) -> Reply
+        ensures { result ≡ [] }
+    {
+        Reply {
+            alloc,
+            bytes: Vec::new(alloc),
+        }
+    }
+
+    /// Appends bytes.
+    pub fn append(&mut self, bytes: &[u8]) -> Result<(), AllocError>
+        ensures ok { OnOk result (self.new ≡ self.old ++ bytes.now) }
+        ensures err { OnErr result (self.new ≡ self.old) }
+    {
+        self.bytes.extend_from_slice(bytes)
+    }
+
+    /// Appends a text.
+    pub fn text(&mut self, t: &str) -> Result<(), AllocError>
+        ensures ok { OnOk result (self.new ≡ self.old ++ t.now) }
+        ensures err { OnErr result (self.new ≡ self.old) }
+    {
+        self.append(t.as_bytes())
+    }
+
+    /// Appends a number's decimal digits, with no leading zero.
+    pub fn number(&mut self, n: u128) -> Result<(), AllocError>
+        ensures ok { OnOk result (self.new ≡ self.old ++ decimal n) }
+        ensures err { OnErr result (self.new ≡ self.old) }
+    {
+        let digits = n.to_string(self.alloc)?;
+        self.text(digits.as_str())
+    }
+
+    /// All that was appended since the reply was made or cleared.
+    pub fn bytes(&self) -> &[u8]
+        ensures { result.now ≡ self.now }
+    {
+        self.bytes.as_slice()
+    }
+
+    /// Empties the reply, and keeps its memory.
+    pub fn clear(&mut self)
+        ensures { self.new ≡ [] }
+    {
+        self.bytes.clear();
+    }
+}
+
+#[cfg(test)]
+mod tests {
+    use super::*;
+    use std::test::Fail;
+
+    #[test]
+    fn grows_by_texts_and_numbers(rt: HostRuntime) -> Result<(), Fail> {
+        let mut reply = Reply::new(rt.alloc());
+        assert_eq!(rt; reply.bytes(), b"".as_slice());
+        reply.text("ok time ")?;
+        reply.number(0)?;
+        reply.text(" room ")?;
+        reply.number(340282366920938463463374607431768211455)?;
+        assert_eq!(rt;
+            reply.bytes(),
+            b"ok time 0 room 340282366920938463463374607431768211455".as_slice()
+        );
+        reply.clear();
+        assert_eq!(rt; reply.bytes(), b"".as_slice());
+        reply.text("bye\n")?;
+        assert_eq!(rt; reply.bytes(), b"bye\n".as_slice());
+        Ok(())
+    }
+}
