@@ -1,0 +1,72 @@
+#![tactic(auto, using(tt_base::proofs::SetLemmas::set_words))]
+
+ghost use Rattle.std.specs.Prelude.{◌≡◌, ◌<◌, ◌≤◌, ◌^◌, IfSome};
+ghost use Rattle.std.specs.Option.{option_map};
+ghost use Rattle.tt_base.specs.Sets.{has, share, within, first, count, read_set};
+
+use crate::reading::read_bits;
+
+/// A set of weeks of the term that is not empty. Week 0 is the first week, and 128 is the most
+/// that a set has.
+#[derive(Clone, Copy, Debug, PartialEq, Eq)]
+pub struct Weeks {
+    bits: u128,
+    ghost not_empty: { 0 < bits },
+    ghost in_range: { bits < 2 ^ 128 },
+}
+
+impl Weeks {
+    ghost use Rattle.tt_bits.specs.Sets.{week_set, weeks_text};
+
+    /// The weeks of a text of `n` characters 0 and 1, as in the format of ITC 2019: the leftmost
+    /// is for week 0, and a 1 says that the week is in the set. `None` where the length is
+    /// another, a character is another, or no 1 stands in it.
+    pub fn read(text: &str, n: u8) -> Option<Weeks>
+        requires { n ≤ 128 }
+        ensures set { option_map week_set result ≡ read_set text.now n }
+        ensures weeks { result ≡ weeks_text text.now n }
+        ensures in_range { IfSome result (λ weeks. week_set weeks < 2 ^ n) }
+    {
+        let bits = read_bits(text, n)?;
+        Some(Weeks { bits })
+    }
+
+    /// Whether the week is in the set.
+    pub fn has(&self, week: u8) -> bool
+        requires { week < 128 }
+        ensures { result ≡ has (week_set self.now) week }
+    {
+        (self.bits >> week) & 1 == 1
+    }
+
+    /// Whether some week is in both sets.
+    pub fn share(&self, other: Weeks) -> bool
+        ensures { result ≡ share (week_set self.now) (week_set other) }
+    {
+        self.bits & other.bits != 0
+    }
+
+    /// Whether each week of this set is in the other.
+    pub fn within(&self, other: Weeks) -> bool
+        ensures { result ≡ within (week_set self.now) (week_set other) }
+    {
+        self.bits & other.bits == self.bits
+    }
+
+    /// The first week of the set.
+    pub fn first(&self) -> u8
+        ensures first { result ≡ first (week_set self.now) }
+        ensures in_range { result < 128 }
+    {
+        self.bits.trailing_zeros() as u8
+    }
+
+    /// How many weeks are in the set.
+    pub fn count(&self) -> u8
+        ensures count { result ≡ count (week_set self.now) }
+        ensures not_empty { 1 ≤ result }
+        ensures in_range { result ≤ 128 }
+    {
+        self.bits.count_ones() as u8
+    }
+}
