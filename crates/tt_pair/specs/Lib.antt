@@ -1,0 +1,4 @@
+pub mod ViolatedPairs
+pub mod PairShapes
+pub mod PairLaws
+pub mod Groups

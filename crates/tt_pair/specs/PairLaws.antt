@@ -1,0 +1,68 @@
+-- The laws of violated pairs, for each kind alike.
+use Rattle.std.proofs.Common.{◌≡◌, ℕ, ◌+◌, ◌-◌, ◌*◌, ◌/◌, ◌<◌, ◌≤◌, ◌^◌, List, [], ◌∷◌, Option, Some, None, length, count_by, take, pos, refl, ap, zero, suc, arith, cond}
+use Rattle.std.specs.Prelude.{◌+ℤ◌, slice_set, slice_index_or, replicate, IfSome}
+use Rattle.std.proofs.lemmas.List.Sums.{sum_by-cons, count_by-le-length}
+use Rattle.tt_bits.specs.declared.pairs.PairKind.{PairKind}
+use Rattle.tt_bits.specs.declared.times.Spot.{Spot}
+use Rattle.tt_bits.proofs.SetLemmas.{week_set-lt}
+use Rattle.tt_travel.specs.Table.{Table}
+use Rattle.tt_measure.specs.declared.TheConstants.{MOST_MEMBERS, MOST_WEEKS}
+use Rattle.tt_measure.specs.Held.{IsEmptyAt, placed, AreBelow, IsBelow}
+use Rattle.tt_measure.proofs.HeldLemmas.{length-placed, count-placed-set}
+use Rattle.tt_pair.specs.ViolatedPairs.{is_violated, violated_pairs, violated_with}
+
+-- nobody placed: no pair
+pub violated_pairs-empty : (kind : PairKind) (t : Table) (n : ℕ) → violated_pairs kind t (replicate n None) ≡ 0
+violated_pairs-empty kind t zero = refl
+violated_pairs-empty kind t (suc n) = violated_pairs-empty kind t n
+
+-- a spot in an empty place adds its pairs
+pub violated_pairs-set : (kind : PairKind) (t : Table) (h : List (Option Spot)) (p : ℕ) (x : Spot) → IsEmptyAt h p
+    → violated_pairs kind t (slice_set h p (Some x)) ≡ violated_pairs kind t h + violated_with kind t h p x
+violated_pairs-set kind t [] p x e = absurd (omega (arith, e.0))
+violated_pairs-set kind t (None ∷ h) zero x e = omega arith
+violated_pairs-set kind t (Some y ∷ h) zero x e = absurd (cc e.1)
+violated_pairs-set kind t (None ∷ h) (suc p) x e =
+    let rest : IsEmptyAt h p = (omega (arith, e.0), e.1) in violated_pairs-set kind t h p x rest
+violated_pairs-set kind t (Some y ∷ h) (suc p) x e =
+    let rest : IsEmptyAt h p = (omega (arith, e.0), e.1) in
+    let first = sum_by-cons (λ z. cond (is_violated kind t z x) 1 0) y (placed (take p h)) in
+    omega (arith, violated_pairs-set kind t h p x rest, count-placed-set (is_violated kind t y) h p x rest, first)
+
+pub violated_pairs-split : (kind : PairKind) (t : Table) (h : List (Option Spot)) (p : ℕ) (x : Spot) → IsEmptyAt h p
+    → pos (violated_pairs kind t (slice_set h p (Some x))) ≡ pos (violated_pairs kind t h) +ℤ pos (violated_with kind t h p x)
+violated_pairs-split kind t h p x e = ap pos (violated_pairs-set kind t h p x e)
+
+-- one more member makes as many more pairs as there were members
+more_pairs : (n c s : ℕ) → c ≤ n → 2 * s ≤ n * (n - 1) → 2 * (c + s) ≤ suc n * (suc n - 1)
+more_pairs zero c s few h = omega arith
+more_pairs (suc n) c s few h =
+    let fewer : suc n - 1 ≡ n = omega arith in
+    let more : suc (suc n) - 1 ≡ suc n = omega arith in
+    let had = rw fewer at h in
+    rw more (omega arith)
+
+twice-violated_pairs : (kind : PairKind) (t : Table) (h : List (Option Spot)) → 2 * violated_pairs kind t h ≤ length h * (length h - 1)
+twice-violated_pairs kind t [] = omega arith
+twice-violated_pairs kind t (None ∷ h) =
+    omega (arith, more_pairs (length h) 0 (violated_pairs kind t h) (omega arith) (twice-violated_pairs kind t h))
+twice-violated_pairs kind t (Some x ∷ h) =
+    let few = count_by-le-length (is_violated kind t x) (placed h) in
+    let all = length-placed h in
+    more_pairs (length h) (count_by (is_violated kind t x) (placed h)) (violated_pairs kind t h) (omega (arith, few, all)) (twice-violated_pairs kind t h)
+
+-- no more pairs than the members have
+pub violated_pairs-most : (kind : PairKind) (t : Table) (h : List (Option Spot)) → violated_pairs kind t h ≤ length h * (length h - 1) / 2
+violated_pairs-most kind t h = omega (arith, twice-violated_pairs kind t h)
+
+-- so many members as a rule has make few pairs
+pub few_pairs : (n : ℕ) → n ≤ MOST_MEMBERS → n * (n - 1) / 2 < 2 ^ 62
+few_pairs n few = let product : n * (n - 1) ≤ 2000 * 2000 = grind arith in omega arith
+
+-- no set of weeks reaches past week 127
+pub AreBelow-all : (h : List (Option Spot)) → AreBelow MOST_WEEKS h
+AreBelow-all h = λ k d within. below (slice_index_or h k d)
+  where
+    below : (s : Option Spot) → IfSome s (IsBelow MOST_WEEKS)
+    below None = tt
+    below (Some x) = week_set-lt x.time.weeks

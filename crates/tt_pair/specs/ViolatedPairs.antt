@@ -1,0 +1,34 @@
+-- The pairs of placed members that break a rule.
+use Rattle.std.specs.Prelude.{◌≡◌, ℕ, ◌+◌, Bool, not, List, [], ◌∷◌, Option, count_by, take, drop, suc, if◌then◌else◌}
+use Rattle.tt_bits.specs.declared.pairs.PairKind.{PairKind}
+use Rattle.tt_bits.specs.declared.times.Spot.{Spot}
+use Rattle.tt_bits.specs.Pairs.{pair_holds}
+use Rattle.tt_measure.specs.Held.{placed, AreRoomsOf}
+use Rattle.tt_travel.specs.Table.{Table, between}
+
+-- whether two spots break the rule, a that of the member listed earlier
+unfoldable pub is_violated : PairKind → Table → Spot → Spot → Bool
+is_violated kind t a b = not (pair_holds kind a b (between t a.room b.room))
+
+-- whether the spot of another member, listed before it or after it, breaks the rule with the spot x
+abbrev pub is_violated_by : PairKind → Table → Spot → Bool → Spot → Bool
+is_violated_by kind t x before y = if before then is_violated kind t y x else is_violated kind t x y
+
+-- how many pairs of spots break the rule, each spot with each later one
+abbrev pub violated_among : PairKind → Table → List Spot → ℕ
+violated_among kind t [] = 0
+violated_among kind t (x ∷ xs) = count_by (is_violated kind t x) xs + violated_among kind t xs
+
+-- how many pairs of placed members break the rule
+abbrev pub violated_pairs : PairKind → Table → List (Option Spot) → ℕ
+violated_pairs kind t h = violated_among kind t (placed h)
+
+-- how many placed members break the rule with a spot in an empty place: those before it, and those after it
+abbrev pub violated_with : PairKind → Table → List (Option Spot) → ℕ → Spot → ℕ
+violated_with kind t h p x =
+    count_by (λ y. is_violated kind t y x) (placed (take p h)) + count_by (is_violated kind t x) (placed (drop (suc p) h))
+
+-- what is kept for a table: the number of pairs that break the rule, of spots whose rooms are the table's
+pub record IsKept (kind : PairKind) (t : Table) (h : List (Option Spot)) (amount : ℕ) : Type 0 where
+  pub counted : amount ≡ violated_pairs kind t h
+  pub rooms : AreRoomsOf t h
