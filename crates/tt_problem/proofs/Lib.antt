@@ -1,0 +1,4 @@
+pub mod SpanLemmas
+pub mod TableLemmas
+pub mod IdLemmas
+pub mod ValidLemmas

@@ -1,0 +1,13 @@
+-- What a problem keeps beside its parts.
+use Rattle.std.specs.Prelude.{◌≡◌, length}
+use Rattle.tt_problem.specs.declared.problem.Problem.TheInside.{Inside}
+use Rattle.tt_problem.specs.Tables.{IsTableOf}
+use Rattle.tt_problem.specs.Valid.{IsValid, class_ids, course_spans}
+
+-- the parts are valid, and the index and the tables are theirs
+pub record IsKept (p : Inside) : Type 0 where
+  pub valid : IsValid p.parts
+  pub class_ids : p.class_ids.keys ≡ class_ids p.parts
+  pub class_subparts : IsTableOf p.parts.subparts (length p.parts.classes) p.class_subparts
+  pub subpart_configs : IsTableOf p.parts.configs (length p.parts.subparts) p.subpart_configs
+  pub config_courses : IsTableOf (course_spans p.parts) (length p.parts.configs) p.config_courses

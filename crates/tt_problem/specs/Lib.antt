@@ -1,0 +1,5 @@
+pub mod Spans
+pub mod Valid
+pub mod Places
+pub mod Tables
+pub mod Kept
