@@ -1,5 +1,5 @@
 -- The number that a text of a set writes.
-use Rattle.std.proofs.Common.{◌≡◌, ◌∙◌, refl, sym, ap, subst, arith, pow-suc, ℕ, ◌+◌, ◌*◌, ◌<◌, ◌≤◌, ◌^◌, true, cond, List, [], ◌∷◌, length, get_or, drop, inl, inr}
+use Rattle.std.proofs.Common.{◌≡◌, ◌∙◌, refl, sym, ap, subst, arith, pow-suc, ℕ, ◌+◌, ◌*◌, ◌/◌, ◌<◌, ◌≤◌, ◌^◌, zero, suc, true, cond, List, [], ◌∷◌, length, get_or, drop, inl, inr}
 use Rattle.std.specs.Prelude.{◌==◌, nat_lt}
 use Rattle.std.specs.Prelude.{Option, Some, option_and_then}
 use Rattle.std.specs.Option.{option_map}
@@ -8,13 +8,28 @@ use Rattle.std.proofs.Math.Pow.{pow_mono}
 use Rattle.std.proofs.lemmas.Bool.{cases_Bool, and_parts, ltb-true, eqb-true}
 use Rattle.std.proofs.lemmas.Bool.Decides.{nat_tests}
 use Rattle.std.proofs.lemmas.List.{drop_more, length-drop}
-use Rattle.tt_base.specs.Sets.{number_of, is_set_text, read_set}
+use Rattle.std.specs.Int.{bit_at}
+use Rattle.std.proofs.lemmas.Nat.Bits.{bit_at-zero, bit_at_lowest, bit_at-suc}
+use Rattle.tt_base.specs.Sets.{has, number_of, is_set_text, read_set}
 
 pub number_of_lt : (xs : List ℕ) → number_of xs < 2 ^ length xs
 number_of_lt [] = omega arith
 number_of_lt (x ∷ xs) = elim (cases_Bool (x == 49)) [
   | inl t ↦ rw t (omega (arith, number_of_lt xs, pow-suc 2 (length xs)))
   | inr f ↦ rw f (omega (arith, number_of_lt xs, pow-suc 2 (length xs)))
+]
+
+-- a place is in the number exactly where its character is 1
+pub has_number_of : (text : List ℕ) (place : ℕ) → has (number_of text) place ≡ (get_or text place 0 == 49)
+unfolding has
+has_number_of [] place = rw (bit_at-zero place) refl
+has_number_of (c ∷ cs) zero = elim (cases_Bool (c == 49)) [
+  | inl t ↦ let low : bit_at (1 + 2 * number_of cs) 0 ≡ 1 = omega (arith, bit_at_lowest (1 + 2 * number_of cs)) in rw (t, low) refl
+  | inr f ↦ let low : bit_at (0 + 2 * number_of cs) 0 ≡ 0 = omega (arith, bit_at_lowest (0 + 2 * number_of cs)) in rw (f, low) refl
+]
+has_number_of (c ∷ cs) (suc place) = elim (cases_Bool (c == 49)) [
+  | inl t ↦ let half : (1 + 2 * number_of cs) / 2 ≡ number_of cs = omega arith in rw (t, bit_at-suc, half) (has_number_of cs place)
+  | inr f ↦ let half : (0 + 2 * number_of cs) / 2 ≡ number_of cs = omega arith in rw (f, bit_at-suc, half) (has_number_of cs place)
 ]
 
 -- a 1 stands in the text where the number is not 0

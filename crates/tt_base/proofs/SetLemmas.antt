@@ -1,5 +1,5 @@
 -- The words on sets, as what code computes on their numbers.
-use Rattle.std.proofs.Common.{◌≡◌, refl, sym, ap, arith, lit≤, ℕ, zero, suc, ◌+◌, ◌/◌, ◌%◌, ◌<◌, ◌≤◌, ◌^◌, zero-add, add-one, pow-suc, Bool, true, false, not, ◌&&◌, ◌||◌, cond, List, get_or, inl, inr}
+use Rattle.std.proofs.Common.{◌≡◌, refl, sym, ap, arith, lit≤, ℕ, zero, suc, ◌+◌, ◌/◌, ◌%◌, ◌<◌, ◌≤◌, ◌^◌, zero-add, add-one, pow-suc, Bool, true, false, not, ◌&&◌, ◌||◌, cond, List, [], ◌∷◌, get_or, inl, inr}
 use Rattle.std.specs.Prelude.{count_by, ◌==◌, nat_lt, bit_and}
 use Rattle.std.specs.Int.{bit_at, trailing_zeros, w8, w128, Width}
 use Rattle.std.specs.Int.Count.{ones, ones_step}
@@ -68,6 +68,21 @@ share_word a b ha hb = same_from_decides {P = 0 < bit_and a b} _ _ (forth, back)
         let x : bit_at a i ≡ 1 = omega (arith, z.1, e, bit_at-lt a i) in
         let y : bit_at b i ≡ 1 = omega (arith, z.1, e, bit_at-lt b i) in
         any_place (λ i. has a i && has b i) i z.0 (rw (x, y) refl)
+
+any_agree : (p q : ℕ → Bool) → ((i : ℕ) → p i ≡ q i) → (xs : List ℕ) → list_any p xs ≡ list_any q xs
+any_agree p q same [] = refl
+any_agree p q same (x ∷ xs) = rw (same x, any_agree p q same xs) refl
+
+pub and_turned : (a b : Bool) → (a && b) ≡ (b && a)
+and_turned true true = refl
+and_turned true false = refl
+and_turned false true = refl
+and_turned false false = refl
+
+-- two sets share a place whichever comes first
+pub share-sym : (a b : ℕ) → share a b ≡ share b a
+unfolding share
+share-sym a b = any_agree (λ i. has a i && has b i) (λ i. has b i && has a i) (λ i. and_turned (has a i) (has b i)) places
 
 -- the first place is that of the lowest bit
 first_word : (w : Width) → (n : ℕ) → 0 < n → n < 2 ^ bits w → bits w ≤ 128 → trailing_zeros w n ≡ first n

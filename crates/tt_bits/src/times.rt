@@ -25,6 +25,16 @@ pub struct Spot {
 
 impl Spot {
     ghost use Rattle.tt_bits.specs.Pairs.{is_one_room};
+    ghost use Rattle.tt_bits.specs.Spots.{cell_count};
+
+    /// How many cells, a week and a day each, the class meets in: its days times its weeks.
+    pub fn cells(&self) -> u16
+        ensures cells { result ≡ cell_count self.now }
+        ensures some { 1 ≤ result }
+        ensures few { result ≤ 896 }
+    {
+        u16::from(self.time.days.count()) * u16::from(self.time.weeks.count())
+    }
 
     /// Whether both spots have a room, and it is the same.
     pub fn shares_room(&self, other: &Spot) -> bool
@@ -39,7 +49,7 @@ impl Spot {
 
 /// A choice for a class: a place in its list of times and one in its list of rooms. The room is 0
 /// where the class needs none.
-#[derive(Clone, Copy, Debug, PartialEq, Eq)]
+#[derive(Clone, Copy, Debug, PartialEq, Eq, PartialOrd, Ord)]
 pub struct Value {
     pub time: u16,
     pub room: u16,
@@ -99,8 +109,9 @@ impl Time {
     pub fn is_apart(&self, other: &Time, gap: u16) -> bool
         ensures { result ≡ is_apart self.now other.now gap }
     {
-        self.end() as u32 + gap as u32 <= other.start as u32
-            || other.end() as u32 + gap as u32 <= self.start as u32
+        let gap = u32::from(gap);
+        u32::from(self.end()) + gap <= u32::from(other.start)
+            || u32::from(other.end()) + gap <= u32::from(self.start)
     }
 
     /// The slots from the earlier start to the later end.

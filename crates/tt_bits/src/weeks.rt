@@ -1,6 +1,6 @@
 #![tactic(auto, using(tt_base::proofs::SetLemmas::set_words))]
 
-ghost use Rattle.std.specs.Prelude.{◌≡◌, ◌<◌, ◌≤◌, ◌^◌, IfSome};
+ghost use Rattle.std.specs.Prelude.{ℕ, ◌≡◌, ◌<◌, ◌≤◌, ◌^◌, ◌==◌, IfSome, slice_index};
 ghost use Rattle.std.specs.Option.{option_map};
 ghost use Rattle.tt_base.specs.Sets.{has, share, within, first, count, read_set};
 
@@ -25,6 +25,8 @@ impl Weeks {
         requires { n ≤ 128 }
         ensures set { option_map week_set result ≡ read_set text.now n }
         ensures weeks { result ≡ weeks_text text.now n }
+        // A week is in the set exactly where its character is 1.
+        ensures places { IfSome result (λ weeks. (week : ℕ) → has (week_set weeks) week ≡ (slice_index text.now week == 49)) }
         ensures in_range { IfSome result (λ weeks. week_set weeks < 2 ^ n) }
     {
         let bits = read_bits(text, n)?;

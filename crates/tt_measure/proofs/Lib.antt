@@ -1,2 +1,3 @@
+pub mod CellLemmas
+mod Examples
 pub mod HeldLemmas
-pub mod Examples

@@ -6,8 +6,8 @@ use Rattle.std.proofs.lemmas.List.Elements.{All-set, All-replicate}
 use Rattle.tt_bits.specs.declared.pairs.PairKind.{PairKind}
 use Rattle.tt_bits.specs.declared.times.Spot.{Spot}
 use Rattle.tt_travel.specs.Table.{Table, IsRoomOf}
-use Rattle.tt_measure.specs.Held.{spot_at, IsEmptyAt}
-use Rattle.tt_measure.proofs.HeldLemmas.{set_back, emptied, full_within}
+use Rattle.tt_bits.specs.Spots.{spot_at, IsEmptyAt}
+use Rattle.tt_bits.proofs.SpotLemmas.{set_back, emptied, full_within}
 use Rattle.tt_pair.specs.ViolatedPairs.{violated_pairs, violated_with, IsKept}
 use Rattle.tt_pair.specs.PairLaws.{violated_pairs-empty, violated_pairs-set}
 

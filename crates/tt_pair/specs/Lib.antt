@@ -1,4 +1,5 @@
 pub mod ViolatedPairs
+pub mod Listed
 pub mod PairShapes
 pub mod PairLaws
 pub mod Groups

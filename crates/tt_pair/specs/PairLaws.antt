@@ -6,9 +6,9 @@ use Rattle.tt_bits.specs.declared.pairs.PairKind.{PairKind}
 use Rattle.tt_bits.specs.declared.times.Spot.{Spot}
 use Rattle.tt_bits.proofs.SetLemmas.{week_set-lt}
 use Rattle.tt_travel.specs.Table.{Table}
-use Rattle.tt_measure.specs.declared.TheConstants.{MOST_MEMBERS, MOST_WEEKS}
-use Rattle.tt_measure.specs.Held.{IsEmptyAt, placed, AreBelow, IsBelow}
-use Rattle.tt_measure.proofs.HeldLemmas.{length-placed, count-placed-set}
+use Rattle.tt_measure.specs.Limits.{most_members, most_weeks}
+use Rattle.tt_bits.specs.Spots.{IsEmptyAt, placed, AreBelow, IsBelow}
+use Rattle.tt_bits.proofs.SpotLemmas.{length-placed, count-placed-set}
 use Rattle.tt_pair.specs.ViolatedPairs.{is_violated, violated_pairs, violated_with}
 
 -- nobody placed: no pair
@@ -56,13 +56,5 @@ pub violated_pairs-most : (kind : PairKind) (t : Table) (h : List (Option Spot))
 violated_pairs-most kind t h = omega (arith, twice-violated_pairs kind t h)
 
 -- so many members as a rule has make few pairs
-pub few_pairs : (n : ℕ) → n ≤ MOST_MEMBERS → n * (n - 1) / 2 < 2 ^ 62
+pub few_pairs : (n : ℕ) → n ≤ most_members → n * (n - 1) / 2 < 2 ^ 62
 few_pairs n few = let product : n * (n - 1) ≤ 2000 * 2000 = grind arith in omega arith
-
--- no set of weeks reaches past week 127
-pub AreBelow-all : (h : List (Option Spot)) → AreBelow MOST_WEEKS h
-AreBelow-all h = λ k d within. below (slice_index_or h k d)
-  where
-    below : (s : Option Spot) → IfSome s (IsBelow MOST_WEEKS)
-    below None = tt
-    below (Some x) = week_set-lt x.time.weeks

@@ -2,7 +2,7 @@
 use Rattle.std.specs.Prelude.{ℕ, List, [], ◌∷◌, slice_index, slice_index_or}
 use Rattle.tt_bits.specs.declared.pairs.PairKind.{PairKind}
 use Rattle.tt_bits.specs.declared.pairs.PairKind.TheVariants.{SameStart, SameTime, DifferentTime, SameDays, DifferentDays, SameWeeks, DifferentWeeks, Overlap, NotOverlap, SameRoom, DifferentRoom, SameAttendees, Precedence, WorkDay, MinGap}
-use Rattle.tt_measure.specs.declared.TheConstants.{MOST_WEEKS}
+use Rattle.tt_measure.specs.Limits.{most_weeks}
 
 -- the place of a kind among the fifteen
 abbrev pub number_of : PairKind → ℕ
@@ -30,7 +30,7 @@ slots_of kind = 0
 
 -- the kind, its slots, the number of members and the weeks
 abbrev pub pair_shape : PairKind → ℕ → List ℕ
-pair_shape kind members = number_of kind ∷ slots_of kind ∷ members ∷ MOST_WEEKS ∷ []
+pair_shape kind members = number_of kind ∷ slots_of kind ∷ members ∷ most_weeks ∷ []
 
 -- the fifteen kinds, with these slots where they name some
 abbrev pub kinds : ℕ → List PairKind

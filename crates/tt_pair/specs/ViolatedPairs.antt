@@ -1,18 +1,15 @@
 -- The pairs of placed members that break a rule.
-use Rattle.std.specs.Prelude.{◌≡◌, ℕ, ◌+◌, Bool, not, List, [], ◌∷◌, Option, count_by, take, drop, suc, if◌then◌else◌}
+use Rattle.std.specs.Prelude.{◌≡◌, ℕ, ◌+◌, Bool, not, List, [], ◌∷◌, Option, count_by, take, drop, suc}
 use Rattle.tt_bits.specs.declared.pairs.PairKind.{PairKind}
 use Rattle.tt_bits.specs.declared.times.Spot.{Spot}
 use Rattle.tt_bits.specs.Pairs.{pair_holds}
-use Rattle.tt_measure.specs.Held.{placed, AreRoomsOf}
+use Rattle.tt_bits.specs.Spots.{placed}
+use Rattle.tt_measure.specs.Held.{AreRoomsOf}
 use Rattle.tt_travel.specs.Table.{Table, between}
 
 -- whether two spots break the rule, a that of the member listed earlier
 unfoldable pub is_violated : PairKind → Table → Spot → Spot → Bool
 is_violated kind t a b = not (pair_holds kind a b (between t a.room b.room))
-
--- whether the spot of another member, listed before it or after it, breaks the rule with the spot x
-abbrev pub is_violated_by : PairKind → Table → Spot → Bool → Spot → Bool
-is_violated_by kind t x before y = if before then is_violated kind t y x else is_violated kind t x y
 
 -- how many pairs of spots break the rule, each spot with each later one
 abbrev pub violated_among : PairKind → Table → List Spot → ℕ

@@ -6,15 +6,18 @@ ghost use Rattle.std.specs.Prelude.{◌≡◌, ℕ, ◌+◌, ◌-◌, ◌*◌, �
 ghost use Rattle.std.specs.Option.{option_map_or};
 ghost use Rattle.tt_travel.specs.Table.{Table, IsRoomOf};
 ghost use Rattle.tt_bits.specs.declared.times.Spot.{Spot};
-ghost use Rattle.tt_measure.specs.declared.TheConstants.{MOST_MEMBERS, MOST_WEEKS};
-ghost use Rattle.tt_measure.specs.Held.{placed, AreRoomsOf};
-ghost use Rattle.tt_pair.specs.ViolatedPairs.{is_violated, is_violated_by, violated_pairs, violated_with};
+ghost use Rattle.tt_measure.specs.Limits.{most_members, most_weeks};
+ghost use Rattle.tt_bits.specs.Spots.{placed};
+ghost use Rattle.tt_measure.specs.Held.{AreRoomsOf};
+ghost use Rattle.tt_pair.specs.ViolatedPairs.{is_violated, violated_pairs, violated_with};
+ghost use Rattle.tt_pair.specs.Listed.{is_violated_by};
 ghost use Rattle.tt_pair.specs.PairShapes.{pair_shape, kind_of};
-ghost use Rattle.tt_pair.specs.PairLaws.{violated_pairs-empty, violated_pairs-split, violated_pairs-most, few_pairs, AreBelow-all};
+ghost use Rattle.tt_pair.specs.PairLaws.{violated_pairs-empty, violated_pairs-split, violated_pairs-most, few_pairs};
+ghost use Rattle.tt_measure.proofs.HeldLemmas.{AreBelow-all};
 
 use std::alloc::{AllocError, Global};
 use tt_bits::{PairKind, Spot, holds};
-use tt_measure::{MOST_MEMBERS, MOST_WEEKS, Measure};
+use tt_measure::Measure;
 use tt_travel::Travel;
 
 /// A rule on pairs over its members. Its amount is the number of pairs of placed members that
@@ -24,7 +27,7 @@ pub struct PairGroup {
     kind: PairKind,
     held: Vec<Option<Spot>>,
     amount: u64,
-    ghost few: { length held.items ≤ MOST_MEMBERS },
+    ghost few: { length held.items ≤ most_members },
 }
 
 impl PairGroup {
@@ -35,9 +38,9 @@ impl PairGroup {
         members: u32,
         travel: &Travel,
     ) -> Result<PairGroup, AllocError>
-        requires { members ≤ MOST_MEMBERS }
+        requires { members ≤ most_members }
         ensures held { IfOk result (λ g. ⟦<PairGroup as Measure>⟧.held g ≡ replicate members None) }
-        ensures weeks { IfOk result (λ g. ⟦<PairGroup as Measure>⟧.weeks g ≡ MOST_WEEKS) }
+        ensures weeks { IfOk result (λ g. ⟦<PairGroup as Measure>⟧.weeks g ≡ most_weeks) }
         ensures shape { IfOk result (λ g. ⟦<PairGroup as Measure>⟧.shape g ≡ pair_shape kind members) }
         ensures spare { IfOk result (λ g. ⟦<PairGroup as Measure>⟧.spare g ≡ None) }
         // Its amounts are the pairs that break the rule.
@@ -65,11 +68,11 @@ impl PairGroup {
         requires room { IsRoomOf travel.now spot.now.room }
         requires place { place < length self.now.held.items }
         ensures count { result ≡ violated_with self.now.kind travel.now self.now.held.items place spot.now }
-        ensures few { result ≤ MOST_MEMBERS }
+        ensures few { result ≤ most_members }
     {
         let held = self.held.as_slice();
-        violated_by(self.kind, travel, spot, true, &held[..place])
-            + violated_by(self.kind, travel, spot, false, &held[place + 1..])
+        violated_by(self.kind, travel, spot, Listed::Before, &held[..place])
+            + violated_by(self.kind, travel, spot, Listed::After, &held[place + 1..])
     }
 }
 
@@ -78,7 +81,7 @@ impl Measure for PairGroup {
 
     ghost held = { held_of };
 
-    ghost weeks = { λ _. MOST_WEEKS };
+    ghost weeks = { λ _. most_weeks };
 
     ghost shape = { shape_of };
 
@@ -129,23 +132,30 @@ impl Measure for PairGroup {
     }
 }
 
+/// Where another member stands in the list of a rule's members.
+#[derive(Clone, Copy, Debug)]
+enum Listed {
+    Before,
+    After,
+}
+
 /// How many of the other members, all listed before or all after, are placed and break the rule
 /// with the spot.
 fn violated_by(
     kind: PairKind,
     travel: &Travel,
     spot: &Spot,
-    before: bool,
+    listed: Listed,
     members: &[Option<Spot>],
 ) -> u64
     requires room { IsRoomOf travel.now spot.now.room }
     requires rooms { AreRoomsOf travel.now members.now }
-    ensures count { result ≡ count_by (is_violated_by kind travel.now spot.now before) (placed members.now) }
+    ensures count { result ≡ count_by (is_violated_by kind travel.now spot.now listed) (placed members.now) }
     ensures few { result ≤ length members.now }
 {
     let mut violated = 0;
     for member in members {
-        if is_violated_by(kind, travel, spot, before, member) {
+        if is_violated_by(kind, travel, spot, listed, member) {
             violated += 1;
         }
     }
@@ -157,17 +167,19 @@ fn is_violated_by(
     kind: PairKind,
     travel: &Travel,
     spot: &Spot,
-    before: bool,
+    listed: Listed,
     member: &Option<Spot>,
 ) -> bool
     requires room { IsRoomOf travel.now spot.now.room }
     requires other_room { IfSome member.now (λ y. IsRoomOf travel.now y.room) }
-    ensures { result ≡ option_map_or (is_violated_by kind travel.now spot.now before) member.now false }
+    ensures { result ≡ option_map_or (is_violated_by kind travel.now spot.now listed) member.now false }
 {
-    match member {
-        None => false,
-        Some(other) if before => is_violated(kind, travel, other, spot),
-        Some(other) => is_violated(kind, travel, spot, other),
+    let Some(other) = member else {
+        return false;
+    };
+    match listed {
+        Listed::Before => is_violated(kind, travel, other, spot),
+        Listed::After => is_violated(kind, travel, spot, other),
     }
 }
 

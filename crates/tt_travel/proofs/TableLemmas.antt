@@ -6,8 +6,7 @@ use Rattle.std.proofs.lemmas.Bool.{cases_eq, cases_Bool}
 use Rattle.std.proofs.lemmas.Bool.Decides.{nat_tests}
 use Rattle.std.proofs.lemmas.List.{length-replicate}
 use Rattle.std.proofs.Math.ListN.{length-set}
-use Rattle.tt_travel.specs.declared.TheConstants.{MOST_ROOMS}
-use Rattle.tt_travel.specs.Table.{Table, between, no_travel, with_travel, IsRoomOf, IsTravel, IsPair}
+use Rattle.tt_travel.specs.Table.{most_rooms, Table, between, no_travel, with_travel, IsRoomOf, IsTravel, IsPair}
 
 -- a fact of two parts holds or doesn't
 both_hold : {A B : Type 0} → A ⊎ ¬ A → B ⊎ ¬ B → (A × B) ⊎ ¬ (A × B)
@@ -131,7 +130,7 @@ zero_at (suc n) zero = refl
 zero_at (suc n) (suc i) = zero_at n i
 
 -- a table without travel is one of travel
-pub IsTravel-no_travel : (n : ℕ) → n ≤ MOST_ROOMS → IsTravel (no_travel n)
+pub IsTravel-no_travel : (n : ℕ) → n ≤ most_rooms → IsTravel (no_travel n)
 unfolding no_travel
 IsTravel-no_travel n few = record {
   few = few;

@@ -1,6 +1,9 @@
 -- The table of travel between rooms, in slots.
 use Rattle.std.specs.Prelude.{◌≡◌, ℕ, ◌+◌, ◌*◌, ◌<◌, ◌≤◌, ◌⊎◌, ◌==◌, List, Option, Some, None, slice_index, slice_set, replicate, length, IfSome, if◌then◌else◌}
-use Rattle.tt_travel.specs.declared.TheConstants.{MOST_ROOMS}
+
+-- the most rooms that a table has
+abbrev pub most_rooms : ℕ
+most_rooms = 2500
 
 -- the slots from each room to each room, row after row
 pub record Table : Type 0 where
@@ -32,7 +35,7 @@ IsPair a b c d = ((c ≡ a) × (d ≡ b)) ⊎ ((c ≡ b) × (d ≡ a))
 
 -- a whole table that is the same both ways, and 0 from a room to itself
 pub record IsTravel (t : Table) : Type 0 where
-  pub few : t.rooms ≤ MOST_ROOMS
+  pub few : t.rooms ≤ most_rooms
   pub whole : length t.slots ≡ t.rooms * t.rooms
   pub both_ways : (a b : Option ℕ) → IsRoomOf t a → IsRoomOf t b → between t a b ≡ between t b a
   pub itself : (a : Option ℕ) → IsRoomOf t a → between t a a ≡ 0

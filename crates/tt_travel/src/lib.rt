@@ -2,13 +2,10 @@
 #![tactic(auto)]
 
 ghost use Rattle.std.specs.Prelude.{◌≡◌, ◌≢◌, ℕ, ◌+◌, ◌*◌, ◌<◌, ◌≤◌, Some, IfOk, length};
-ghost use Rattle.tt_travel.specs.Table.{between, no_travel, with_travel, IsRoomOf, IsTravel, IsPair};
+ghost use Rattle.tt_travel.specs.Table.{most_rooms, between, no_travel, with_travel, IsRoomOf, IsTravel, IsPair};
 
 use std::alloc::{AllocError, Global};
 use std::marker::Model;
-
-/// The most rooms that a table of travel has.
-pub const MOST_ROOMS: u32 = 2500;
 
 /// How many slots it takes to go from one room to another, as the travel of ITC 2019. It takes as
 /// many to go back, and none to stay. For a class without a room it is 0.
@@ -35,7 +32,7 @@ impl Travel {
     /// A table of so many rooms in which no travel takes time.
     #[tactic(auto, unfolding(crate::specs::Table::no_travel))]
     pub fn new(alloc: Global, rooms: u32) -> Result<Travel, AllocError>
-        requires { rooms ≤ MOST_ROOMS }
+        requires { rooms ≤ most_rooms }
         ensures table { IfOk result (λ t. t ≡ no_travel rooms) }
         ensures rooms { IfOk result (λ t. t.rooms ≡ rooms) }
         ensures sound { IfOk result IsTravel }
@@ -116,7 +113,7 @@ mod tests {
 
     #[test]
     fn largest_table_is_made(rt: HostRuntime) -> Result<(), Fail> {
-        let mut travel = Travel::new(rt.alloc(), MOST_ROOMS)?;
+        let mut travel = Travel::new(rt.alloc(), 2_500)?;
         travel.set(2_499, 0, 9);
         assert_eq!(rt; travel.between(Some(0), Some(2_499)), 9);
         Ok(())

@@ -1,6 +1,6 @@
 use Rattle.std.proofs.Common.{◌≡◌, Some}
-use Rattle.tt_measure.specs.Held.{spot_at}
-use Rattle.tt_measure.proofs.HeldLemmas.{full_is}
+use Rattle.tt_bits.specs.Spots.{spot_at}
+use Rattle.tt_bits.proofs.SpotLemmas.{full_is}
 use Rattle.tt_pair.proofs.KeptLemmas.{IsKept-take}
 use Rattle.tt_pair.proofs.PairGroupMeasure.take.Goals as goal
 
