@@ -5,15 +5,11 @@ use Rattle.std.specs.Prelude.{◌≡◌, ◌≤◌, ◌+◌, ◌-◌, ◌^◌, �
 abbrev pub one_more : ℕ → ℕ
 one_more count = min (count + 1) (2 ^ 64 - 1)
 
--- The count rose, or stands at the last value of its type.
-abbrev pub Rose : ℕ → ℕ → Type 0
-Rose before now = one_more before ≤ now
-
--- A call fails only where the count rose. An answer Ok leaves the count as it was.
+-- The count of faults is one more after a call that failed, and as it was after any other.
 pub record HasCause {T E : Type 0} (before now : ℕ) (result : Result T E) : Type 0 where
   pub later : before ≤ now
   pub ok : OnOk result (now ≡ before)
-  pub failed : OnErr result (Rose before now)
+  pub failed : OnErr result (now ≡ one_more before)
 
 -- Where the names asked for are told after a call, they were told before, and grew by this one.
 abbrev pub Asks : Option (List (List ℕ)) → Option (List (List ℕ)) → List ℕ → Type 0

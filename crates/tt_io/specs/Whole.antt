@@ -2,12 +2,12 @@
 use Rattle.std.specs.Prelude.{◌≡◌, ◌≤◌, ◌++◌, ℕ, List, Option, Some, None, Result, Err, ⊤}
 use Rattle.tt_io.specs.declared.whole.ReadEnd.{ReadEnd}
 use Rattle.tt_io.specs.declared.whole.ReadEnd.TheVariants.{Failed}
-use Rattle.tt_io.specs.Causes.{Rose}
+use Rattle.tt_io.specs.Causes.{one_more, Writes}
 
--- A read answers Failed only where the count rose. With any other answer the count is as it was.
+-- The count of faults is one more after the answer Failed, and as it was after any other.
 pub record ReadCause {T : Type 0} (before now : ℕ) (result : Result T ReadEnd) : Type 0 where
   pub later : before ≤ now
-  pub failed : result ≡ Err Failed → Rose before now
+  pub failed : result ≡ Err Failed → now ≡ one_more before
   pub others : (result ≡ Err Failed → ⊥) → now ≡ before
 
 -- Where the bytes written are told after a call, they were told before, and grew by a front of these.
@@ -15,6 +15,14 @@ abbrev pub WritesFront : Option (List ℕ) → Option (List ℕ) → List ℕ �
 WritesFront before None bytes = ⊤
 WritesFront None (Some now) bytes = ⊥
 WritesFront (Some before) (Some now) bytes = (front : List ℕ) × (rest : List ℕ) × (bytes ≡ front ++ rest) × (now ≡ before ++ front)
+
+-- Where the bytes written are told after a call, they were told before, and only grew.
+abbrev pub Grows : Option (List ℕ) → Option (List ℕ) → Type 0
+Grows before now = (more : List ℕ) × Writes before now more
+
+-- Where the bytes written are told after a call, they were told before, and grew by this head and maybe more.
+abbrev pub WritesPast : Option (List ℕ) → Option (List ℕ) → List ℕ → Type 0
+WritesPast before now head = (more : List ℕ) × Writes before now (head ++ more)
 
 -- What is left is told, and all is the bytes in hand and those that are left.
 abbrev pub AllIs : List ℕ → List ℕ → Option (List ℕ) → Type 0

@@ -1,9 +1,12 @@
 // That calls succeed while there is memory, which calls fail by a plan, and the devices of the
 // system.
+mod slow;
+
 use crate::{
     Failed, Files, MemFiles, MemSink, ReadEnd, RealFiles, Sink, StdSink, SureFiles, SureSink,
     read_whole, write_whole,
 };
+use slow::{SlowDisk, SlowOutput};
 use std::alloc::{AllocError, Global};
 use std::test::Fail;
 
@@ -98,6 +101,66 @@ fn writes_whole_pieces(rt: HostRuntime) {
     assert_eq!(rt; sink.write(b"ab"), Ok(2));
     assert_eq!(rt; write_whole(&mut sink, b"cd"), Ok(()));
     assert!(rt; sink.bytes() == Some(b"abcd".as_slice()));
+}
+
+// Whether just these names were asked for.
+fn are_asked(asked: Option<&[String]>, names: &[&str]) -> bool {
+    match asked {
+        Some(asked) => asked
+            .iter()
+            .map(|name| name.as_str())
+            .eq(names.iter().copied()),
+        None => false,
+    }
+}
+
+#[test]
+fn tells_the_names_asked_for(rt: HostRuntime) -> Result<(), Fail> {
+    let mut files = two_files(rt.alloc())?;
+    files.fail_at(2)?;
+    assert!(rt; are_asked(files.asked(), &[]));
+    assert_eq!(rt; files.open_file("four"), Ok(()));
+    assert_eq!(rt; files.open_file("three"), Err(Failed));
+    assert_eq!(rt; files.open_file("absent"), Err(Failed));
+    assert!(rt; are_asked(files.asked(), &["four", "three", "absent"]));
+    let mut files = SureFiles::new(rt.alloc());
+    assert_eq!(rt; files.open_file("absent"), Ok(()));
+    assert!(rt; are_asked(files.asked(), &["absent"]));
+    Ok(())
+}
+
+#[test]
+fn reads_from_a_slow_disk(rt: HostRuntime) {
+    // The file takes the reads 1 to 4.
+    for failing in [0, 1, 2, 3, 4, 5] {
+        let mut files = RealFiles::new(SlowDisk { failing });
+        let answer = read_whole(rt.alloc(), &mut files, "three", 3);
+        let want = if failing >= 1 && failing <= 4 {
+            Err(ReadEnd::Failed)
+        } else {
+            Ok(b"abc".as_slice())
+        };
+        assert!(rt; is_answer(&answer, &want), "read {failing}");
+        let answer = read_whole(rt.alloc(), &mut files, "absent", 3);
+        assert!(rt; is_answer(&answer, &Err(ReadEnd::Failed)));
+        let answer = read_whole(rt.alloc(), &mut files, "-", 5);
+        assert!(rt; is_answer(&answer, &Ok(b"given")));
+    }
+}
+
+#[test]
+fn writes_to_a_slow_output(rt: HostRuntime) {
+    let table = [
+        (9, 0, Ok(()), b"abc".as_slice()),
+        (9, 1, Err(Failed), b"".as_slice()),
+        (9, 2, Err(Failed), b"a".as_slice()),
+        (2, 0, Err(Failed), b"ab".as_slice()),
+    ];
+    for (room, failing, want, written) in table {
+        let output = SlowOutput::new(rt.alloc(), room, failing);
+        assert_eq!(rt; write_whole(&mut StdSink::new(&output), b"abc"), want);
+        assert!(rt; output.holds(written), "room {room}, failing {failing}");
+    }
 }
 
 #[test]

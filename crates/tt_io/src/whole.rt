@@ -12,7 +12,7 @@ use thiserror::Error;
 /// Why a whole file wasn't read.
 #[derive(Clone, Copy, Debug, PartialEq, Eq, Error)]
 pub enum ReadEnd {
-    /// A call on the files failed: their count of faults rose.
+    /// A call on the files failed.
     #[error("the file can't be read")]
     Failed,
     /// The file has more bytes than the limit.
@@ -22,6 +22,9 @@ pub enum ReadEnd {
     #[error("out of memory")]
     Memory,
 }
+
+// The most bytes that one read gives.
+const READ_SIZE: usize = 65_536;
 
 // One read, added at the end.
 fn read_more<F: Files>(files: &mut F, bytes: &mut Vec<u8>) -> Result<usize, ReadEnd>
@@ -37,7 +40,7 @@ fn read_more<F: Files>(files: &mut F, bytes: &mut Vec<u8>) -> Result<usize, Read
     ensures same { (n : List ℕ) → F.holds files.new n ≡ F.holds files.old n }
     ensures cause { ReadCause (F.faults files.old) (F.faults files.new) result }
 {
-    let mut buf = [0u8; 4096];
+    let mut buf = [0u8; READ_SIZE];
     let Ok(count) = files.read(&mut buf) else {
         return Err(ReadEnd::Failed);
     };
@@ -57,7 +60,7 @@ pub fn read_whole<F: Files>(
 ) -> Result<Vec<u8>, ReadEnd>
     ensures bytes { IfOk result (λ v. (all : List ℕ) → F.holds files.old name.now ≡ Some all →
         (v.items ≡ all) × (length all ≤ limit)) }
-    ensures within { IfOk result (λ v. vec_len v ≤ limit) }
+    ensures most { IfOk result (λ v. vec_len v ≤ limit) }
     ensures long { result ≡ Err ReadEnd.TooLong →
         (all : List ℕ) → F.holds files.old name.now ≡ Some all → limit < length all }
     ensures asks { Asks (F.asked files.old) (F.asked files.new) name.now }

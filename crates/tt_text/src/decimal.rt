@@ -22,7 +22,9 @@ fn value_of(digits: &[u8]) -> u128
     value
 }
 
-fn decimal_number(word: &[u8]) -> Option<u128>
+/// The number that a word of 1 to 20 decimal digits is. Leading zeros are allowed, so it is below
+/// 10 ^ 20.
+pub fn decimal_number(word: &[u8]) -> Option<u128>
     ensures { result ≡ decimal_of word.now }
 {
     if word.is_empty() || word.len() > 20 || !are_digits(word) {
@@ -48,6 +50,17 @@ pub fn read_decimal(word: &[u8], most: u64) -> Option<u64>
 #[cfg(test)]
 mod tests {
     use super::*;
+
+    #[test]
+    fn reads_numbers_of_up_to_twenty_digits(rt: HostRuntime) {
+        assert_eq!(rt; decimal_number(b"007"), Some(7));
+        assert_eq!(rt;
+            decimal_number(b"99999999999999999999"),
+            Some(99_999_999_999_999_999_999)
+        );
+        assert_eq!(rt; decimal_number(b"000000000000000000000"), None);
+        assert_eq!(rt; decimal_number(b"7a"), None);
+    }
 
     #[test]
     fn reads_numbers_up_to_the_most(rt: HostRuntime) {

@@ -6,6 +6,6 @@ mod decimal;
 mod reply;
 mod words;
 
-pub use decimal::read_decimal;
+pub use decimal::{decimal_number, read_decimal};
 pub use reply::Reply;
 pub use words::Words;
