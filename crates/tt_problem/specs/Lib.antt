@@ -1,5 +1,9 @@
 pub mod Spans
+pub mod Seats
+pub mod Sums
 pub mod Valid
 pub mod Places
 pub mod Tables
 pub mod Kept
+pub mod RulePlaces
+pub mod RuleRows

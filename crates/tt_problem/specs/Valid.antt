@@ -1,13 +1,19 @@
 -- Which parts make a problem.
-use Rattle.std.specs.Prelude.{ℕ, ◌*◌, ◌<◌, ◌≤◌, ◌^◌, List, length, All, IfSome, map, fold, max, sum_by, nat_eq}
+use Rattle.std.specs.Prelude.{◌≡◌, ℕ, ◌<◌, ◌≤◌, ◌^◌, List, length, All, IfSome, map, nat_eq}
 use Rattle.std.specs.List.{IsDistinct}
-use Rattle.tt_base.specs.Sets.{count}
+use Rattle.tt_bits.specs.declared.times.Time.{Time}
 use Rattle.tt_bits.specs.Sets.{day_set, week_set}
 use Rattle.tt_problem.specs.declared.parts.Weights.{Weights}
 use Rattle.tt_problem.specs.declared.parts.Span.{Span}
 use Rattle.tt_problem.specs.declared.parts.TimeChoice.{TimeChoice}
 use Rattle.tt_problem.specs.declared.parts.ClassPart.{ClassPart}
+use Rattle.tt_problem.specs.declared.parts.RoomChoice.{RoomChoice}
+use Rattle.tt_problem.specs.declared.parts.RoomPart.{RoomPart}
+use Rattle.tt_problem.specs.declared.parts.Rule.{Rule}
+use Rattle.tt_problem.specs.declared.parts.StudentPart.{StudentPart}
 use Rattle.tt_problem.specs.declared.parts.Parts.{Parts}
+use Rattle.tt_problem.specs.Sums.{cells_of, member_count, links_of, seats_of}
+use Rattle.tt_travel.specs.Table.{IsTravel}
 use Rattle.tt_problem.specs.Spans.{Covers}
 
 -- a week has 1 to 7 days, and a term 1 to 64 weeks
@@ -24,11 +30,38 @@ pub record AreValidWeights (w : Weights) : Type 0 where
   pub distribution : w.distribution ≤ 100000
   pub student : w.student ≤ 100000
 
--- the time lies within the days of a week and the weeks of the term, and its penalty is at most 1,000,000
+-- the time lies within the days of a week and the weeks of the term
+pub record IsTimeOf (nr_days nr_weeks : ℕ) (t : Time) : Type 0 where
+  pub days : day_set t.days < 2 ^ nr_days
+  pub weeks : week_set t.weeks < 2 ^ nr_weeks
+
+-- the time lies within the term, and its penalty is at most 1,000,000
 pub record IsValidTime (nr_days nr_weeks : ℕ) (t : TimeChoice) : Type 0 where
-  pub days : day_set t.time.days < 2 ^ nr_days
-  pub weeks : week_set t.time.weeks < 2 ^ nr_weeks
+  pub within : IsTimeOf nr_days nr_weeks t.time
   pub penalty : t.penalty ≤ 1000000
+
+-- the room is closed at no more than 1,000 times, each within the term
+pub record IsValidRoom (nr_days nr_weeks : ℕ) (r : RoomPart) : Type 0 where
+  pub few : length r.closed ≤ 1000
+  pub closed : All (IsTimeOf nr_days nr_weeks) r.closed
+
+-- the room is one of the rooms, and its penalty is at most 1,000,000
+pub record IsValidChoice (p : Parts) (r : RoomChoice) : Type 0 where
+  pub room : r.room < length p.rooms
+  pub penalty : r.penalty ≤ 1000000
+
+-- the rule has at most 2,000 members, each of them a class, and no class twice
+pub record IsValidRule (p : Parts) (r : Rule) : Type 0 where
+  pub few : length r.members ≤ 2000
+  pub classes : All (λ class. class < length p.classes) r.members
+  pub distinct : IsDistinct nat_eq r.members
+  pub penalty : r.penalty ≤ 1000000
+
+-- the student has at most 40 courses, each of them one of the courses, and no course twice
+pub record IsValidStudent (p : Parts) (s : StudentPart) : Type 0 where
+  pub few : length s.courses ≤ 40
+  pub courses : All (λ place. place < length p.courses) s.courses
+  pub distinct : IsDistinct nat_eq s.courses
 
 -- the class has 1 to 1,000 valid times, and its parent is one of the classes
 pub record IsValidClass (p : Parts) (c : ClassPart) : Type 0 where
@@ -36,10 +69,16 @@ pub record IsValidClass (p : Parts) (c : ClassPart) : Type 0 where
   pub few_times : length c.times ≤ 1000
   pub times : All (IsValidTime p.nr_days p.nr_weeks) c.times
   pub parent : IfSome c.parent (λ place. place < length p.classes)
+  pub few_rooms : length c.rooms ≤ 1000
+  pub rooms : All (IsValidChoice p) c.rooms
 
 -- the ids of the courses, in order
 abbrev pub course_ids : Parts → List ℕ
 course_ids p = map (λ c. c.id) p.courses
+
+-- the ids of the rooms, in order
+abbrev pub room_ids : Parts → List ℕ
+room_ids p = map (λ r. r.id) p.rooms
 
 -- the ids of the classes, in order
 abbrev pub class_ids : Parts → List ℕ
@@ -49,13 +88,9 @@ class_ids p = map (λ c. c.id) p.classes
 abbrev pub course_spans : Parts → List Span
 course_spans p = map (λ c. c.configs) p.courses
 
--- how many cells of the term a time takes, a cell being one day of one week
-abbrev pub time_cells : TimeChoice → ℕ
-time_cells t = count (day_set t.time.days) * count (week_set t.time.weeks)
-
--- the most cells that a time of the class takes
-abbrev pub class_cells : ClassPart → ℕ
-class_cells c = fold max 0 (map time_cells c.times)
+-- the ids of the students, in order
+abbrev pub student_ids : Parts → List ℕ
+student_ids p = map (λ s. s.id) p.students
 
 -- The parts make a problem.
 pub record IsValid (p : Parts) : Type 0 where
@@ -66,9 +101,25 @@ pub record IsValid (p : Parts) : Type 0 where
   pub configs : Covers p.configs (length p.subparts)
   pub subparts : Covers p.subparts (length p.classes)
   pub classes : All (IsValidClass p) p.classes
-  -- ids differ, and the limits of size hold
+  -- the rooms, and the travel between them
+  pub rooms : All (IsValidRoom p.nr_days p.nr_weeks) p.rooms
+  pub travel : IsTravel p.travel
+  pub travel_rooms : p.travel.rooms ≡ length p.rooms
+  -- the rules and the students
+  pub rules : All (IsValidRule p) p.rules
+  pub students : All (IsValidStudent p) p.students
+  -- the ids of a kind differ
   pub course_ids : IsDistinct nat_eq (course_ids p)
   pub class_ids : IsDistinct nat_eq (class_ids p)
+  pub room_ids : IsDistinct nat_eq (room_ids p)
+  pub student_ids : IsDistinct nat_eq (student_ids p)
+  -- the limits of size
   pub few_courses : length p.courses ≤ 20000
   pub few_classes : length p.classes ≤ 20000
-  pub few_cells : sum_by class_cells p.classes ≤ 8000000
+  pub few_rooms : length p.rooms ≤ 2500
+  pub few_rules : length p.rules ≤ 20000
+  pub few_students : length p.students ≤ 100000
+  pub few_cells : cells_of p ≤ 8000000
+  pub few_members : member_count p ≤ 4000000
+  pub few_links : links_of p ≤ 20000000
+  pub few_seats : seats_of p ≤ 4000000

@@ -1,23 +1,30 @@
 ghost use Rattle.std.specs.Prelude.{◌≡◌, ◌<◌, ◌≤◌, length, slice_get, Some, IfOk, IfSome};
 ghost use Rattle.tt_problem.specs.Spans.{IsSpanWithin};
-ghost use Rattle.tt_problem.specs.Valid.{AreValidWeights, IsValid, IsValidClass};
-ghost use Rattle.tt_problem.specs.Places.{class_of, subpart_of, config_of, course_of};
+ghost use Rattle.tt_problem.specs.Valid.{AreValidWeights, IsValid, IsValidClass, IsValidRoom, IsValidRule, IsValidStudent};
+ghost use Rattle.tt_problem.specs.RulePlaces.{rules_of};
+ghost use Rattle.tt_problem.specs.Places.{place_of_id, class_of, room_of, student_of, subpart_of, config_of, course_of};
 
-use crate::parts::{ClassPart, CoursePart, Parts, Span, Weights};
-use crate::tables::{course_table, ids_of, table_of};
+use crate::parts::{
+    ClassPart, CoursePart, Parts, RoomPart, Rule, RulePlace, Span, StudentPart, Weights,
+};
+use crate::tables::{class_ids, course_table, room_ids, rule_table, student_ids, table_of};
 use indexmap::IndexSet;
 use std::alloc::{AllocError, Global};
 use std::marker::Model;
 use tt_base::Row;
+use tt_travel::Travel;
 
 /// A problem, seen as its parts, which are valid. It never changes.
 #[derive(Drop)]
 pub struct Problem {
     parts: Parts,
     class_ids: IndexSet<u32>,
+    room_ids: IndexSet<u32>,
+    student_ids: IndexSet<u32>,
     class_subparts: Row<u32>,
     subpart_configs: Row<u32>,
     config_courses: Row<u32>,
+    rule_places: Vec<Vec<RulePlace>>,
 }
 
 impl Model for Problem {
@@ -40,17 +47,30 @@ impl Problem {
         requires { IsValid parts }
         ensures { IfOk result (λ p. p ≡ parts) }
     {
-        let class_ids = ids_of(alloc, parts.classes.as_slice())?;
+        let class_ids = class_ids(alloc, parts.classes.as_slice())?;
+        let room_ids = room_ids(alloc, parts.rooms.as_slice())?;
+        let student_ids = student_ids(alloc, parts.students.as_slice())?;
         let class_subparts = table_of(alloc, parts.subparts.as_slice(), parts.classes.len())?;
         let subpart_configs = table_of(alloc, parts.configs.as_slice(), parts.subparts.len())?;
         let config_courses = course_table(alloc, parts.courses.as_slice(), parts.configs.len())?;
+        let rule_places = rule_table(alloc, &parts)?;
         Ok(Problem {
             parts,
             class_ids,
+            room_ids,
+            student_ids,
             class_subparts,
             subpart_configs,
             config_courses,
+            rule_places,
         })
+    }
+
+    /// All parts.
+    pub fn parts(&self) -> &Parts
+        ensures { result.now ≡ self.now }
+    {
+        &self.parts
     }
 
     /// How many days a week has.
@@ -100,7 +120,23 @@ impl Problem {
         ensures place { result ≡ class_of self.now id }
         ensures in_range { IfSome result (λ place. place < length self.now.classes) }
     {
-        self.class_ids.get_index_of(&id).map(|place| place as u32)
+        place_of_id(&self.class_ids, id)
+    }
+
+    /// The place of the room with an id, and `None` where no room has it.
+    pub fn room_of(&self, id: u32) -> Option<u32>
+        ensures place { result ≡ room_of self.now id }
+        ensures in_range { IfSome result (λ place. place < length self.now.rooms) }
+    {
+        place_of_id(&self.room_ids, id)
+    }
+
+    /// The place of the student with an id, and `None` where no student has it.
+    pub fn student_of(&self, id: u32) -> Option<u32>
+        ensures place { result ≡ student_of self.now id }
+        ensures in_range { IfSome result (λ place. place < length self.now.students) }
+    {
+        place_of_id(&self.student_ids, id)
     }
 
     /// The class at a place.
@@ -165,7 +201,86 @@ impl Problem {
     {
         self.config_courses.as_slice()[self.config_of(class) as usize]
     }
+
+    /// How many students there are.
+    pub fn student_count(&self) -> u32
+        ensures count { result ≡ length self.now.students }
+        ensures few { result ≤ 100000 }
+    {
+        self.parts.students.len() as u32
+    }
+
+    /// The student at a place.
+    pub fn student(&self, place: u32) -> &StudentPart
+        requires { place < length self.now.students }
+        ensures part { slice_get self.now.students place ≡ Some result.now }
+        ensures valid { IsValidStudent self.now result.now }
+    {
+        &self.parts.students.as_slice()[place as usize]
+    }
+
+    /// The rules by which parts make a problem hold.
+    pub fn validity(&self)
+        ensures { IsValid self.now }
+    {
+        let _ = &self.parts;
+    }
+
+    /// The travel between rooms.
+    pub fn travel(&self) -> &Travel
+        ensures { result.now ≡ self.now.travel }
+    {
+        &self.parts.travel
+    }
+
+    /// How many rules there are.
+    pub fn rule_count(&self) -> u32
+        ensures count { result ≡ length self.now.rules }
+        ensures few { result ≤ 20000 }
+    {
+        self.parts.rules.len() as u32
+    }
+
+    /// The rule at a place.
+    pub fn rule(&self, place: u32) -> &Rule
+        requires { place < length self.now.rules }
+        ensures part { slice_get self.now.rules place ≡ Some result.now }
+        ensures valid { IsValidRule self.now result.now }
+    {
+        &self.parts.rules.as_slice()[place as usize]
+    }
+
+    /// How many rooms there are.
+    pub fn room_count(&self) -> u32
+        ensures count { result ≡ length self.now.rooms }
+        ensures few { result ≤ 2500 }
+    {
+        self.parts.rooms.len() as u32
+    }
+
+    /// The room at a place.
+    pub fn room(&self, place: u32) -> &RoomPart
+        requires { place < length self.now.rooms }
+        ensures part { slice_get self.now.rooms place ≡ Some result.now }
+        ensures valid { IsValidRoom self.now.nr_days self.now.nr_weeks result.now }
+    {
+        &self.parts.rooms.as_slice()[place as usize]
+    }
+
+    /// The rules that have a class, in order, and its place in each.
+    pub fn rules_of(&self, class: u32) -> &[RulePlace]
+        requires { class < length self.now.classes }
+        ensures { result.now ≡ rules_of self.now class }
+    {
+        self.rule_places[class as usize].as_slice()
+    }
 }
 
-#[cfg(test)]
-mod tests;
+/// Where an id stands, and `None` where it is unknown.
+fn place_of_id(ids: &IndexSet<u32>, id: u32) -> Option<u32>
+    requires { length ids.now.keys ≤ 100000 }
+    ensures place { result ≡ place_of_id ids.now.keys id }
+    ensures in_range { IfSome result (λ place. place < length ids.now.keys) }
+{
+    ids.get_index_of(&id).map(|place| place as u32)
+}

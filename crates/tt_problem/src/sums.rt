@@ -1,0 +1,167 @@
+//! Sums over the parts of a problem, for telling whether they are within its limits. None takes memory.
+
+ghost use Rattle.std.specs.Prelude.{◌≡◌, ◌≤◌, ◌<◌, All, length};
+ghost use Rattle.tt_problem.specs.Spans.{Covers, IsSpanWithin};
+ghost use Rattle.tt_problem.specs.Valid.{IsValidRule, IsValidStudent, course_spans};
+ghost use Rattle.tt_problem.specs.Seats.{most_of_course, most_subparts, most_seats};
+ghost use Rattle.tt_problem.specs.Sums.{time_cells, class_cells, cells_of, member_count, counts_blocks, cells_at, links_of_rule, links_of, seats_of};
+
+use crate::parts::{ClassPart, CoursePart, DistKind, Parts, Rule, Span, StudentPart, TimeChoice};
+
+/// How many cells of the term a time takes, a cell being one day of one week.
+fn time_cells(choice: &TimeChoice) -> u32
+    ensures cells { result ≡ time_cells choice.now }
+    ensures few { result ≤ 896 }
+{
+    u32::from(choice.time.days.count()) * u32::from(choice.time.weeks.count())
+}
+
+/// The most cells that a time of a class takes.
+pub fn class_cells(class: &ClassPart) -> u32
+    ensures cells { result ≡ class_cells class.now }
+    ensures few { result ≤ 896 }
+{
+    let mut most = 0;
+    for choice in class.times.as_slice() {
+        most = u32::max(most, time_cells(choice));
+    }
+    most
+}
+
+/// The most cells that all classes take together.
+pub fn cells_of(parts: &Parts) -> u32
+    requires { length parts.now.classes ≤ 20000 }
+    ensures { result ≡ cells_of parts.now }
+{
+    let mut sum = 0;
+    for class in parts.classes.as_slice() {
+        sum += class_cells(class);
+    }
+    sum
+}
+
+/// How many members all rules have together.
+pub fn member_count(parts: &Parts) -> u32
+    requires few { length parts.now.rules ≤ 20000 }
+    requires short { All (λ r. length r.members ≤ 2000) parts.now.rules }
+    ensures { result ≡ member_count parts.now }
+{
+    let mut count = 0;
+    for rule in parts.rules.as_slice() {
+        count += rule.members.len() as u32;
+    }
+    count
+}
+
+/// Whether the amount of a rule is counted in blocks, for which it keeps links.
+fn counts_blocks(kind: DistKind) -> bool
+    ensures { result ≡ counts_blocks kind }
+{
+    match kind {
+        DistKind::MaxBreaks { .. } | DistKind::MaxBlock { .. } => true,
+        DistKind::Pair { .. } | DistKind::MaxDays { .. } | DistKind::MaxDayLoad { .. } => false,
+    }
+}
+
+/// The most cells that a time of the class at a place takes.
+#[tactic(auto, unfolding(crate::specs::Sums::cells_at))]
+pub fn cells_at(parts: &Parts, class: u32) -> u32
+    requires { class < length parts.now.classes }
+    ensures cells { result ≡ cells_at parts.now class }
+    ensures few { result ≤ 896 }
+{
+    class_cells(&parts.classes.as_slice()[class as usize])
+}
+
+/// The most cells that the members of a rule take together.
+#[tactic(auto, unfolding(crate::specs::Sums::links_of_rule))]
+pub fn links_of_rule(parts: &Parts, rule: &Rule) -> u32
+    requires short { length rule.now.members ≤ 2000 }
+    requires classes { All (λ class. class < length parts.now.classes) rule.now.members }
+    ensures links { result ≡ links_of_rule parts.now rule.now }
+    ensures few { result ≤ 1792000 }
+{
+    let mut sum = 0;
+    for class in rule.members.as_slice() {
+        sum += cells_at(parts, *class);
+    }
+    sum
+}
+
+/// The most cells that the members of all rules of `MaxBreaks` and `MaxBlock` take together.
+pub fn links_of(parts: &Parts) -> u64
+    requires few { length parts.now.rules ≤ 20000 }
+    requires rules { All (IsValidRule parts.now) parts.now.rules }
+    ensures { result ≡ links_of parts.now }
+{
+    let mut sum = 0;
+    for rule in parts.rules.as_slice() {
+        if counts_blocks(rule.kind) {
+            sum += u64::from(links_of_rule(parts, rule));
+        }
+    }
+    sum
+}
+
+/// The greatest number of subparts of a configuration of a course.
+#[tactic(auto, using(crate::proofs::SumLemmas::span_in), unfolding(crate::specs::Seats::most_of_course))]
+fn most_of_course(parts: &Parts, course: &CoursePart) -> u32
+    requires within { IsSpanWithin (length parts.now.configs) course.now.configs }
+    requires configs { Covers parts.now.configs (length parts.now.subparts) }
+    requires few_subparts { length parts.now.subparts ≤ 20000 }
+    ensures most { result ≡ most_of_course parts.now course.now }
+    ensures few { result ≤ 20000 }
+{
+    let Span { first, after } = course.configs;
+    let mut most = 0;
+    for config in &parts.configs.as_slice()[first as usize..after as usize] {
+        most = u32::max(most, config.after - config.first);
+    }
+    most
+}
+
+/// The same of the course at a place.
+#[tactic(auto, using(crate::proofs::SpanLemmas::course_within), unfolding(crate::specs::Seats::most_subparts))]
+fn most_subparts(parts: &Parts, place: u32) -> u32
+    requires place { place < length parts.now.courses }
+    requires courses { Covers (course_spans parts.now) (length parts.now.configs) }
+    requires configs { Covers parts.now.configs (length parts.now.subparts) }
+    requires few_subparts { length parts.now.subparts ≤ 20000 }
+    ensures most { result ≡ most_subparts parts.now place }
+    ensures few { result ≤ 20000 }
+{
+    most_of_course(parts, &parts.courses.as_slice()[place as usize])
+}
+
+/// The most classes that the list of a student may have.
+#[tactic(auto, unfolding(crate::specs::Seats::most_seats))]
+pub fn most_seats(parts: &Parts, student: &StudentPart) -> u32
+    requires courses { Covers (course_spans parts.now) (length parts.now.configs) }
+    requires configs { Covers parts.now.configs (length parts.now.subparts) }
+    requires few_subparts { length parts.now.subparts ≤ 20000 }
+    requires student { IsValidStudent parts.now student.now }
+    ensures most { result ≡ most_seats parts.now student.now }
+    ensures few { result ≤ 800000 }
+{
+    let mut most = 0;
+    for place in student.courses.as_slice() {
+        most += most_subparts(parts, *place);
+    }
+    most
+}
+
+/// The most classes that the lists of all students may have together.
+pub fn seats_of(parts: &Parts) -> u64
+    requires courses { Covers (course_spans parts.now) (length parts.now.configs) }
+    requires configs { Covers parts.now.configs (length parts.now.subparts) }
+    requires few_subparts { length parts.now.subparts ≤ 20000 }
+    requires few { length parts.now.students ≤ 100000 }
+    requires students { All (IsValidStudent parts.now) parts.now.students }
+    ensures { result ≡ seats_of parts.now }
+{
+    let mut sum = 0;
+    for student in parts.students.as_slice() {
+        sum += u64::from(most_seats(parts, student));
+    }
+    sum
+}
