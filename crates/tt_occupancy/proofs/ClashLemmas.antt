@@ -1,0 +1,141 @@
+-- Clashes while classes come and go.
+use Rattle.std.proofs.Common.{◌≡◌, ◌∙◌, ℕ, ◌+◌, ◌-◌, ◌*◌, ◌<◌, ◌≤◌, ◌^◌, Bool, cond, false, List, [], ◌∷◌, Option, Some, None, length, count_by, take, refl, sym, ap, zero, suc, arith}
+use Rattle.std.specs.Prelude.{slice_set, replicate, ◌==◌}
+use Rattle.std.proofs.lemmas.Bool.Decides.{nat_tests}
+use Rattle.std.specs.Option.{option_map_or}
+use Rattle.std.proofs.lemmas.List.Sums.{sum_by-cons, sum_by-set, count_by-le-length}
+use Rattle.std.proofs.lemmas.List.{length-replicate, length-set, take_all}
+use Rattle.tt_bits.specs.declared.times.Spot.{Spot}
+use Rattle.tt_bits.specs.Pairs.{is_one_room}
+use Rattle.tt_bits.specs.Spots.{spot_at, IsEmptyAt, placed}
+use Rattle.tt_bits.proofs.TimeLemmas.{overlaps-sym}
+use Rattle.tt_bits.proofs.SpotLemmas.{set_back, set_empty, emptied, full_within, length-placed, count-placed-set, count_by-placed}
+use Rattle.tt_occupancy.specs.Kept.{AreCounted}
+use Rattle.tt_occupancy.specs.Clashes.{clash, clash_pairs, clashing, room_cells, cells_taken}
+
+eq-turned : (a b : ℕ) → (a == b) ≡ (b == a)
+eq-turned a b = grind (arith, nat_tests)
+
+is_one_room-sym : (a b : Option ℕ) → is_one_room a b ≡ is_one_room b a
+is_one_room-sym (Some a) (Some b) = eq-turned a b
+is_one_room-sym (Some a) None = refl
+is_one_room-sym None (Some b) = refl
+is_one_room-sym None None = refl
+
+-- clashing goes both ways
+pub clash-sym : (a b : Spot) → clash a b ≡ clash b a
+unfolding clash
+clash-sym a b = rw (is_one_room-sym a.room b.room, overlaps-sym a.time b.time) refl
+
+-- nobody placed: no pair
+pub clash_pairs-empty : (n : ℕ) → clash_pairs (replicate n None) ≡ 0
+clash_pairs-empty zero = refl
+clash_pairs-empty (suc n) = clash_pairs-empty n
+
+pub cells_taken-empty : (n : ℕ) → cells_taken (replicate n None) ≡ 0
+cells_taken-empty zero = refl
+cells_taken-empty (suc n) = omega (arith, sum_by-cons (λ s. option_map_or room_cells s 0) None (replicate n None), cells_taken-empty n)
+
+-- a spot in an empty place adds its clashes
+pub clash_pairs-set : (h : List (Option Spot)) (p : ℕ) (x : Spot) → IsEmptyAt h p
+    → clash_pairs (slice_set h p (Some x)) ≡ clash_pairs h + count_by (clash x) (placed h)
+clash_pairs-set [] p x e = absurd (omega (arith, e.0))
+clash_pairs-set (None ∷ h) zero x e = omega arith
+clash_pairs-set (Some y ∷ h) zero x e = absurd (cc e.1)
+clash_pairs-set (None ∷ h) (suc p) x e =
+    let rest : IsEmptyAt h p = (omega (arith, e.0), e.1) in clash_pairs-set h p x rest
+clash_pairs-set (Some y ∷ h) (suc p) x e =
+    let rest : IsEmptyAt h p = (omega (arith, e.0), e.1) in
+    let first = sum_by-cons (λ z. cond (clash x z) 1 0) y (placed h) in
+    let turned = ap {B = ℕ} (λ (b : Bool). cond b 1 0) (clash-sym x y) in
+    omega (arith, clash_pairs-set h p x rest, count-placed-set (clash y) h p x rest, first, turned)
+
+-- the clashes of a class that is placed are among all
+pub clash_pairs-full : (h : List (Option Spot)) (p : ℕ) (x : Spot) → spot_at h p ≡ Some x
+    → clash_pairs h ≡ clash_pairs (slice_set h p None) + clashing h x p
+clash_pairs-full h p x full =
+    let within = full_within h p (rw full refl) in
+    sym (ap clash_pairs (set_back h p x full)) ∙ clash_pairs-set (slice_set h p None) p x (emptied h p within)
+
+pub clashing-empty : (h : List (Option Spot)) (p : ℕ) (x : Spot) → IsEmptyAt h p → clashing h x p ≡ count_by (clash x) (placed h)
+clashing-empty h p x e = ap (λ l. count_by (clash x) (placed l)) (set_empty h p e)
+
+-- the links taken, where one class comes
+pub cells_taken-put : (h : List (Option Spot)) (p : ℕ) (x : Spot) → IsEmptyAt h p
+    → cells_taken (slice_set h p (Some x)) ≡ cells_taken h + room_cells x
+cells_taken-put h p x e =
+    let f : Option Spot → ℕ = λ s. option_map_or room_cells s 0 in
+    let change = sum_by-set f h p (Some x) None e.0 in
+    let was : f (spot_at h p) ≡ 0 = ap f e.1 in
+    omega (arith, change, was)
+
+pub cells_taken-take : (h : List (Option Spot)) (p : ℕ) (x : Spot) → spot_at h p ≡ Some x
+    → cells_taken (slice_set h p None) + room_cells x ≡ cells_taken h
+cells_taken-take h p x full =
+    let f : Option Spot → ℕ = λ s. option_map_or room_cells s 0 in
+    let change = sum_by-set f h p None None (full_within h p (rw full refl)) in
+    let was : f (spot_at h p) ≡ room_cells x = ap f full in
+    omega (arith, change, was)
+
+-- one more class makes as many more pairs as there were classes
+more_pairs : (n c s : ℕ) → c ≤ n → 2 * s ≤ n * (n - 1) → 2 * (c + s) ≤ suc n * (suc n - 1)
+more_pairs zero c s few h = omega arith
+more_pairs (suc n) c s few h =
+    let fewer : suc n - 1 ≡ n = omega arith in
+    let more : suc (suc n) - 1 ≡ suc n = omega arith in
+    let had = rw fewer at h in
+    rw more (omega arith)
+
+pub twice-clash_pairs : (h : List (Option Spot)) → 2 * clash_pairs h ≤ length h * (length h - 1)
+twice-clash_pairs [] = omega arith
+twice-clash_pairs (None ∷ h) =
+    omega (arith, more_pairs (length h) 0 (clash_pairs h) (omega arith) (twice-clash_pairs h))
+twice-clash_pairs (Some x ∷ h) =
+    let few = count_by-le-length (clash x) (placed h) in
+    let all = length-placed h in
+    more_pairs (length h) (count_by (clash x) (placed h)) (clash_pairs h) (omega (arith, few, all)) (twice-clash_pairs h)
+
+pub few_clashes : (h : List (Option Spot)) → length h < 2 ^ 32 → clash_pairs h < 2 ^ 63
+few_clashes h few =
+    let product : length h * (length h - 1) ≤ 4294967295 * 4294967295 = grind arith in omega (arith, twice-clash_pairs h, product)
+
+-- what is kept where nobody is placed
+pub AreCounted-new : (n spare : ℕ) → spare < 4294967295 → n < 2 ^ 32 → AreCounted (replicate n None) spare 0
+AreCounted-new n spare few all = record {
+  few = omega (arith, length-replicate {A = Option Spot} n None);
+  counted = sym (clash_pairs-empty n);
+  links = omega (arith, cells_taken-empty n);
+}
+
+-- what is kept when a class comes
+pub AreCounted-put : (h : List (Option Spot)) (p spare clashes more cells : ℕ) (x : Spot) → more ≡ clashing h x p → cells ≡ room_cells x
+    → AreCounted h spare clashes → IsEmptyAt h p → cells ≤ spare → (clashes + more < 2 ^ 64) × AreCounted (slice_set h p (Some x)) (spare - cells) (clashes + more)
+AreCounted-put h p spare clashes more cells x is cells_are kept empty room =
+    let now : clashes + more ≡ clash_pairs (slice_set h p (Some x)) = omega (arith, kept.counted, is, clashing-empty h p x empty, clash_pairs-set h p x empty) in
+    let few : length (slice_set h p (Some x)) < 2 ^ 32 = omega (arith, kept.few, length-set h p (Some x)) in (
+      omega (arith, now, few_clashes (slice_set h p (Some x)) few),
+      record {
+        few = few;
+        counted = now;
+        links = omega (arith, kept.links, cells_are, cells_taken-put h p x empty);
+      },
+    )
+
+-- what is kept when a class goes
+pub AreCounted-take : (h : List (Option Spot)) (p spare clashes less cells : ℕ) (x : Spot) → less ≡ clashing h x p → cells ≡ room_cells x
+    → AreCounted h spare clashes → spot_at h p ≡ Some x → (less ≤ clashes) × AreCounted (slice_set h p None) (spare + cells) (clashes - less)
+AreCounted-take h p spare clashes less cells x is cells_are kept full =
+    let all = clash_pairs-full h p x full in (
+      omega (arith, kept.counted, is, all),
+      record {
+        few = omega (arith, kept.few, length-set h p None);
+        counted = omega (arith, kept.counted, is, all);
+        links = omega (arith, kept.links, cells_are, cells_taken-take h p x full);
+      },
+    )
+
+-- the clashes that are counted class by class are those with the placed classes
+pub clashing_all : (h : List (Option Spot)) (x : Spot) (except : ℕ) → count_by (λ s. option_map_or (clash x) s false) (take (length h) (slice_set h except None)) ≡ clashing h x except
+clashing_all h x except =
+    ap (λ l. count_by (λ s. option_map_or (clash x) s false) l) (take_all (length h) (slice_set h except None) (omega (arith, length-set h except None)))
+    ∙ sym (count_by-placed (clash x) (slice_set h except None))

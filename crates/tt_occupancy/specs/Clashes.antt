@@ -1,0 +1,36 @@
+-- Placed classes that have the same room and overlap.
+use Rattle.std.specs.Prelude.{ℕ, ◌+◌, Bool, false, ◌&&◌, List, [], ◌∷◌, Option, None, slice_set, count_by, sum_by}
+use Rattle.std.specs.Option.{option_map_or}
+use Rattle.tt_bits.specs.declared.times.Spot.{Spot}
+use Rattle.tt_bits.specs.Pairs.{is_one_room}
+use Rattle.tt_bits.specs.Times.{overlaps}
+use Rattle.tt_bits.specs.Spots.{spot_at, placed, cell_count}
+
+-- whether two spots have the same room and overlap
+unfoldable pub clash : Spot → Spot → Bool
+clash a b = is_one_room a.room b.room && overlaps a.time b.time
+
+-- how many pairs of spots clash, each spot with each later one
+abbrev pub clashes_among : List Spot → ℕ
+clashes_among [] = 0
+clashes_among (x ∷ xs) = count_by (clash x) xs + clashes_among xs
+
+-- how many pairs of placed classes clash
+abbrev pub clash_pairs : List (Option Spot) → ℕ
+clash_pairs spots = clashes_among (placed spots)
+
+-- how many placed classes clash with a spot, one class left out
+abbrev pub clashing : List (Option Spot) → Spot → ℕ → ℕ
+clashing spots x except = count_by (clash x) (placed (slice_set spots except None))
+
+-- whether the class at a place is placed and clashes with a spot, one class left out
+abbrev pub clashes_at : List (Option Spot) → Spot → ℕ → ℕ → Bool
+clashes_at spots x except class = option_map_or (clash x) (spot_at (slice_set spots except None) class) false
+
+-- the links that a spot takes, one for each of its cells where it has a room
+abbrev pub room_cells : Spot → ℕ
+room_cells x = option_map_or (λ _. cell_count x) x.room 0
+
+-- the links that all classes take
+abbrev pub cells_taken : List (Option Spot) → ℕ
+cells_taken spots = sum_by (λ s. option_map_or room_cells s 0) spots

@@ -1,0 +1,182 @@
+//! Where classes stand: the spots of the placed classes, and the clashes among them.
+#![tactic(auto)]
+
+ghost use Rattle.std.specs.Prelude.{◌≡◌, ℕ, ◌+◌, ◌-◌, ◌<◌, ◌≤◌, Some, None, IsSome, IfOk, IfSome, length, replicate, slice_set, slice_index_or, false, ◌||◌};
+ghost use Rattle.std.specs.Option.{option_map_or};
+ghost use Rattle.tt_bits.specs.Spots.{spot_at, IsEmptyAt, IsBelow};
+ghost use Rattle.tt_occupancy.specs.Clashes.{clash, clashes_at, clash_pairs, clashing, room_cells};
+
+#[cfg(test)]
+mod tests;
+
+use std::alloc::{AllocError, Global};
+use std::marker::Model;
+use tt_bits::Spot;
+
+/// The spots of the placed classes. Classes and rooms are named by their places in the problem.
+#[derive(Drop)]
+pub struct Occupancy {
+    spots: Vec<Option<Spot>>,
+    rooms: u32,
+    weeks: u8,
+    spare: u32,
+    clashes: u64,
+}
+
+impl Model for Occupancy {
+    ghost use Rattle.tt_occupancy.specs.Occupied.{Occupied};
+
+    ghost Value = { Occupied };
+
+    ghost use Rattle.tt_occupancy.specs.Kept.{occupied, IsKept};
+
+    ghost view = { occupied };
+
+    ghost invariant = { IsKept };
+}
+
+impl Occupancy {
+    /// So many classes, none of them placed. A class in a room takes a link for each day of each
+    /// week, and `links` is how many there are.
+    pub fn new(
+        alloc: Global,
+        classes: u32,
+        rooms: u32,
+        weeks: u8,
+        links: u32,
+    ) -> Result<Occupancy, AllocError>
+        requires rooms { rooms ≤ 2500 }
+        requires some_week { 1 ≤ weeks }
+        requires few_weeks { weeks ≤ 128 }
+        requires links { links < 4294967295 }
+        ensures spots { IfOk result (λ o. o.spots ≡ replicate classes None) }
+        ensures rooms { IfOk result (λ o. o.rooms ≡ rooms) }
+        ensures weeks { IfOk result (λ o. o.weeks ≡ weeks) }
+        ensures spare { IfOk result (λ o. o.spare ≡ links) }
+    {
+        let spots = vec![in alloc; None; classes as usize]?;
+        Ok(Occupancy {
+            spots,
+            rooms,
+            weeks,
+            spare: links,
+            clashes: 0,
+        })
+    }
+
+    /// Places a class that isn't placed.
+    pub fn put(&mut self, class: u32, spot: Spot)
+        requires place { IsEmptyAt self.old.spots class }
+        requires room { IfSome spot.room (λ room. room < self.old.rooms) }
+        requires weeks { IsBelow self.old.weeks spot }
+        requires spare { room_cells spot ≤ self.old.spare }
+        ensures spots { self.new.spots ≡ slice_set self.old.spots class (Some spot) }
+        ensures rooms { self.new.rooms ≡ self.old.rooms }
+        ensures weeks { self.new.weeks ≡ self.old.weeks }
+        ensures spare { self.new.spare ≡ self.old.spare - room_cells spot }
+    {
+        let more = clashing(self.spots.as_slice(), &spot, class);
+        self.clashes += more;
+        self.spare -= room_cells(&spot);
+        self.spots[class as usize] = Some(spot);
+    }
+
+    /// Takes its spot from a class that is placed, and answers it.
+    pub fn take(&mut self, class: u32) -> Spot
+        requires { IsSome (spot_at self.old.spots class) }
+        ensures spot { spot_at self.old.spots class ≡ Some result }
+        ensures spots { self.new.spots ≡ slice_set self.old.spots class None }
+        ensures rooms { self.new.rooms ≡ self.old.rooms }
+        ensures weeks { self.new.weeks ≡ self.old.weeks }
+        ensures spare { self.new.spare ≡ self.old.spare + room_cells result }
+    {
+        let Some(spot) = self.spots[class as usize] else {
+            unreachable!()
+        };
+        let less = clashing(self.spots.as_slice(), &spot, class);
+        self.clashes -= less;
+        self.spare += room_cells(&spot);
+        self.spots[class as usize] = None;
+        spot
+    }
+
+    /// How many pairs of placed classes have the same room and overlap.
+    pub fn clashes(&self) -> u64
+        ensures { result ≡ clash_pairs self.now.spots }
+    {
+        self.clashes
+    }
+
+    /// How many placed classes but one overlap the spot in its room.
+    pub fn clashes_with(&self, spot: Spot, except: u32) -> u64
+        ensures { result ≡ clashing self.now.spots spot except }
+    {
+        clashing(self.spots.as_slice(), &spot, except)
+    }
+
+    /// Sets the marks of the placed classes but one that overlap the spot in its room.
+    pub fn mark(&self, spot: Spot, except: u32, marks: &mut [bool])
+        requires { length marks.old ≡ length self.now.spots }
+        ensures { (class : ℕ) → class < length marks.old → slice_index_or marks.new class false
+            ≡ (slice_index_or marks.old class false || clashes_at self.now.spots spot except class) }
+    {
+        mark(self.spots.as_slice(), &spot, except, marks)
+    }
+}
+
+/// The links that a spot takes: its days times its weeks where it has a room.
+fn room_cells(spot: &Spot) -> u32
+    ensures cells { result ≡ room_cells spot.now }
+    ensures few { result ≤ 896 }
+{
+    match spot.room {
+        None => 0,
+        Some(_) => u32::from(spot.cells()),
+    }
+}
+
+/// Whether a class that is placed, and isn't `except`, overlaps the spot in its room.
+fn clashes_at(spots: &[Option<Spot>], spot: &Spot, except: u32, class: usize) -> bool
+    requires { class < length spots.now }
+    ensures { result ≡ clashes_at spots.now spot.now except class }
+{
+    class != except as usize && is_clash(&spots[class], spot)
+}
+
+/// Whether a class is placed and overlaps the spot in its room.
+#[tactic(auto, unfolding(crate::specs::Clashes::clash))]
+fn is_clash(other: &Option<Spot>, spot: &Spot) -> bool
+    ensures { result ≡ option_map_or (clash spot.now) other.now false }
+{
+    match other {
+        None => false,
+        Some(other) => spot.shares_room(other) && spot.time.overlaps(&other.time),
+    }
+}
+
+/// How many placed classes but one overlap the spot in its room.
+fn clashing(spots: &[Option<Spot>], spot: &Spot, except: u32) -> u64
+    ensures count { result ≡ clashing spots.now spot.now except }
+    ensures few { result ≤ length spots.now }
+{
+    let mut count = 0;
+    for class in 0..spots.len() {
+        if clashes_at(spots, spot, except, class) {
+            count += 1;
+        }
+    }
+    count
+}
+
+/// Sets the marks of the placed classes but one that overlap the spot in its room.
+fn mark(spots: &[Option<Spot>], spot: &Spot, except: u32, marks: &mut [bool])
+    requires { length marks.old ≡ length spots.now }
+    ensures { (class : ℕ) → class < length marks.old → slice_index_or marks.new class false
+        ≡ (slice_index_or marks.old class false || clashes_at spots.now spot.now except class) }
+{
+    for class in 0..spots.len() {
+        if clashes_at(spots, spot, except, class) {
+            marks[class] = true;
+        }
+    }
+}
