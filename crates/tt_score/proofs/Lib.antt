@@ -1,0 +1,14 @@
+pub mod MemberLemmas
+pub mod SumLemmas
+pub mod GroupLemmas
+pub mod AmountLemmas
+pub mod WalkLemmas
+pub mod PlanLemmas
+pub mod BoundLemmas
+pub mod ClassLemmas
+pub mod TotalLemmas
+pub mod KeptLemmas
+pub mod CostWalk
+pub mod TrialLemmas
+pub mod EmptyLemmas
+pub mod RosterLemmas

@@ -1,0 +1,72 @@
+-- The amount of a rule, its cost and its hard conflicts.
+use Rattle.std.specs.Prelude.{ℕ, ◌*◌, ◌/◌, ◌==◌, List, Option, map, sum_by, if◌then◌else◌}
+use Rattle.tt_bits.specs.declared.times.Spot.{Spot}
+use Rattle.tt_travel.specs.Table.{Table}
+use Rattle.tt_bits.specs.Spots.{spot_at}
+use Rattle.tt_measure.specs.Cells.{days_over, load_over}
+use Rattle.tt_measure.specs.Blocks.{breaks_over, long_blocks}
+use Rattle.tt_pair.specs.ViolatedPairs.{violated_pairs}
+use Rattle.tt_problem.specs.declared.parts.DistKind.{DistKind}
+use Rattle.tt_problem.specs.declared.parts.DistKind.TheVariants.{Pair, MaxDays, MaxDayLoad, MaxBreaks, MaxBlock}
+use Rattle.tt_problem.specs.declared.parts.Rule.{Rule}
+use Rattle.tt_problem.specs.declared.parts.Parts.{Parts}
+
+-- the amount by which what the members have misses a rule of this kind
+abbrev pub kind_amount : DistKind → (weeks : ℕ) → Table → List (Option Spot) → ℕ
+kind_amount (Pair kind) weeks t h = violated_pairs kind t h
+kind_amount (MaxDays most) weeks t h = days_over most h
+kind_amount (MaxDayLoad most) weeks t h = load_over most weeks h
+kind_amount (MaxBreaks breaks gap) weeks t h = breaks_over breaks gap weeks h
+kind_amount (MaxBlock most gap) weeks t h = long_blocks most gap weeks h
+
+-- what an amount of a soft rule of this kind costs
+abbrev pub kind_cost : DistKind → (weeks penalty amount : ℕ) → ℕ
+kind_cost (Pair kind) weeks penalty amount = penalty * amount
+kind_cost (MaxDays most) weeks penalty amount = penalty * amount
+kind_cost (MaxDayLoad most) weeks penalty amount = (penalty * amount) / weeks
+kind_cost (MaxBreaks breaks gap) weeks penalty amount = (penalty * amount) / weeks
+kind_cost (MaxBlock most gap) weeks penalty amount = (penalty * amount) / weeks
+
+-- 1 where the amount is above 0
+abbrev pub one_if_any : ℕ → ℕ
+one_if_any amount = if amount == 0 then 0 else 1
+
+-- how many hard conflicts an amount of a required rule of this kind is
+abbrev pub kind_hard : DistKind → (amount : ℕ) → ℕ
+kind_hard (Pair kind) amount = amount
+kind_hard (MaxDays most) amount = one_if_any amount
+kind_hard (MaxDayLoad most) amount = one_if_any amount
+kind_hard (MaxBreaks breaks gap) amount = one_if_any amount
+kind_hard (MaxBlock most gap) amount = one_if_any amount
+
+-- what the members of a rule have, by the spots of all classes
+abbrev pub held_by : List (Option Spot) → Rule → List (Option Spot)
+held_by spots r = map (spot_at spots) r.members
+
+-- the amount of a rule
+unfoldable pub rule_amount : Parts → List (Option Spot) → Rule → ℕ
+rule_amount p spots r = kind_amount r.kind p.nr_weeks p.travel (held_by spots r)
+
+-- the cost of a rule that has this amount; none where it is required
+unfoldable pub cost_of : Parts → Rule → ℕ → ℕ
+cost_of p r amount = if r.required then 0 else kind_cost r.kind p.nr_weeks r.penalty amount
+
+-- the hard conflicts of a rule that has this amount; none where it isn't required
+unfoldable pub hard_of : Rule → ℕ → ℕ
+hard_of r amount = if r.required then kind_hard r.kind amount else 0
+
+-- the cost of a rule
+abbrev pub rule_cost : Parts → List (Option Spot) → Rule → ℕ
+rule_cost p spots r = cost_of p r (rule_amount p spots r)
+
+-- the hard conflicts of a rule
+abbrev pub rule_hard : Parts → List (Option Spot) → Rule → ℕ
+rule_hard p spots r = hard_of r (rule_amount p spots r)
+
+-- the costs of the soft rules together
+abbrev pub cost_sum : Parts → List (Option Spot) → ℕ
+cost_sum p spots = sum_by (rule_cost p spots) p.rules
+
+-- the hard conflicts of the required rules together
+abbrev pub hard_sum : Parts → List (Option Spot) → ℕ
+hard_sum p spots = sum_by (rule_hard p spots) p.rules

@@ -1,0 +1,13 @@
+pub mod Amounts
+pub mod KindShapes
+pub mod KindLaws
+pub mod Groups
+pub mod GroupLaws
+pub mod Members
+pub mod Placed
+pub mod Paid
+pub mod Unsectioned
+pub mod Weighted
+pub mod Totals
+pub mod Kept
+pub mod Small

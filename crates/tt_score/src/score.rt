@@ -1,0 +1,259 @@
+ghost use Rattle.tt_score.specs.Small.{AreSmall};
+
+use crate::classes::{ClassSums, paid_with, spot_now, with, without};
+use crate::group::Group;
+use crate::making::new_groups;
+use crate::rules::{RuleSums, cost_of, set_in_rules};
+use crate::students::{conflicts_with, students_with_courses, unsectioned_at};
+use crate::totals::{Totals, weighted};
+use crate::trial::costs_with;
+use std::alloc::{AllocError, Global};
+use tt_bits::Value;
+use tt_measure::Measure;
+use tt_occupancy::Occupancy;
+use tt_plan::spot;
+use tt_problem::sums::cells_of;
+use tt_problem::{Problem, Weights};
+use tt_roster::Roster;
+
+/// The score of a plan: the value of each class, the classes of each student, and the sums over
+/// them, which are kept while classes are placed and students seated. All calls are handed the
+/// problem that it was made for.
+#[derive(Drop)]
+pub struct Score {
+    plan: Vec<Option<Value>>,
+    occupancy: Occupancy,
+    groups: Vec<Group>,
+    classes: ClassSums,
+    rules: RuleSums,
+    weights: Weights,
+    roster: Roster,
+    unsectioned: u32,
+    ghost small: { AreSmall occupancy classes rules weights roster },
+}
+
+impl Score {
+    ghost use Rattle.std.specs.Prelude.{◌≡◌, ◌<◌, ◌≤◌, Some, None, IsSome, IfOk, [], false, true, length, slice_index, replicate, slice_get, slice_set, slice_index_or};
+    ghost use Rattle.tt_problem.specs.declared.parts.Parts.{Parts};
+    ghost use Rattle.tt_problem.specs.declared.parts.Rule.{Rule};
+    ghost use Rattle.tt_plan.specs.Domain.{IsOfDomain, spots_of};
+    ghost use Rattle.tt_score.specs.Amounts.{rule_amount, rule_cost};
+    ghost use Rattle.tt_score.specs.Kept.{Fits, plan_of, seats_of, occupancy_of, roster_of, group_count};
+    ghost use Rattle.tt_roster.specs.Lists.{has_class, with_class, without_class, list_of};
+    ghost use Rattle.tt_score.specs.Totals.{totals_of};
+
+    /// The score where no class is placed and no student has a class. Only this call takes memory.
+    pub fn new(alloc: Global, problem: &Problem) -> Result<Score, AllocError>
+        ensures plan { IfOk result (λ s. plan_of s ≡ replicate (length problem.now.classes) None) }
+        ensures seats { IfOk result (λ s. seats_of s ≡ replicate (length problem.now.students) []) }
+        ensures fits { IfOk result (λ s. Fits problem.now s) }
+    {
+        problem.validity();
+        let count = problem.class_count();
+        let plan = vec![in alloc; None; count as usize]?;
+        let occupancy = Occupancy::new(
+            alloc,
+            count,
+            problem.room_count(),
+            problem.nr_weeks(),
+            cells_of(problem.parts()),
+        )?;
+        let groups = new_groups(alloc, problem)?;
+        let roster = Roster::new(alloc, problem)?;
+        Ok(Score {
+            plan,
+            occupancy,
+            groups,
+            classes: ClassSums {
+                time: 0,
+                room: 0,
+                closed: 0,
+                unplaced: count,
+            },
+            rules: RuleSums {
+                distribution: 0,
+                hard: 0,
+            },
+            weights: problem.weights(),
+            roster,
+            unsectioned: students_with_courses(problem),
+        })
+    }
+
+    /// The value of each class or none.
+    pub fn plan(&self) -> &[Option<Value>]
+        ensures { result.now ≡ plan_of self.now }
+    {
+        self.plan.as_slice()
+    }
+
+    /// The spots of the placed classes.
+    pub fn occupancy(&self) -> &Occupancy
+        ensures occupancy { result.now ≡ occupancy_of self.now }
+        ensures spots { (p : Parts) → Fits p self.now → result.now.spots ≡ spots_of p (plan_of self.now) }
+        ensures rooms { (p : Parts) → Fits p self.now → length p.rooms ≤ result.now.rooms }
+        ensures weeks { (p : Parts) → Fits p self.now → p.nr_weeks ≤ result.now.weeks }
+    {
+        &self.occupancy
+    }
+
+    /// The classes of each student.
+    pub fn roster(&self) -> &Roster
+        ensures roster { result.now ≡ roster_of self.now }
+        ensures seats { result.now.seats ≡ seats_of self.now }
+        ensures spots { (p : Parts) → Fits p self.now → result.now.spots ≡ spots_of p (plan_of self.now) }
+    {
+        &self.roster
+    }
+
+    /// Gives a student a class that isn't on the student's list, where the list may grow.
+    pub fn seat(&mut self, problem: &Problem, student: u32, class: u32)
+        requires fits { Fits problem.now self.old }
+        requires student { student < length problem.now.students }
+        requires class { class < length problem.now.classes }
+        requires free { has_class class (list_of (seats_of self.old) student) ≡ false }
+        requires spare { length (list_of (seats_of self.old) student) < slice_index (roster_of self.old).most student }
+        ensures plan { plan_of self.new ≡ plan_of self.old }
+        ensures seats { seats_of self.new ≡ slice_set (seats_of self.old) student (with_class class (list_of (seats_of self.old) student)) }
+        ensures fits { Fits problem.now self.new }
+    {
+        let before = unsectioned_at(problem, &self.roster, student);
+        self.roster.seat(problem, student, class);
+        let after = unsectioned_at(problem, &self.roster, student);
+        self.unsectioned = self.unsectioned - before + after;
+    }
+
+    /// Takes a class from a student who has it.
+    pub fn leave(&mut self, problem: &Problem, student: u32, class: u32)
+        requires fits { Fits problem.now self.old }
+        requires student { student < length problem.now.students }
+        requires class { class < length problem.now.classes }
+        requires seated { has_class class (list_of (seats_of self.old) student) ≡ true }
+        ensures plan { plan_of self.new ≡ plan_of self.old }
+        ensures seats { seats_of self.new ≡ slice_set (seats_of self.old) student (without_class class (list_of (seats_of self.old) student)) }
+        ensures fits { Fits problem.now self.new }
+    {
+        let before = unsectioned_at(problem, &self.roster, student);
+        self.roster.leave(problem, student, class);
+        let after = unsectioned_at(problem, &self.roster, student);
+        self.unsectioned = self.unsectioned - before + after;
+    }
+
+    /// By how much the plan misses a rule: violated pairs, days, slots, breaks or blocks.
+    pub fn amount(&self, rule: u32) -> u64
+        requires { rule < group_count self.now }
+        ensures { (p : Parts) (r : Rule) → Fits p self.now → slice_get p.rules rule ≡ Some r
+            → result ≡ rule_amount p (spots_of p (plan_of self.now)) r }
+    {
+        self.groups[rule as usize].amount()
+    }
+
+    /// The cost of a rule: its penalty times its amount, and for MaxDayLoad, MaxBreaks and MaxBlock
+    /// the whole part of that divided by the weeks of the term, as in ITC 2019. 0 for a required one.
+    pub fn cost(&self, problem: &Problem, rule: u32) -> u128
+        requires fits { Fits problem.now self.now }
+        requires within { rule < length problem.now.rules }
+        ensures { (r : Rule) → slice_get problem.now.rules rule ≡ Some r
+            → result ≡ rule_cost problem.now (spots_of problem.now (plan_of self.now)) r }
+    {
+        let part = problem.rule(rule);
+        cost_of(problem, part, self.groups[rule as usize].amount())
+    }
+
+    /// Places a class that isn't placed.
+    pub fn place(&mut self, problem: &Problem, class: u32, value: Value)
+        requires fits { Fits problem.now self.old }
+        requires value { IsOfDomain problem.now class value }
+        requires free { slice_index_or (plan_of self.old) class None ≡ None }
+        ensures plan { plan_of self.new ≡ slice_set (plan_of self.old) class (Some value) }
+        ensures seats { seats_of self.new ≡ seats_of self.old }
+        ensures fits { Fits problem.now self.new }
+    {
+        let spot = spot(problem, class, value);
+        self.classes = with(problem, self.plan.as_slice(), class, value, self.classes);
+        self.rules = set_in_rules(
+            problem,
+            &self.occupancy,
+            self.groups.as_mut_slice(),
+            class,
+            Some(spot),
+            self.rules,
+        );
+        self.occupancy.put(class, spot);
+        self.roster.place(problem, class, spot);
+        self.plan[class as usize] = Some(value);
+    }
+
+    /// Takes its value from a class that is placed, and answers it.
+    pub fn unplace(&mut self, problem: &Problem, class: u32) -> Value
+        requires fits { Fits problem.now self.old }
+        requires placed { IsSome (slice_index_or (plan_of self.old) class None) }
+        ensures value { slice_index_or (plan_of self.old) class None ≡ Some result }
+        ensures plan { plan_of self.new ≡ slice_set (plan_of self.old) class None }
+        ensures seats { seats_of self.new ≡ seats_of self.old }
+        ensures fits { Fits problem.now self.new }
+    {
+        let Some(value) = self.plan[class as usize] else {
+            unreachable!()
+        };
+        self.classes = without(problem, self.plan.as_slice(), class, value, self.classes);
+        self.rules = set_in_rules(
+            problem,
+            &self.occupancy,
+            self.groups.as_mut_slice(),
+            class,
+            None,
+            self.rules,
+        );
+        self.occupancy.take(class);
+        self.roster.unplace(problem, class);
+        self.plan[class as usize] = None;
+        value
+    }
+
+    /// The sums over the plan and the lists.
+    pub fn totals(&self) -> Totals
+        ensures { (p : Parts) → Fits p self.now → result ≡ totals_of p (plan_of self.now) (seats_of self.now) }
+    {
+        Totals {
+            time: self.classes.time,
+            room: self.classes.room,
+            distribution: self.rules.distribution,
+            student: self.roster.conflicts(),
+            total: weighted(
+                self.weights,
+                self.classes.time,
+                self.classes.room,
+                self.rules.distribution,
+                self.roster.conflicts(),
+            ),
+            hard: self.occupancy.clashes() + self.classes.closed + self.rules.hard,
+            unplaced: self.classes.unplaced,
+            unsectioned: self.unsectioned,
+        }
+    }
+
+    /// The total with a class at a value, whether or not it is placed. Nothing is changed.
+    pub fn trial(&mut self, problem: &Problem, class: u32, value: Value) -> u128
+        requires fits { Fits problem.now self.old }
+        requires value { IsOfDomain problem.now class value }
+        ensures total { result ≡ (totals_of problem.now (slice_set (plan_of self.old) class (Some value)) (seats_of self.old)).total }
+        ensures same { self.new ≡ self.old }
+    {
+        problem.validity();
+        let spot = spot(problem, class, value);
+        let has = spot_now(problem, self.plan.as_slice(), class);
+        let paid = paid_with(problem, self.plan.as_slice(), class, value, self.classes);
+        let distribution = costs_with(
+            problem,
+            &self.occupancy,
+            self.groups.as_slice(),
+            class,
+            has,
+            spot,
+            self.rules.distribution,
+        );
+        let student = conflicts_with(problem, &self.roster, class, has, spot);
+        weighted(self.weights, paid.time, paid.room, distribution, student)
+    }
+}
