@@ -1,0 +1,111 @@
+-- The earlier snapshots, as undoing entries gives them. Entries stand newest first.
+use Rattle.std.specs.Prelude.{ℕ, ◌+◌, List, [], ◌∷◌, ◌++◌}
+use Rattle.tt_problem.specs.declared.parts.Parts.{Parts}
+use Rattle.tt_roster.specs.Lists.{with_class, without_class}
+use Rattle.tt_journal.specs.declared.Entry.{Entry}
+use Rattle.tt_journal.specs.declared.Entry.TheVariants.{Mark, Point, Placed, Left, Seated}
+use Rattle.tt_state.specs.Snapshots.{Snapshot, with_value, list_in, with_list}
+
+-- what a state is: a problem, its present snapshot, and the entries that lead back
+pub record Held : Type 0 where
+  pub problem : Parts
+  pub present : Snapshot
+  pub entries : List Entry
+
+-- a snapshot in which a student has a class more
+abbrev pub with_seat : Snapshot → (student class : ℕ) → Snapshot
+with_seat s student class = with_list s student (with_class class (list_in s student))
+
+-- a snapshot in which a student has a class less
+abbrev pub without_seat : Snapshot → (student class : ℕ) → Snapshot
+without_seat s student class = with_list s student (without_class class (list_in s student))
+
+-- the snapshots before each step, the newest first
+abbrev pub earlier_by : Snapshot → List Entry → List Snapshot
+earlier_by s [] = []
+earlier_by s (Mark k ∷ es) = s ∷ earlier_by s es
+earlier_by s (Point ∷ es) = earlier_by s es
+earlier_by s (Placed class before ∷ es) = earlier_by (with_value s class before) es
+earlier_by s (Left student class ∷ es) = earlier_by (with_seat s student class) es
+earlier_by s (Seated student class ∷ es) = earlier_by (without_seat s student class) es
+
+-- the snapshots at the points of the last step, the oldest first
+abbrev pub points_by : Snapshot → List Entry → List Snapshot
+points_by s [] = []
+points_by s (Mark k ∷ es) = []
+points_by s (Point ∷ es) = points_by s es ++ s ∷ []
+points_by s (Placed class before ∷ es) = points_by (with_value s class before) es
+points_by s (Left student class ∷ es) = points_by (with_seat s student class) es
+points_by s (Seated student class ∷ es) = points_by (without_seat s student class) es
+
+-- how many points the last step has
+abbrev pub point_count : List Entry → ℕ
+point_count [] = 0
+point_count (Mark k ∷ es) = 0
+point_count (Point ∷ es) = point_count es + 1
+point_count (Placed class before ∷ es) = point_count es
+point_count (Left student class ∷ es) = point_count es
+point_count (Seated student class ∷ es) = point_count es
+
+-- the entries below the last step
+abbrev pub before_step : List Entry → List Entry
+before_step [] = []
+before_step (Mark k ∷ es) = es
+before_step (Point ∷ es) = before_step es
+before_step (Placed class before ∷ es) = before_step es
+before_step (Left student class ∷ es) = before_step es
+before_step (Seated student class ∷ es) = before_step es
+
+-- the entries below the newest point
+abbrev pub before_point : List Entry → List Entry
+before_point [] = []
+before_point (Mark k ∷ es) = es
+before_point (Point ∷ es) = es
+before_point (Placed class before ∷ es) = before_point es
+before_point (Left student class ∷ es) = before_point es
+before_point (Seated student class ∷ es) = before_point es
+
+-- there is a step
+abbrev pub HasStep : List Entry → Type 0
+HasStep [] = ⊥
+HasStep (Mark k ∷ es) = Unit {0}
+HasStep (Point ∷ es) = HasStep es
+HasStep (Placed class before ∷ es) = HasStep es
+HasStep (Left student class ∷ es) = HasStep es
+HasStep (Seated student class ∷ es) = HasStep es
+
+-- the entries with one more for each class that a student leaves, the first class first
+abbrev pub left_by : (student : ℕ) → List ℕ → List Entry → List Entry
+left_by student [] es = es
+left_by student (class ∷ list) es = left_by student list (Left student class ∷ es)
+
+-- the entries with one more for each class in which a student gets a seat, the first class first
+abbrev pub seated_by : (student : ℕ) → List ℕ → List Entry → List Entry
+seated_by student [] es = es
+seated_by student (class ∷ list) es = seated_by student list (Seated student class ∷ es)
+
+-- the snapshots before each step, the newest first
+abbrev pub earlier : Held → List Snapshot
+earlier s = earlier_by s.present s.entries
+
+-- the snapshots of the last step: one for each of its points, and the present one at the end
+abbrev pub trail : Held → List Snapshot
+trail s = points_by s.present s.entries ++ s.present ∷ []
+
+-- a problem with a present snapshot and the earlier ones, the newest first
+pub record Desk : Type 0 where
+  pub problem : Parts
+  pub present : Snapshot
+  pub earlier : List Snapshot
+
+-- a state without the way in which it keeps its earlier snapshots
+abbrev pub desk_of : Held → Desk
+desk_of s = record { problem = s.problem; present = s.present; earlier = earlier s }
+
+-- a desk with one more step, that leads to this snapshot
+abbrev pub stepped : Desk → Snapshot → Desk
+stepped d now = record { problem = d.problem; present = now; earlier = d.present ∷ d.earlier }
+
+-- a desk whose last step leads to this snapshot instead
+abbrev pub moved_to : Desk → Snapshot → Desk
+moved_to d now = record { problem = d.problem; present = now; earlier = d.earlier }

@@ -1,0 +1,40 @@
+-- What holds of each snapshot, and when one is ready.
+use Rattle.std.specs.Prelude.{◌≡◌, ℕ, ◌≤◌, Bool, true, ◌&&◌, ◌==◌, List, [], ◌∷◌, All, IfSome, length}
+use Rattle.tt_problem.specs.declared.parts.Parts.{Parts}
+use Rattle.tt_roster.specs.Lists.{Ascends, list_of}
+use Rattle.tt_score.specs.declared.totals.Totals.{Totals}
+use Rattle.tt_score.specs.Kept.{IsPlanOf}
+use Rattle.tt_score.specs.Totals.{totals_of}
+use Rattle.tt_struct.specs.Enrolments.{is_enrolment}
+use Rattle.tt_state.specs.Snapshots.{Snapshot}
+use Rattle.tt_state.specs.Seats.{limit_of, count_with}
+
+-- the classes of a student are none, or a valid enrolment
+abbrev pub IsEnrolled : Parts → (student : ℕ) → List ℕ → Type 0
+IsEnrolled p student [] = Unit {0}
+IsEnrolled p student (class ∷ list) = is_enrolment p student (class ∷ list) ≡ true
+
+-- each student has no class or a valid enrolment in the problem's order, and no class has more students than its limit
+pub record AreListsOf (p : Parts) (lists : List (List ℕ)) : Type 0 where
+  pub whole : length lists ≡ length p.students
+  pub ordered : All (Ascends 0 (length p.classes)) lists
+  pub enrolled : (student : ℕ) → IsEnrolled p student (list_of lists student)
+  pub limits : (class : ℕ) → IfSome (limit_of p class) (λ limit. count_with lists class ≤ limit)
+
+-- each value is of the domain of its class, and the lists are those of a problem
+pub record IsSound (p : Parts) (s : Snapshot) : Type 0 where
+  pub plan : IsPlanOf p s.plan
+  pub lists : AreListsOf p s.lists
+
+-- each of these snapshots is sound
+abbrev pub AreSound : Parts → List Snapshot → Type 0
+AreSound p [] = Unit {0}
+AreSound p (s ∷ ss) = IsSound p s × AreSound p ss
+
+-- no class without a value, no student without classes, and nothing in conflict
+unfoldable pub no_faults : Totals → Bool
+no_faults t = t.unplaced == 0 && t.unsectioned == 0 && t.hard == 0
+
+-- the snapshot is ready to be published
+abbrev pub is_ready : Parts → Snapshot → Bool
+is_ready p s = no_faults (totals_of p s.plan s.lists)

@@ -1,0 +1,97 @@
+ghost use Rattle.std.specs.Prelude.{◌≡◌, ◌+◌, ◌<◌, ◌≤◌, ◌∷◌, None, length, slice_index_or, slice_set};
+ghost use Rattle.tt_score.specs.Kept.{Fits, plan_of, seats_of};
+ghost use Rattle.tt_state.specs.History.{with_seat, without_seat};
+ghost use Rattle.tt_state.specs.Kept.{MayHave, MayLeave, MaySeat, snapshot_of};
+
+use tt_bits::Value;
+use tt_journal::{Entry, Journal};
+use tt_problem::Problem;
+use tt_score::Score;
+
+/// Begins a step.
+pub fn mark_step(journal: &mut Journal, points: &mut u64)
+    requires { 1 ≤ journal.old.spare }
+    ensures entries { journal.new.list ≡ Entry.Mark points.old ∷ journal.old.list }
+    ensures spare { journal.new.spare + 1 ≡ journal.old.spare }
+    ensures points { points.new ≡ 0 }
+{
+    journal.push(Entry::Mark { points: *points });
+    *points = 0;
+}
+
+/// The value that a class has.
+pub fn value_now(score: &Score, class: u32) -> Option<Value>
+    requires { class < length (plan_of score.now) }
+    ensures { result ≡ slice_index_or (plan_of score.now) class None }
+{
+    score.plan()[class as usize]
+}
+
+/// Takes its value from a class, if it has one.
+fn clear(problem: &Problem, score: &mut Score, class: u32)
+    requires fits { Fits problem.now score.old }
+    requires within { class < length problem.now.classes }
+    ensures plan { plan_of score.new ≡ slice_set (plan_of score.old) class None }
+    ensures lists { seats_of score.new ≡ seats_of score.old }
+    ensures fits { Fits problem.now score.new }
+{
+    if value_now(score, class).is_some() {
+        score.unplace(problem, class);
+    }
+}
+
+/// Gives a class a value or none.
+pub fn set_value(problem: &Problem, score: &mut Score, class: u32, to: Option<Value>)
+    requires fits { Fits problem.now score.old }
+    requires may { MayHave problem.now class to }
+    ensures plan { plan_of score.new ≡ slice_set (plan_of score.old) class to }
+    ensures lists { seats_of score.new ≡ seats_of score.old }
+    ensures fits { Fits problem.now score.new }
+{
+    clear(problem, score, class);
+    if let Some(value) = to {
+        score.place(problem, class, value);
+    }
+}
+
+/// Gives a student a class more.
+pub fn seat(problem: &Problem, score: &mut Score, student: u32, class: u32)
+    requires fits { Fits problem.now score.old }
+    requires may { MaySeat problem.now (snapshot_of score.old) student class }
+    ensures seated { snapshot_of score.new ≡ with_seat (snapshot_of score.old) student class }
+    ensures fits { Fits problem.now score.new }
+{
+    score.seat(problem, student, class);
+}
+
+/// Takes a class from a student.
+pub fn leave(problem: &Problem, score: &mut Score, student: u32, class: u32)
+    requires fits { Fits problem.now score.old }
+    requires may { MayLeave problem.now (snapshot_of score.old) student class }
+    ensures left { snapshot_of score.new ≡ without_seat (snapshot_of score.old) student class }
+    ensures fits { Fits problem.now score.new }
+{
+    score.leave(problem, student, class);
+}
+
+/// Gives a class a value or none, and notes what it had.
+pub fn change(
+    problem: &Problem,
+    score: &mut Score,
+    journal: &mut Journal,
+    class: u32,
+    to: Option<Value>,
+)
+    requires fits { Fits problem.now score.old }
+    requires may { MayHave problem.now class to }
+    requires spare { 1 ≤ journal.old.spare }
+    ensures plan { plan_of score.new ≡ slice_set (plan_of score.old) class to }
+    ensures lists { seats_of score.new ≡ seats_of score.old }
+    ensures fits { Fits problem.now score.new }
+    ensures entries { journal.new.list ≡ Entry.Placed class (slice_index_or (plan_of score.old) class None) ∷ journal.old.list }
+    ensures spare { journal.new.spare + 1 ≡ journal.old.spare }
+{
+    let before = value_now(score, class);
+    journal.push(Entry::Placed { class, before });
+    set_value(problem, score, class, to);
+}

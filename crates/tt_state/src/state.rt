@@ -1,0 +1,338 @@
+ghost use Rattle.std.specs.Prelude.{◌≡◌, All, ◌+◌, ◌<◌, ◌∷◌, ◌++◌, [], ℕ, None, Some, Err, ◌↔◌, IfOk, IfErr, OnOk, OnErr, false, true, length, slice_get, take};
+ghost use Rattle.tt_plan.specs.Domain.{IsOfDomain};
+ghost use Rattle.tt_score.specs.Kept.{Fits, plan_of, seats_of};
+ghost use Rattle.tt_score.specs.Totals.{totals_of};
+ghost use Rattle.tt_struct.specs.Enrolments.{is_enrolment};
+ghost use Rattle.tt_state.specs.Kept.{MayHave};
+ghost use Rattle.tt_state.specs.Refusals.{IsOfUnassign, IsOfSection, IsOfDrop};
+ghost use Rattle.tt_state.specs.Seats.{first_without_seat};
+ghost use Rattle.tt_state.specs.Snapshots.{in_order, list_in, opening_snapshot, value_in, with_list, with_value};
+ghost use Rattle.tt_state.specs.Sound.{AreSound, IsSound, is_ready, no_faults};
+ghost use Rattle.tt_state.specs.History.{HasStep, before_step, desk_of, earlier, left_by, point_count, seated_by, stepped, moved_to, trail};
+
+use crate::back::{back_to_mark, back_to_moment};
+use crate::change::{change, mark_step, value_now};
+use crate::lists::{empty_list, replace_list, seat_count};
+use crate::seats::{SectionFault, section_fault};
+use std::alloc::{AllocError, Global};
+use std::marker::Model;
+use tt_bits::Value;
+use tt_journal::{Entry, Journal};
+use tt_problem::Problem;
+use tt_score::{Score, Totals};
+
+/// Why a call leaves the state as it was.
+#[derive(Clone, Copy, Debug, PartialEq, Eq)]
+pub enum Refusal {
+    /// The class has no value.
+    NotPlaced,
+    /// The list is no valid enrolment of the student.
+    BadSection,
+    /// The class has no seat for the student.
+    NoSeat { class: u32 },
+    /// The student has no class.
+    NotSectioned,
+    /// There is no step.
+    NothingToUndo,
+    /// Memory was refused.
+    Memory,
+}
+
+/// A problem, its present plan and lists with the sums over them, and the entries that lead back.
+#[derive(Drop)]
+pub struct State {
+    problem: Problem,
+    score: Score,
+    journal: Journal,
+    points: u64,
+}
+
+impl Model for State {
+    ghost use Rattle.tt_state.specs.History.{Held};
+
+    ghost Value = { Held };
+
+    ghost use Rattle.tt_state.specs.Kept.{IsStateOf, snapshot_of};
+
+    ghost view = { λ s. record { problem = s.problem; present = snapshot_of s.score; entries = s.journal.list } };
+
+    ghost invariant = { λ s. IsStateOf s.problem s.score s.points s.journal.list };
+}
+
+/// Whether no class is without a value, no student without classes, and nothing in conflict.
+#[tactic(auto, unfolding(crate::specs::Sound::no_faults))]
+fn has_no_faults(totals: Totals) -> bool
+    ensures { result ≡ no_faults totals }
+{
+    totals.unplaced == 0 && totals.unsectioned == 0 && totals.hard == 0
+}
+
+impl State {
+    /// Nothing placed, no student with a class, and no step.
+    pub fn start(alloc: Global, problem: Problem) -> Result<State, AllocError>
+        ensures { IfOk result (λ s. s ≡ record { problem = problem; present = opening_snapshot problem; entries = [] }) }
+    {
+        let score = Score::new(alloc, &problem)?;
+        Ok(State {
+            problem,
+            score,
+            journal: Journal::new(alloc),
+            points: 0,
+        })
+    }
+
+    /// Adds a step that changes nothing.
+    pub fn begin(&mut self) -> Result<(), AllocError>
+        ensures desk { OnOk result (desk_of self.new ≡ stepped (desk_of self.old) self.old.present) }
+        ensures trail { OnOk result (trail self.new ≡ self.new.present ∷ []) }
+        ensures entries { OnOk result (self.new.entries ≡ Entry.Mark (point_count self.old.entries) ∷ self.old.entries) }
+        ensures err { OnErr result (self.new ≡ self.old) }
+    {
+        self.journal.mark(self.points)?;
+        self.points = 0;
+        Ok(())
+    }
+
+    /// Gives a class a value or none, as one step.
+    fn add_step(&mut self, class: u32, to: Option<Value>) -> Result<(), AllocError>
+        requires { MayHave self.old.problem class to }
+        ensures now { OnOk result (self.new ≡ record { problem = self.old.problem; present = with_value self.old.present class to; entries = Entry.Placed class (value_in self.old.present class) ∷ Entry.Mark (point_count self.old.entries) ∷ self.old.entries }) }
+        ensures err { OnErr result (self.new ≡ self.old) }
+    {
+        self.journal.reserve(2)?;
+        mark_step(&mut self.journal, &mut self.points);
+        change(&self.problem, &mut self.score, &mut self.journal, class, to);
+        Ok(())
+    }
+
+    /// Gives a class a value, as one step.
+    #[tactic(auto, using(crate::proofs::StepLemmas::placed_step))]
+    pub fn assign(&mut self, class: u32, value: Value) -> Result<(), AllocError>
+        requires { IsOfDomain self.old.problem class value }
+        ensures desk { OnOk result (desk_of self.new ≡ stepped (desk_of self.old) (with_value self.old.present class (Some value))) }
+        ensures trail { OnOk result (trail self.new ≡ self.new.present ∷ []) }
+        ensures entries { OnOk result (self.new.entries ≡ Entry.Placed class (value_in self.old.present class) ∷ Entry.Mark (point_count self.old.entries) ∷ self.old.entries) }
+        ensures err { OnErr result (self.new ≡ self.old) }
+    {
+        self.add_step(class, Some(value))
+    }
+
+    /// Takes its value from a class, as one step.
+    #[tactic(auto, using(crate::proofs::StepLemmas::placed_step))]
+    pub fn unassign(&mut self, class: u32) -> Result<(), Refusal>
+        requires { class < length self.old.problem.classes }
+        ensures desk { OnOk result (desk_of self.new ≡ stepped (desk_of self.old) (with_value self.old.present class None)) }
+        ensures trail { OnOk result (trail self.new ≡ self.new.present ∷ []) }
+        ensures entries { OnOk result (self.new.entries ≡ Entry.Placed class (value_in self.old.present class) ∷ Entry.Mark (point_count self.old.entries) ∷ self.old.entries) }
+        ensures err { OnErr result (self.new ≡ self.old) }
+
+        ensures not_placed { (result ≡ Err Refusal.NotPlaced) ↔ (value_in self.old.present class ≡ None) }
+        ensures only { IfErr result IsOfUnassign }
+    {
+        if value_now(&self.score, class).is_none() {
+            return Err(Refusal::NotPlaced);
+        }
+        match self.add_step(class, None) {
+            Ok(()) => Ok(()),
+            Err(_) => Err(Refusal::Memory),
+        }
+    }
+
+    /// Gives a class a value or none, in the last step.
+    #[tactic(auto, using(crate::proofs::TrailLemmas::few_points))]
+    fn add_to_step(&mut self, class: u32, to: Option<Value>) -> Result<(), AllocError>
+        requires may { MayHave self.old.problem class to }
+        requires step { HasStep self.old.entries }
+        ensures now { OnOk result (self.new ≡ record { problem = self.old.problem; present = with_value self.old.present class to; entries = Entry.Placed class (value_in self.old.present class) ∷ Entry.Point ∷ self.old.entries }) }
+        ensures err { OnErr result (self.new ≡ self.old) }
+    {
+        self.journal.reserve(2)?;
+        self.journal.push(Entry::Point);
+        self.points += 1;
+        change(&self.problem, &mut self.score, &mut self.journal, class, to);
+        Ok(())
+    }
+
+    /// Gives a class a value or none, in the last step.
+    #[tactic(auto, using(crate::proofs::StepLemmas::placed_in_step, crate::proofs::StepLemmas::placed_trail, crate::proofs::StepLemmas::step_is))]
+    pub fn place_step(&mut self, class: u32, value: Option<Value>) -> Result<(), AllocError>
+        requires may { MayHave self.old.problem class value }
+        requires step { 0 < length (earlier self.old) }
+        ensures desk { OnOk result (desk_of self.new ≡ moved_to (desk_of self.old) (with_value self.old.present class value)) }
+        ensures trail { OnOk result (trail self.new ≡ trail self.old ++ self.new.present ∷ []) }
+        ensures entries { OnOk result (self.new.entries ≡ Entry.Placed class (value_in self.old.present class) ∷ Entry.Point ∷ self.old.entries) }
+        ensures err { OnErr result (self.new ≡ self.old) }
+    {
+        self.add_to_step(class, value)
+    }
+
+    /// Gives a student, who may have a list already, the classes of another list, as one step.
+    fn set_list(&mut self, student: u32, classes: &[u32]) -> Result<(), AllocError>
+        requires student { student < length self.old.problem.students }
+        requires classes { All (λ class. class < length self.old.problem.classes) classes.now }
+        requires valid { is_enrolment self.old.problem student classes.now ≡ true }
+        requires seats { first_without_seat self.old.problem self.old.present.lists student classes.now ≡ None }
+        ensures now { OnOk result (self.new ≡ record { problem = self.old.problem; present = with_list self.old.present student (in_order classes.now); entries = seated_by student (in_order classes.now) (left_by student (list_in self.old.present student) (Entry.Mark (point_count self.old.entries) ∷ self.old.entries)) }) }
+        ensures err { OnErr result (self.new ≡ self.old) }
+    {
+        let count = seat_count(&self.problem, &self.score, student);
+        self.journal.reserve(count + classes.len() as u32 + 1)?;
+        mark_step(&mut self.journal, &mut self.points);
+        replace_list(
+            &self.problem,
+            &mut self.score,
+            &mut self.journal,
+            student,
+            classes,
+        );
+        Ok(())
+    }
+
+    /// Gives a student the classes of a list in place of those that the student has, as one step.
+    /// The list is refused where it is no valid enrolment, or else where some class has no seat for
+    /// the student; the answer names the first of these in the order of the list.
+    pub fn section(&mut self, student: u32, classes: &[u32]) -> Result<(), Refusal>
+        requires student { student < length self.old.problem.students }
+        requires classes { All (λ class. class < length self.old.problem.classes) classes.now }
+        ensures desk { OnOk result (desk_of self.new ≡ stepped (desk_of self.old) (with_list self.old.present student (in_order classes.now))) }
+        ensures trail { OnOk result (trail self.new ≡ self.new.present ∷ []) }
+        ensures entries { OnOk result (self.new.entries ≡ seated_by student (in_order classes.now) (left_by student (list_in self.old.present student) (Entry.Mark (point_count self.old.entries) ∷ self.old.entries))) }
+        ensures err { OnErr result (self.new ≡ self.old) }
+
+        ensures bad_section { (result ≡ Err Refusal.BadSection) ↔ (is_enrolment self.old.problem student classes.now ≡ false) }
+        ensures no_seat { (class : ℕ) → (result ≡ Err (Refusal.NoSeat class))
+            ↔ ((is_enrolment self.old.problem student classes.now ≡ true) × (first_without_seat self.old.problem self.old.present.lists student classes.now ≡ Some class)) }
+        ensures only { IfErr result IsOfSection }
+    {
+        match section_fault(&self.problem, &self.score, student, classes) {
+            Some(SectionFault::Invalid) => Err(Refusal::BadSection),
+            Some(SectionFault::Full { class }) => Err(Refusal::NoSeat { class }),
+            None => match self.set_list(student, classes) {
+                Ok(()) => Ok(()),
+                Err(_) => Err(Refusal::Memory),
+            },
+        }
+    }
+
+    /// Takes a student out of each class, as one step.
+    fn clear_list(&mut self, student: u32) -> Result<(), AllocError>
+        requires { student < length self.old.problem.students }
+        ensures now { OnOk result (self.new ≡ record { problem = self.old.problem; present = with_list self.old.present student []; entries = left_by student (list_in self.old.present student) (Entry.Mark (point_count self.old.entries) ∷ self.old.entries) }) }
+        ensures err { OnErr result (self.new ≡ self.old) }
+    {
+        let count = seat_count(&self.problem, &self.score, student);
+        self.journal.reserve(count + 1)?;
+        mark_step(&mut self.journal, &mut self.points);
+        empty_list(&self.problem, &mut self.score, &mut self.journal, student);
+        Ok(())
+    }
+
+    /// Takes a student out of each class, as one step.
+    pub fn drop_student(&mut self, student: u32) -> Result<(), Refusal>
+        requires { student < length self.old.problem.students }
+        ensures desk { OnOk result (desk_of self.new ≡ stepped (desk_of self.old) (with_list self.old.present student [])) }
+        ensures trail { OnOk result (trail self.new ≡ self.new.present ∷ []) }
+        ensures entries { OnOk result (self.new.entries ≡ left_by student (list_in self.old.present student) (Entry.Mark (point_count self.old.entries) ∷ self.old.entries)) }
+        ensures err { OnErr result (self.new ≡ self.old) }
+
+        ensures not_sectioned { (result ≡ Err Refusal.NotSectioned) ↔ (list_in self.old.present student ≡ []) }
+        ensures only { IfErr result IsOfDrop }
+    {
+        if seat_count(&self.problem, &self.score, student) == 0 {
+            return Err(Refusal::NotSectioned);
+        }
+        match self.clear_list(student) {
+            Ok(()) => Ok(()),
+            Err(_) => Err(Refusal::Memory),
+        }
+    }
+
+    /// Goes back by a step.
+    pub fn undo(&mut self) -> Result<(), Refusal>
+        ensures back { OnOk result (earlier self.old ≡ self.new.present ∷ earlier self.new) }
+        ensures problem { self.new.problem ≡ self.old.problem }
+        ensures entries { self.new.entries ≡ before_step self.old.entries }
+        ensures err { OnErr result (self.new ≡ self.old) }
+
+        ensures nothing { (result ≡ Err Refusal.NothingToUndo) ↔ (earlier self.old ≡ []) }
+        ensures only { OnErr result (result ≡ Err Refusal.NothingToUndo) }
+    {
+        if self.journal.len() == 0 {
+            return Err(Refusal::NothingToUndo);
+        }
+        back_to_mark(
+            &self.problem,
+            &mut self.score,
+            &mut self.journal,
+            &mut self.points,
+        );
+        Ok(())
+    }
+
+    /// The place of the present moment in the trail of the last step.
+    #[tactic(auto, using(crate::proofs::TrailLemmas::moment_is, crate::proofs::TrailLemmas::last_moment))]
+    pub fn mark_now(&self) -> u64
+        ensures last { result + 1 ≡ length (trail self.now) }
+        ensures present { slice_get (trail self.now) result ≡ Some self.now.present }
+    {
+        self.points
+    }
+
+    /// Goes back to a moment of the last step, that `mark_now` has named.
+    #[tactic(auto, using(crate::proofs::TrailLemmas::moment_is))]
+    pub fn roll_back(&mut self, to: u64)
+        requires { to < length (trail self.old) }
+        ensures problem { self.new.problem ≡ self.old.problem }
+        ensures present { slice_get (trail self.old) to ≡ Some self.new.present }
+        ensures earlier { earlier self.new ≡ earlier self.old }
+        ensures trail { trail self.new ≡ take (to + 1) (trail self.old) }
+        ensures entries { before_step self.new.entries ≡ before_step self.old.entries }
+    {
+        back_to_moment(
+            &self.problem,
+            &mut self.score,
+            &mut self.journal,
+            &mut self.points,
+            to,
+        );
+    }
+
+    /// The sums over the present plan and lists.
+    pub fn totals(&self) -> Totals
+        ensures { result ≡ totals_of self.now.problem self.now.present.plan self.now.present.lists }
+    {
+        self.score.totals()
+    }
+
+    /// Whether all classes are placed, all students have their classes, and nothing is in conflict.
+    pub fn ready(&self) -> bool
+        ensures { result ≡ is_ready self.now.problem self.now.present }
+    {
+        has_no_faults(self.totals())
+    }
+
+    /// What holds of the present snapshot, the earlier ones, and those of the trail.
+    pub fn soundness(&self)
+        ensures present { IsSound self.now.problem self.now.present }
+        ensures earlier { AreSound self.now.problem (earlier self.now) }
+        ensures trail { AreSound self.now.problem (trail self.now) }
+    {
+        let _ = &self.problem;
+    }
+
+    /// The problem.
+    pub fn problem(&self) -> &Problem
+        ensures { result.now ≡ self.now.problem }
+    {
+        &self.problem
+    }
+
+    /// The score of the present plan and lists.
+    pub fn score(&self) -> &Score
+        ensures plan { plan_of result.now ≡ self.now.present.plan }
+        ensures lists { seats_of result.now ≡ self.now.present.lists }
+        ensures fits { Fits self.now.problem result.now }
+    {
+        &self.score
+    }
+}
