@@ -1,4 +1,2 @@
 pub mod Texts
-pub mod Items
-pub mod Chains
-pub mod Validity
+pub mod Linked

@@ -1,5 +1,3 @@
 pub mod Text
-pub mod Answer
-pub mod Fields
 pub mod Tables
-pub mod Document
+pub mod Read

@@ -1,93 +1,144 @@
--- The tables of the problem file, one line for each key, in the order in which they are read. `None` is another form.
-use Rattle.std.specs.Prelude.{ℕ, List, [], ◌∷◌, ◌++◌, length, Option, Some, None, codes}
-use Rattle.serde_json.specs.Data.{Data, Items}
-use Rattle.tt_bits.specs.Sets.{days_text, weeks_text}
-use Rattle.tt_bits.specs.Times.{time_of}
+-- The problem file, one line for each key of the whole value, in the order in which they are read. It is
+-- read in three passes, and a later one only where the earlier ones found no fault: first the shape of all,
+-- with no reference looked up; then all of it again, with the ids of the first pass known; then the sums.
+use Rattle.std.specs.Prelude.{ℕ, List, [], Option, Some, None, Result, Ok, codes, nat_lt, if◌then◌else◌}
+use Rattle.serde_json.specs.Data.{Data}
 use Rattle.tt_problem.specs.declared.parts.Weights.{Weights}
-use Rattle.tt_problem.specs.declared.parts.TimeChoice.{TimeChoice}
-use Rattle.tt_problem.specs.declared.parts.ClassPart.{ClassPart}
-use Rattle.tt_read.specs.declared.classes.CourseClasses.{CourseClasses}
+use Rattle.tt_problem.specs.declared.parts.Rule.{Rule}
+use Rattle.tt_problem.specs.declared.parts.StudentPart.{StudentPart}
+use Rattle.tt_problem.specs.declared.parts.Parts.{Parts}
+use Rattle.tt_problem.specs.Sums.{cells_of, member_count, links_of, seats_of}
+use Rattle.tt_fields.specs.Path.{at}
+use Rattle.tt_fields.specs.Answer.{Part, Fault, fault, ◌>>=◌}
+use Rattle.tt_fields.specs.Kinds.{a_number, an_object, a_list, required, or_else}
+use Rattle.tt_tree.specs.Context.{Context}
+use Rattle.tt_tree.specs.Tables.{Rooms, Tree, rooms_in, courses_in}
+use Rattle.tt_lists.specs.Tables.{rules_of, students_of}
+use Rattle.tt_read.specs.Text.{json_of}
 use Rattle.tt_read.specs.declared.term.Term.{Term}
-use Rattle.tt_read.specs.Fields.{◌>>=◌, an_object, number_in, set_in, object_in, list_in, only_in, absent_in, false_in, each, list_of, add_id}
 
 -- the days of a week and the weeks of the term
-unfoldable pub term_of : Data → Option Term
+unfoldable pub term_of : Part → Result Term Fault
 term_of o = do
-  nr_days ← number_in 1 7 (codes "nrDays") o
-  nr_weeks ← number_in 1 64 (codes "nrWeeks") o
-  slots ← number_in 1 1440 (codes "slotsPerDay") o
-  Some (record { nr_days = nr_days; nr_weeks = nr_weeks })
+  nr_days ← required (a_number 1 7) (codes "nrDays") o
+  nr_weeks ← required (a_number 1 64) (codes "nrWeeks") o
+  slots ← required (a_number 1 1440) (codes "slotsPerDay") o
+  Ok (record { nr_days = nr_days; nr_weeks = nr_weeks })
 
 -- the optimization weights
-unfoldable pub weights_of : Data → Option Weights
-weights_of d = do
-  o ← object_in (codes "optimization") d
-  time ← number_in 0 100000 (codes "time") o
-  room ← number_in 0 100000 (codes "room") o
-  distribution ← number_in 0 100000 (codes "distribution") o
-  student ← number_in 0 100000 (codes "student") o
-  Some (record { time = time; room = room; distribution = distribution; student = student })
+unfoldable pub weights_of : Part → Result Weights Fault
+weights_of o = do
+  time ← required (a_number 0 100000) (codes "time") o
+  room ← required (a_number 0 100000) (codes "room") o
+  distribution ← required (a_number 0 100000) (codes "distribution") o
+  student ← required (a_number 0 100000) (codes "student") o
+  Ok (record { time = time; room = room; distribution = distribution; student = student })
 
--- a time of a class
-unfoldable pub choice_of : Term → Data → Option TimeChoice
-choice_of term d = do
-  o ← an_object d
-  days ← set_in days_text term.nr_days (codes "days") o
-  start ← number_in 0 65535 (codes "start") o
-  length ← number_in 0 65535 (codes "length") o
-  weeks ← set_in weeks_text term.nr_weeks (codes "weeks") o
-  penalty ← number_in 0 1000000 (codes "penalty") o
-  time ← time_of days weeks start length
-  Some (record { time = time; penalty = penalty })
+-- ---- the first pass
 
--- the times of a class
-unfoldable pub times_of : Term → Data → Option (List TimeChoice)
-times_of term o = do
-  items ← list_in 1 1000 (codes "times") o
-  list_of (choice_of term) items
+-- no ids are known, so that no reference is looked up
+abbrev pub unknown : Term → Context
+unknown term = record { nr_days = term.nr_days; nr_weeks = term.nr_weeks; rooms = None; classes = None }
 
--- the classes that have been read, and their ids
-pub record Seen : Type 0 where
-  pub ids : List ℕ
-  pub classes : List ClassPart
+-- what the first pass finds: the lists of the whole value, and the ids in them
+pub record Shape : Type 0 where
+  pub term : Term
+  pub weights : Weights
+  pub rooms : List Part
+  pub room_ids : List ℕ
+  pub courses : List Part
+  pub course_ids : List ℕ
+  pub class_ids : List ℕ
+  pub distributions : List Part
+  pub students : List Part
 
--- a class, after those before it
-unfoldable pub class_of : Term → Data → Seen → Option Seen
-class_of term d seen = do
-  o ← an_object d
-  id ← number_in 0 4294967295 (codes "id") o
-  ids ← add_id id seen.ids
-  limit ← absent_in (codes "limit") o
-  parent ← absent_in (codes "parent") o
-  room ← false_in (codes "room") o
-  times ← times_of term o
-  Some (record { ids = ids; classes = seen.classes ++ record { id = id; limit = None; parent = None; times = times } ∷ [] })
+-- the whole value, with nothing looked up
+unfoldable pub shape_of : Part → Result Shape Fault
+shape_of p = do
+  o ← an_object p
+  term ← term_of o
+  optimization ← required an_object (codes "optimization") o
+  weights ← weights_of optimization
+  room_items ← or_else [] (a_list 0 2500) (codes "rooms") o
+  rooms ← rooms_in (unknown term) room_items
+  course_items ← required (a_list 0 20000) (codes "courses") o
+  tree ← courses_in (unknown term) course_items
+  rule_items ← or_else [] (a_list 0 20000) (codes "distributions") o
+  rules ← rules_of None rule_items
+  student_items ← or_else [] (a_list 0 100000) (codes "students") o
+  students ← students_of None student_items
+  Ok (record {
+    term = term;
+    weights = weights;
+    rooms = room_items;
+    room_ids = rooms.ids;
+    courses = course_items;
+    course_ids = tree.course_ids;
+    class_ids = tree.class_ids;
+    distributions = rule_items;
+    students = student_items;
+  })
 
--- all classes of a list
-unfoldable pub classes_of : Term → Items → Option (List ClassPart)
-classes_of term items = do
-  seen ← each (class_of term) items (record { ids = []; classes = [] })
-  Some seen.classes
+-- ---- the second pass
 
--- the classes of a subpart
-unfoldable pub subpart_of : Term → Data → Option (List ClassPart)
-subpart_of term d = do
-  o ← an_object d
-  items ← list_in 1 1000 (codes "classes") o
-  classes_of term items
+-- the ids among which rooms and classes are looked up
+abbrev pub known : Shape → Context
+known s = record { nr_days = s.term.nr_days; nr_weeks = s.term.nr_weeks; rooms = Some s.room_ids; classes = Some s.class_ids }
 
--- the classes of a configuration, which has one subpart
-unfoldable pub config_of : Term → Data → Option (List ClassPart)
-config_of term d = do
-  o ← an_object d
-  subpart ← only_in (codes "subparts") o
-  subpart_of term subpart
+-- the parts of a problem
+abbrev pub parts_with : Shape → Rooms → Tree → List Rule → List StudentPart → Parts
+parts_with s rooms tree rules students = record {
+  nr_days = s.term.nr_days;
+  nr_weeks = s.term.nr_weeks;
+  weights = s.weights;
+  courses = tree.courses;
+  configs = tree.configs;
+  subparts = tree.subparts;
+  classes = tree.classes;
+  rooms = rooms.rooms;
+  travel = rooms.travel;
+  rules = rules;
+  students = students;
+}
 
--- a course, which has one configuration
-unfoldable pub course_of : Term → Data → Option CourseClasses
-course_of term d = do
-  o ← an_object d
-  id ← number_in 0 4294967295 (codes "id") o
-  config ← only_in (codes "configs") o
-  classes ← config_of term config
-  Some (record { id = id; classes = classes })
+-- the same lists again, each reference looked up
+unfoldable pub linked_of : Shape → Result Parts Fault
+linked_of s = do
+  rooms ← rooms_in (known s) s.rooms
+  tree ← courses_in (known s) s.courses
+  rules ← rules_of (Some s.class_ids) s.distributions
+  students ← students_of (Some s.course_ids) s.students
+  Ok (parts_with s rooms tree rules students)
+
+-- ---- the third pass
+
+-- a sum above its limit has fault 39 at the list with this key
+abbrev pub limited : ℕ → ℕ → List ℕ → Part → Result ℕ Fault
+limited most sum key o = if nat_lt most sum then fault 39 (at o.path key) else Ok sum
+
+-- the sums over all classes, distributions and students
+unfoldable pub summed : Part → Parts → Result Parts Fault
+summed o parts = do
+  cells ← limited 8000000 (cells_of parts) (codes "courses") o
+  members ← limited 4000000 (member_count parts) (codes "distributions") o
+  links ← limited 20000000 (links_of parts) (codes "distributions") o
+  seats ← limited 4000000 (seats_of parts) (codes "students") o
+  Ok parts
+
+-- ---- the three passes
+
+-- the parts that the whole value has
+unfoldable pub parts_of : Part → Result Parts Fault
+parts_of p = do
+  shape ← shape_of p
+  parts ← linked_of shape
+  summed p parts
+
+-- bytes without a value have fault 30
+abbrev pub or_no_json : Option Data → Result Parts Fault
+or_no_json None = fault 30 []
+or_no_json (Some d) = parts_of (record { path = []; value = d })
+
+-- the problem that a file holds, or its first fault
+unfoldable pub problem_of : List ℕ → Result Parts Fault
+problem_of bytes = or_no_json (json_of bytes)

@@ -1,20 +1,16 @@
-ghost use Rattle.std.specs.Prelude.{◌≡◌, ◌∷◌, [], IfOk, option_map};
+ghost use Rattle.std.specs.Prelude.{◌≡◌, option_map, IfOk};
 ghost use Rattle.serde_json.specs.View.{view};
-ghost use Rattle.tt_problem.specs.Valid.{IsValid, IsValidTerm};
-ghost use Rattle.tt_read.specs.Answer.{Reads, Gives, IsFault};
+ghost use Rattle.tt_problem.specs.Valid.{IsValid};
+ghost use Rattle.tt_fields.specs.Answer.{Gives, part_of};
 ghost use Rattle.tt_read.specs.Text.{json_of};
-ghost use Rattle.tt_read.specs.Tables.{term_of, weights_of};
-ghost use Rattle.tt_read.specs.Document.{parts_of, problem_of, whole_fault};
+ghost use Rattle.tt_read.specs.Tables.{parts_of, problem_of};
 
-use crate::classes::{CourseClasses, course};
-use crate::fault::{Path, ProblemFault};
-use crate::fields::{as_object, empty, number, object, only};
-use crate::refused::Refused;
-use crate::term::Term;
+use crate::passes::{first_pass, second_pass};
+use crate::sums::third_pass;
 use serde_json::{Category, Value};
 use std::alloc::{AllocError, Global};
-use tt_base::Row;
-use tt_problem::{CoursePart, Parts, Problem, Span, Weights};
+use tt_fields::{Part, ProblemFault, no_json, whole};
+use tt_problem::{Parts, Problem};
 
 /// The JSON value that the bytes are, if they are one.
 fn json(alloc: Global, bytes: &[u8]) -> Result<Option<Value>, AllocError>
@@ -29,95 +25,40 @@ fn json(alloc: Global, bytes: &[u8]) -> Result<Option<Value>, AllocError>
     }
 }
 
-#[tactic(auto, unfolding(crate::specs::Tables::term_of))]
-fn term(object: &Value) -> Result<Term, Refused>
-    ensures reads { Reads (λ term. term) result (term_of (view object.now)) }
-    ensures valid { IfOk result (λ term. IsValidTerm term.nr_days term.nr_weeks) }
+/// The parts that the whole value has, by the three passes.
+#[tactic(auto, unfolding(crate::specs::Tables::parts_of))]
+fn parts(alloc: Global, object: &Part<'_>) -> Result<Parts, ProblemFault>
+    ensures reads { Gives (λ parts. parts) result (parts_of (part_of object.now)) }
+    ensures valid { IfOk result IsValid }
 {
-    let nr_days = number(object, "nrDays", 1, 7)? as u8;
-    let nr_weeks = number(object, "nrWeeks", 1, 64)? as u8;
-    number(object, "slotsPerDay", 1, 1440)?;
-    Ok(Term { nr_days, nr_weeks })
+    let shape = first_pass(alloc, &*object)?;
+    let parts = second_pass(alloc, &shape)?;
+    third_pass(&parts, &*object)?;
+    Ok(parts)
 }
 
-#[tactic(auto, unfolding(crate::specs::Tables::weights_of))]
-fn weights(value: &Value) -> Result<Weights, Refused>
-    ensures { Reads (λ weights. weights) result (weights_of (view value.now)) }
-{
-    let object = object(value, "optimization")?;
-    let time = number(object, "time", 0, 100_000)?;
-    let room = number(object, "room", 0, 100_000)?;
-    let distribution = number(object, "distribution", 0, 100_000)?;
-    let student = number(object, "student", 0, 100_000)?;
-    Ok(Weights {
-        time,
-        room,
-        distribution,
-        student,
-    })
-}
-
-/// A row with one item.
-fn row_of<T: Drop>(alloc: Global, item: T) -> Result<Row<T>, AllocError>
-    ensures { IfOk result (λ row. row ≡ item ∷ []) }
-{
-    let mut items = Vec::new(alloc);
-    items.push(item)?;
-    Ok(Row::from_vec(items))
-}
-
-#[tactic(auto, using(crate::proofs::Validity::few_classes), unfolding(crate::specs::Document::parts_of))]
-fn parts(alloc: Global, value: &Value) -> Result<Parts, Refused>
-    ensures { Reads (λ parts. parts) result (parts_of (view value.now)) }
-{
-    let object = as_object(value)?;
-    let term = term(object)?;
-    let weights = weights(object)?;
-    empty(object, "rooms")?;
-    let CourseClasses { id, classes } = course(alloc, only(object, "courses")?, term)?;
-    empty(object, "distributions")?;
-    empty(object, "students")?;
-    let one = Span { first: 0, after: 1 };
-    let all = Span {
-        first: 0,
-        after: classes.len() as u32,
-    };
-    Ok(Parts {
-        nr_days: term.nr_days,
-        nr_weeks: term.nr_weeks,
-        weights,
-        courses: row_of(alloc, CoursePart { id, configs: one })?,
-        configs: row_of(alloc, one)?,
-        subparts: row_of(alloc, all)?,
-        classes,
-    })
-}
-
-/// The fault of the whole value.
-fn fault(alloc: Global, number: u8) -> ProblemFault
-    ensures { IsFault result (whole_fault number) }
-{
-    match Path::of(alloc, "/") {
-        Ok(path) => ProblemFault::Fault { number, path },
-        Err(_) => ProblemFault::Memory,
-    }
-}
-
-/// The problem of a file, or its fault: 30 where the bytes are no JSON text, and 40 where the value
-/// has a form that is not read.
-#[tactic(auto, unfolding(crate::specs::Document::problem_of))]
-pub fn read(alloc: Global, bytes: &[u8]) -> Result<Problem, ProblemFault>
-    ensures gives { Gives result (problem_of bytes.now) }
+/// The parts that a file has.
+#[tactic(auto, unfolding(crate::specs::Tables::problem_of))]
+fn parts_in(alloc: Global, bytes: &[u8]) -> Result<Parts, ProblemFault>
+    ensures reads { Gives (λ parts. parts) result (problem_of bytes.now) }
     ensures valid { IfOk result IsValid }
 {
     match json(alloc, bytes)? {
-        None => Err(fault(alloc, 30)),
-        Some(value) => match parts(alloc, &value) {
-            Ok(parts) => Ok(Problem::build(alloc, parts)?),
-            Err(Refused::Form) => Err(fault(alloc, 40)),
-            Err(Refused::Memory) => Err(ProblemFault::Memory),
-        },
+        None => Err(ProblemFault::from(no_json(alloc))),
+        Some(value) => parts(alloc, &whole(alloc, &value)),
     }
+}
+
+/// The problem that a file holds, in the JSON form of the ITC 2019 format, or its first fault, by its
+/// number and the path of the value that has it. All of the file is read three times: for the shape
+/// of its values (faults 30 to 33 and 35 to 39), then for its references (34), then for the limits
+/// on sums (39); a later reading is made only where the earlier ones find nothing.
+pub fn read(alloc: Global, bytes: &[u8]) -> Result<Problem, ProblemFault>
+    ensures reads { Gives (λ problem. problem) result (problem_of bytes.now) }
+    ensures valid { IfOk result (λ problem. IsValid problem) }
+{
+    let parts = parts_in(alloc, bytes)?;
+    Ok(Problem::build(alloc, parts)?)
 }
 
 #[cfg(test)]

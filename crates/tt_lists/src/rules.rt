@@ -1,0 +1,83 @@
+ghost use Rattle.std.specs.Prelude.{◌≡◌, ◌≤◌, length, codes, All, IfOk};
+ghost use Rattle.tt_fields.specs.Answer.{Reads, Gives, part_of};
+ghost use Rattle.tt_fields.specs.Kinds.{required};
+ghost use Rattle.tt_fields.specs.List.{items_of, known_of, IsFew};
+ghost use Rattle.tt_lists.specs.Tables.{a_type, penalty_unless, rule_of, rules_of};
+ghost use Rattle.tt_lists.specs.Valid.{IsRuleAmong};
+
+use crate::members::members;
+use std::alloc::Global;
+use tt_base::Row;
+use tt_fields::{
+    Fault, Items, Known, Part, ProblemFault, as_object, as_text, fault, list, number, required,
+    truth_or,
+};
+use tt_problem::{DistKind, Rule};
+use tt_types::read_type;
+
+/// The type of a distribution. Faults: 31, and 37 where the text is no type.
+#[tactic(auto, unfolding(crate::specs::Tables::a_type, tt_fields::specs::Kinds::required))]
+fn kind<'a>(object: &'a Part<'a>) -> Result<DistKind, Fault<'a>>
+    ensures { Reads (λ k. k) result (required a_type (codes "type") (part_of object.now)) }
+{
+    let part = required(object, "type")?;
+    match read_type(as_text(&part)?) {
+        None => Err(fault(37, &part)),
+        Some(kind) => Ok(kind),
+    }
+}
+
+/// The penalty of a distribution, 0 where it is required.
+#[tactic(auto, unfolding(crate::specs::Tables::penalty_unless))]
+fn penalty<'a>(required: bool, object: &'a Part<'a>) -> Result<u32, Fault<'a>>
+    ensures reads { Reads (λ n. n) result (penalty_unless required (part_of object.now)) }
+    ensures few { IfOk result (λ n. n ≤ 1000000) }
+{
+    if required {
+        Ok(0)
+    } else {
+        number(object, "penalty", 0, 1_000_000)
+    }
+}
+
+/// A distribution.
+#[tactic(auto, unfolding(crate::specs::Tables::rule_of))]
+fn rule(alloc: Global, known: &Known<'_>, object: &Part<'_>) -> Result<Rule, ProblemFault>
+    requires { IsFew known.now }
+    ensures reads { Gives (λ rule. rule) result (rule_of (known_of known.now) (part_of object.now)) }
+    ensures valid { IfOk result (λ rule. IsRuleAmong known.now rule) }
+{
+    as_object(object)?;
+    let kind = kind(&*object)?;
+    let required = truth_or(false, &*object, "required")?;
+    let penalty = penalty(required, &*object)?;
+    let items = list(&*object, "classes", 0, 2000)?;
+    let members = members(alloc, known, &items)?;
+    Ok(Rule {
+        kind,
+        required,
+        penalty,
+        members,
+    })
+}
+
+/// The distributions of a list, in its order. `known` has the ids of the classes, once they are
+/// known. Faults: 31, 32, 34, 37 and 39.
+#[tactic(auto, using(tt_fields::proofs::Walk::collects_more, tt_fields::proofs::Walk::collects_fault, tt_fields::proofs::Walk::collects_all))]
+pub fn read_rules(
+    alloc: Global,
+    known: &Known<'_>,
+    items: &Items<'_>,
+) -> Result<Row<Rule>, ProblemFault>
+    requires { IsFew known.now }
+    ensures reads { Gives (λ rules. rules) result (rules_of (known_of known.now) (items_of items.now)) }
+    ensures valid { IfOk result (λ rules. All (IsRuleAmong known.now) rules) }
+    ensures count { IfOk result (λ rules. length rules ≡ length items.now.values.now) }
+{
+    let mut rules = Vec::new(alloc);
+    for (i, value) in items.values.iter().enumerate() {
+        let item = (&*items).item(i, value);
+        rules.push(rule(alloc, known, &item)?)?;
+    }
+    Ok(Row::from_vec(rules))
+}

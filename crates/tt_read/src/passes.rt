@@ -1,0 +1,169 @@
+ghost use Rattle.std.specs.Prelude.{◌≡◌, Some, IfOk};
+ghost use Rattle.tt_problem.specs.Valid.{AreValidWeights, IsValidTerm};
+ghost use Rattle.tt_fields.specs.Answer.{Reads, Gives, part_of};
+ghost use Rattle.tt_fields.specs.List.{known_of, IsFew};
+ghost use Rattle.tt_tree.specs.Context.{context_of, IsContext};
+ghost use Rattle.tt_tree.specs.Read.{rooms_read, tree_read};
+ghost use Rattle.tt_read.specs.Read.{shape_read, IsShape, IsLinked};
+ghost use Rattle.tt_read.specs.Tables.{term_of, weights_of, unknown as unknown_of, known as known_of_shape, shape_of, parts_with as parts_of_all, linked_of};
+
+use crate::term::Term;
+use indexmap::IndexSet;
+use std::alloc::Global;
+use tt_base::Row;
+use tt_fields::{
+    Fault, Items, Known, Part, ProblemFault, as_object, list, list_or_none, number,
+    object as required_object,
+};
+use tt_lists::{read_rules, read_students};
+use tt_problem::{Parts, Rule, StudentPart, Weights};
+use tt_tree::{Context, Rooms, Tree, read_courses, read_rooms};
+
+/// The days of a week and the weeks of the term.
+#[tactic(auto, unfolding(crate::specs::Tables::term_of))]
+fn term<'a>(object: &'a Part<'a>) -> Result<Term, Fault<'a>>
+    ensures reads { Reads (λ term. term) result (term_of (part_of object.now)) }
+    ensures valid { IfOk result (λ term. IsValidTerm term.nr_days term.nr_weeks) }
+{
+    let nr_days = number(object, "nrDays", 1, 7)? as u8;
+    let nr_weeks = number(object, "nrWeeks", 1, 64)? as u8;
+    number(object, "slotsPerDay", 1, 1440)?;
+    Ok(Term { nr_days, nr_weeks })
+}
+
+/// The optimization weights.
+#[tactic(auto, unfolding(crate::specs::Tables::weights_of))]
+fn weights<'a>(object: &'a Part<'a>) -> Result<Weights, Fault<'a>>
+    ensures reads { Reads (λ weights. weights) result (weights_of (part_of object.now)) }
+    ensures valid { IfOk result AreValidWeights }
+{
+    let time = number(object, "time", 0, 100_000)?;
+    let room = number(object, "room", 0, 100_000)?;
+    let distribution = number(object, "distribution", 0, 100_000)?;
+    let student = number(object, "student", 0, 100_000)?;
+    Ok(Weights {
+        time,
+        room,
+        distribution,
+        student,
+    })
+}
+
+/// What the first pass finds: the lists of the whole value, and the ids in them.
+#[derive(Drop)]
+pub struct Shape<'a> {
+    pub term: Term,
+    pub weights: Weights,
+    pub rooms: Items<'a>,
+    pub room_ids: IndexSet<u32>,
+    pub courses: Items<'a>,
+    pub course_ids: IndexSet<u32>,
+    pub class_ids: IndexSet<u32>,
+    pub distributions: Items<'a>,
+    pub students: Items<'a>,
+}
+
+/// What the first pass reads with: no reference is looked up.
+fn unknown(term: Term) -> Context<'static>
+    requires { IsValidTerm term.nr_days term.nr_weeks }
+    ensures context { context_of result ≡ unknown_of term }
+    ensures valid { IsContext result }
+{
+    Context {
+        nr_days: term.nr_days,
+        nr_weeks: term.nr_weeks,
+        rooms: Known::none(),
+        classes: Known::none(),
+    }
+}
+
+/// The first pass: the shape of all.
+#[tactic(auto, using(crate::proofs::Linked::ids_count), unfolding(crate::specs::Tables::shape_of))]
+pub fn first_pass<'a>(alloc: Global, object: &'a Part<'a>) -> Result<Shape<'a>, ProblemFault>
+    ensures reads { Gives shape_read result (shape_of (part_of object.now)) }
+    ensures valid { IfOk result IsShape }
+{
+    as_object(object)?;
+    let term = term(object)?;
+    let optimization = required_object(object, "optimization")?;
+    let weights = weights(&optimization)?;
+    let context = unknown(term);
+    let rooms = list_or_none(object, "rooms", 2500)?;
+    let Rooms { ids: room_ids, .. } = read_rooms(alloc, &context, &rooms)?;
+    let courses = list(object, "courses", 0, 20_000)?;
+    let Tree {
+        course_ids,
+        class_ids,
+        ..
+    } = read_courses(alloc, &context, &courses)?;
+    let distributions = list_or_none(object, "distributions", 20_000)?;
+    read_rules(alloc, &Known::none(), &distributions)?;
+    let students = list_or_none(object, "students", 100_000)?;
+    read_students(alloc, &Known::none(), &students)?;
+    Ok(Shape {
+        term,
+        weights,
+        rooms,
+        room_ids,
+        courses,
+        course_ids,
+        class_ids,
+        distributions,
+        students,
+    })
+}
+
+/// What the second pass reads with: the ids of the first.
+fn known<'a>(shape: &'a Shape<'_>) -> Context<'a>
+    requires { IsShape shape.now }
+    ensures context { context_of result ≡ known_of_shape (shape_read shape.now) }
+    ensures valid { IsContext result }
+{
+    Context {
+        nr_days: shape.term.nr_days,
+        nr_weeks: shape.term.nr_weeks,
+        rooms: Known::among(&shape.room_ids),
+        classes: Known::among(&shape.class_ids),
+    }
+}
+
+/// The parts of a problem.
+fn parts_with(
+    shape: &Shape<'_>,
+    rooms: Rooms,
+    tree: Tree,
+    rules: Row<Rule>,
+    students: Row<StudentPart>,
+) -> Parts
+    ensures { result ≡ parts_of_all (shape_read shape.now) (rooms_read rooms) (tree_read tree) rules students }
+{
+    Parts {
+        nr_days: shape.term.nr_days,
+        nr_weeks: shape.term.nr_weeks,
+        weights: shape.weights,
+        courses: Row::from_vec(tree.courses),
+        configs: Row::from_vec(tree.configs),
+        subparts: Row::from_vec(tree.subparts),
+        classes: Row::from_vec(tree.classes),
+        rooms: Row::from_vec(rooms.rooms),
+        travel: rooms.travel,
+        rules,
+        students,
+    }
+}
+
+/// The second pass: the same lists again, with each reference looked up.
+#[tactic(auto, unfolding(crate::specs::Tables::linked_of))]
+pub fn second_pass(alloc: Global, shape: &Shape<'_>) -> Result<Parts, ProblemFault>
+    requires { IsShape shape.now }
+    ensures reads { Gives (λ parts. parts) result (linked_of (shape_read shape.now)) }
+    ensures linked { IfOk result IsLinked }
+{
+    let context = known(&*shape);
+    let rooms = read_rooms(alloc, &context, &shape.rooms)?;
+    let tree = read_courses(alloc, &context, &shape.courses)?;
+    let rules = read_rules(alloc, &context.classes, &shape.distributions)?;
+    let courses = Known::among(&shape.course_ids);
+    let students = read_students(alloc, &courses, &shape.students)?;
+    Ok(parts_with(shape, rooms, tree, rules, students))
+}

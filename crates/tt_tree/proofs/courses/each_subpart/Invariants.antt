@@ -1,0 +1,11 @@
+use Rattle.std.proofs.Common.{◌≡◌, ◌+◌, length}
+use Rattle.tt_fields.specs.Path.{steps_of}
+use Rattle.tt_fields.proofs.Walk.{Threads}
+use Rattle.tt_tree.specs.Context.{context_of}
+use Rattle.tt_tree.specs.Read.{tree_read, IsTree}
+use Rattle.tt_tree.specs.Tables.{subpart_of}
+use Rattle.tt_tree.proofs.courses.each_subpart.Given as goal
+
+abbrev pub invariant-loop-i : goal.invariant-loop-i
+invariant-loop-i l = Threads (subpart_of (context_of l.context)) (steps_of l.items.trail) l.items.values.now l.i (tree_read l.initial.tree) (tree_read l.tree)
+    × IsTree l.context l.tree × (length l.tree.subparts.items ≡ length l.initial.tree.subparts.items + l.i) × (l.tree.configs ≡ l.initial.tree.configs)

@@ -1,0 +1,4 @@
+pub mod Context
+pub mod Tables
+pub mod Read
+pub mod Whole

@@ -1,0 +1,10 @@
+//! The distribution types of ITC 2019, as text.
+#![tactic(auto)]
+
+mod text;
+mod types;
+
+pub use types::read_type;
+
+#[cfg(test)]
+mod tests;
