@@ -1,93 +1,90 @@
--- How a phase of a run may end, and what that says of the counts.
-use Rattle.std.specs.Prelude.{◌≡◌, ◌<◌, ◌≤◌, ℕ, Bool, true, false, List, ⊤, length, Option, Result, Ok, Err, IsErr}
-use Rattle.tt_io.specs.Causes.{Rose, Writes}
+-- How the phases of a run end. This serves the proof of the top call alone: no clause of it cites these words.
+use Rattle.std.specs.Prelude.{◌≡◌, ◌<◌, ◌≤◌, ℕ, Bool, List, length, ◌⊎◌, Option, Result, Ok, Err, IsOk, if◌then◌else◌}
+use Rattle.std.specs.List.{concat}
+use Rattle.tt_io.specs.Causes.{Writes, one_more}
 use Rattle.tt_io.specs.Whole.{WritesFront}
+use Rattle.tt_script.specs.Forms.{IsSectionLine}
 use Rattle.tt_problem.specs.declared.parts.Parts.{Parts}
-use Rattle.tt_read.specs.Document.{problem_of}
+use Rattle.tt_state.specs.History.{Desk, desk_of}
+use Rattle.tt_fields.specs.Answer.{Fault}
+use Rattle.tt_read.specs.Tables.{problem_of}
 use Rattle.tt_top.specs.declared.end.End.{End}
-use Rattle.tt_top.specs.declared.end.End.TheVariants.{Problem, Files, Sink, Memory, TooLong}
-use Rattle.tt_top.specs.Desk.{Snapshots, opening_desk}
-use Rattle.tt_top.specs.Script.{lines_of}
-use Rattle.tt_top.specs.Transcript.{opening_line, head_text, replies, refuses}
+use Rattle.tt_top.specs.declared.end.End.TheVariants.{Files, Sink, Memory, TooLong}
+use Rattle.tt_top.specs.declared.end.Done.{Done}
+use Rattle.tt_top.specs.declared.end.Done.TheVariants.{Served, Fault as ProblemFault}
+use Rattle.tt_top.specs.declared.script.Line.{Line}
+use Rattle.tt_top.specs.declared.script.Line.TheVariants.{Empty, Bad, Good}
+use Rattle.tt_top.specs.declared.top.Loaded.{Loaded}
+use Rattle.tt_top.specs.declared.top.Loaded.TheVariants as loads
+use Rattle.tt_top.specs.declared.top.Opened.{Opened}
+use Rattle.tt_top.specs.declared.top.Opened.TheVariants as opens
+use Rattle.tt_top.specs.Script.{lines_of, line_of, line_words}
+use Rattle.tt_top.specs.Desk.{carried_out, opening_desk}
+use Rattle.tt_top.specs.Transcript.{first_line, replies_to, refuses}
+use Rattle.tt_top.specs.Run.{WritesFirst}
 
--- a sink's count rose where the phase ended by a failed write, and else it stands
-pub record SinkCause {T : Type 0} (before now : ℕ) (result : Result T End) : Type 0 where
-  pub rose : result ≡ Err Sink → Rose before now
-  pub same : (result ≡ Err Sink → ⊥) → now ≡ before
+-- ---- lines
 
--- the same of the files
-pub record FilesCause {T : Type 0} (before now : ℕ) (result : Result T End) : Type 0 where
-  pub rose : result ≡ Err Files → Rose before now
-  pub same : (result ≡ Err Files → ⊥) → now ≡ before
+-- the command isn't refused
+abbrev pub IsAccepted : Desk → Line → Type 0
+IsAccepted d Empty = ⊥
+IsAccepted d Bad = ⊥
+IsAccepted d (Good command) = IsOk (carried_out d command)
+
+-- A line takes memory only to read the classes of a `section` line, or where it isn't refused.
+unfoldable pub IsMemoryCause : Desk → List ℕ → Type 0
+IsMemoryCause d line = IsSectionLine (line_words line) ⊎ IsAccepted d (line_of line)
+
+-- ---- statuses
 
 abbrev pub end_status : End → ℕ
-end_status Problem = 3
 end_status Files = 5
 end_status Sink = 6
 end_status Memory = 7
 end_status TooLong = 8
 
--- the status of a run, by how it ended, or by whether a command was refused
-abbrev pub status_of : Result Bool End → ℕ
-status_of (Ok false) = 0
-status_of (Ok true) = 1
-status_of (Err e) = end_status e
+abbrev pub done_status : Done → ℕ
+done_status (Served refused) = if refused then 1 else 0
+done_status ProblemFault = 3
 
--- Serving ends early only for want of memory or by a failed write.
-abbrev pub IsServeEnd : {T : Type 0} → Result T End → Type 0
-IsServeEnd (Ok v) = ⊤
-IsServeEnd (Err Memory) = ⊤
-IsServeEnd (Err Sink) = ⊤
-IsServeEnd (Err e) = ⊥
+-- the status of a run, by how it ended
+abbrev pub status_of : Result Done End → ℕ
+status_of (Ok done) = done_status done
+status_of (Err end) = end_status end
 
--- Reading a file ends by a failed call, for want of memory or at the limit.
-abbrev pub IsReadEnd : {T : Type 0} → Result T End → Type 0
-IsReadEnd (Ok v) = ⊤
-IsReadEnd (Err Files) = ⊤
-IsReadEnd (Err Memory) = ⊤
-IsReadEnd (Err TooLong) = ⊤
-IsReadEnd (Err e) = ⊥
+-- ---- causes
 
--- The problem was accepted, so it isn't what ends the run.
-abbrev pub IsScriptEnd : {T : Type 0} → Result T End → Type 0
-IsScriptEnd (Ok v) = ⊤
-IsScriptEnd (Err Problem) = ⊥
-IsScriptEnd (Err e) = ⊤
+-- The count of failed calls is one more where the phase ended by this end, and else as it was.
+pub record HasEndCause {T : Type 0} (which : End) (before now : ℕ) (result : Result T End) : Type 0 where
+  pub rose : result ≡ Err which → now ≡ one_more before
+  pub same : (result ≡ Err which → ⊥) → now ≡ before
 
--- What reading the problem leaves, for these bytes of it: the problem, or the line on its fault, and nothing where the run ends otherwise.
-abbrev pub Loads : ℕ → Option (List ℕ) → Option (List ℕ) → List ℕ → Result Parts End → Type 0
-Loads limit before now p (Ok parts) = (length p ≤ limit) × (problem_of p ≡ Ok parts) × (now ≡ before)
-Loads limit before now p (Err Problem) = (length p ≤ limit) × IsErr (problem_of p) × Writes before now (head_text (problem_of p))
-Loads limit before now p (Err Files) = now ≡ before
-Loads limit before now p (Err Sink) = (length p ≤ limit) × WritesFront before now (head_text (problem_of p))
-Loads limit before now p (Err Memory) = now ≡ before
-Loads limit before now p (Err TooLong) = (limit < length p) × (now ≡ before)
+-- ---- what each phase leaves
 
--- What opening the desk leaves then: the desk and the opening line.
-abbrev pub Opens : ℕ → Option (List ℕ) → Option (List ℕ) → List ℕ → Result Snapshots End → Type 0
-Opens limit before now p (Ok desk) = (length p ≤ limit) × (problem_of p ≡ Ok desk.problem) × (desk ≡ opening_desk desk.problem) × Writes before now (opening_line desk.problem)
-Opens limit before now p (Err Problem) = (length p ≤ limit) × IsErr (problem_of p) × Writes before now (head_text (problem_of p))
+-- the problem that was loaded, or its fault
+abbrev pub loaded : Loaded → Result Parts Fault
+loaded (loads.Problem parts) = Ok parts
+loaded (loads.Fault number path) = Err (record { number = number; path = path })
+
+-- the desk is open where the problem has no fault
+abbrev pub IsOpened : Result Parts Fault → Opened → Type 0
+IsOpened (Ok parts) (opens.Desk state) = desk_of state ≡ opening_desk parts
+IsOpened (Ok parts) opens.Fault = ⊥
+IsOpened (Err fault) (opens.Desk state) = ⊥
+IsOpened (Err fault) opens.Fault = Unit {0}
+
+-- What reading the problem and writing the first line leave, for these bytes of the problem.
+abbrev pub Opens : ℕ → Option (List ℕ) → Option (List ℕ) → List ℕ → Result Opened End → Type 0
+Opens limit before now p (Ok opened) = (length p ≤ limit) × IsOpened (problem_of p) opened × Writes before now (first_line (problem_of p))
 Opens limit before now p (Err Files) = now ≡ before
-Opens limit before now p (Err Sink) = (length p ≤ limit) × WritesFront before now (head_text (problem_of p))
+Opens limit before now p (Err Sink) = (length p ≤ limit) × WritesFront before now (first_line (problem_of p))
 Opens limit before now p (Err Memory) = now ≡ before
 Opens limit before now p (Err TooLong) = (limit < length p) × (now ≡ before)
 
 -- What serving a script leaves, for these bytes of it.
-abbrev pub Serves : ℕ → Option (List ℕ) → Option (List ℕ) → Snapshots → List ℕ → Result Bool End → Type 0
-Serves limit before now desk s (Ok refused) = (length s ≤ limit) × (refused ≡ refuses desk (lines_of s)) × Writes before now (replies desk (lines_of s))
-Serves limit before now desk s (Err Problem) = ⊥
-Serves limit before now desk s (Err Files) = now ≡ before
-Serves limit before now desk s (Err Sink) = WritesFront before now (replies desk (lines_of s))
-Serves limit before now desk s (Err Memory) = WritesFront before now (replies desk (lines_of s))
-Serves limit before now desk s (Err TooLong) = (limit < length s) × (now ≡ before)
-
--- What writing the line on a fault leaves.
-abbrev pub Refuses : Option (List ℕ) → Option (List ℕ) → List ℕ → End → Type 0
-Refuses before now line Problem = Writes before now line
-Refuses before now line Sink = WritesFront before now line
-Refuses before now line Memory = now ≡ before
-Refuses before now line e = ⊥
-
--- Where what was written is told, it was told before, and grew.
-abbrev pub Grows : Option (List ℕ) → Option (List ℕ) → Type 0
-Grows before now = (more : List ℕ) × Writes before now more
+abbrev pub Serves : ℕ → Option (List ℕ) → Option (List ℕ) → Desk → List ℕ → Result Bool End → Type 0
+Serves limit before now d s (Ok refused) = (length s ≤ limit) × (refused ≡ refuses d (lines_of s)) × Writes before now (concat (replies_to d (lines_of s)))
+Serves limit before now d s (Err Files) = now ≡ before
+Serves limit before now d s (Err Sink) = WritesFront before now (concat (replies_to d (lines_of s)))
+Serves limit before now d s (Err Memory) = WritesFirst before now (replies_to d (lines_of s))
+Serves limit before now d s (Err TooLong) = (limit < length s) × (now ≡ before)

@@ -1,6 +1,6 @@
 pub mod Script
-pub mod Totals
+pub mod Refusals
 pub mod Desk
 pub mod Transcript
-pub mod Ends
 pub mod Run
+pub mod Ends

@@ -1,107 +1,154 @@
-ghost use Rattle.std.specs.Prelude.{◌≡◌, ◌<◌, length, OnOk, OnErr, IfOk};
-ghost use Rattle.tt_top.specs.Desk.{opening_desk, desk_step, with_time};
-ghost use Rattle.tt_top.specs.Totals.{totals_of, times_at};
+ghost use Rattle.std.specs.Prelude.{◌≡◌, ◌≢◌, ◌<◌, All, Ok, Err, IfOk, IfSome, IsOk, IsNone, MatchOption, OnErr, OnOk, length};
+ghost use Rattle.tt_state.specs.History.{desk_of};
+ghost use Rattle.tt_top.specs.Desk.{Step, carried_out, class_id, desk_step, known_classes, line_step, value_refusal};
+ghost use Rattle.tt_top.specs.Script.{line_words};
+ghost use Rattle.tt_top.specs.Ends.{IsMemoryCause};
 
-use crate::script::Command;
-use crate::totals::{Totals, sum_up};
+use crate::refusal::{Outcome, Refusal};
+use crate::script::{Line, read_line};
 use std::alloc::{AllocError, Global};
-use std::marker::Model;
-use tt_bits::Value;
+use tt_plan::{NoValue, find};
 use tt_problem::Problem;
+use tt_script::{Command, Ids};
+use tt_state::{Refusal as StateRefusal, State};
 
-/// Why a line is refused.
-#[derive(Clone, Copy, Debug, PartialEq, Eq)]
-pub enum Refusal {
-    /// It is in no form.
-    BadLine,
-    /// No class has the id.
-    NoSuchClass,
-    /// The number of the time is 0, or above the number of the class's times.
-    NoSuchTime,
-}
-
-/// What became of a command.
-#[derive(Clone, Copy, Debug, PartialEq, Eq)]
-pub enum Outcome {
-    /// It was carried out.
-    Accepted,
-    /// It changed nothing.
-    Refused(Refusal),
-}
-
-/// A value or none for each class, in the problem's order.
-type Plan = Vec<Option<Value>>;
-
-/// A desk that keeps whole snapshots: the present plan, and before each accepted command the plan
-/// as it was.
-#[derive(Drop)]
-pub struct Desk {
-    alloc: Global,
-    problem: Problem,
-    present: Plan,
-    earlier: Vec<Plan>,
-}
-
-impl Model for Desk {
-    ghost use Rattle.std.specs.Prelude.{map, reverse};
-    ghost use Rattle.tt_top.specs.Desk.{Snapshots};
-    ghost use Rattle.tt_top.specs.Totals.{IsPlanOf};
-
-    ghost Value = { Snapshots };
-
-    ghost view = { λ d. record { problem = d.problem; present = d.present.items; earlier = reverse (map (λ plan. plan.items) d.earlier.items) } };
-
-    ghost invariant = { λ d. IsPlanOf d.problem d.present.items };
-}
-
-impl Desk {
-    /// Nothing is placed, and there is no earlier snapshot.
-    pub fn open(alloc: Global, problem: Problem) -> Result<Desk, AllocError>
-        ensures { IfOk result (λ desk. desk ≡ opening_desk problem) }
-    {
-        let present = vec![in alloc; None; problem.class_count() as usize]?;
-        Ok(Desk {
-            alloc,
-            problem,
-            present,
-            earlier: Vec::new(alloc),
-        })
+fn value_refusal(fault: NoValue) -> Refusal
+    ensures { result ≡ value_refusal fault }
+{
+    match fault {
+        NoValue::Time => Refusal::NoSuchTime,
+        NoValue::Room => Refusal::RoomNotListed,
     }
+}
 
-    /// The sums over the present plan.
-    pub fn totals(&self) -> Totals
-        ensures { result ≡ totals_of self.now.problem self.now.present }
-    {
-        sum_up(&self.problem, &self.present)
-    }
-
-    /// Carries a command out, or says why it is refused. After want of memory the desk is as before.
-    pub fn carry_out(&mut self, command: Command) -> Result<Outcome, AllocError>
-        ensures ok { IfOk result (λ outcome. desk_step self.old command ≡ record { desk = self.new; outcome = outcome }) }
-        ensures err { OnErr result (self.new ≡ self.old) }
-    {
-        let Command::Assign { class, time } = command;
-        let Some(place) = self.problem.class_of(class) else {
-            return Ok(Outcome::Refused(Refusal::NoSuchClass));
-        };
-        let times = self.problem.class(place).times.len() as u32;
-        if time == 0 || time > times {
-            return Ok(Outcome::Refused(Refusal::NoSuchTime));
+// Gives a class a value, by ids and the number of a time.
+fn assign(
+    state: &mut State,
+    class: u32,
+    time: u32,
+    room: Option<u32>,
+) -> Result<Outcome, AllocError>
+    ensures ok { IfOk result (λ outcome. desk_step (desk_of state.old) (Command.Assign class time room) ≡ record { desk = desk_of state.new; outcome = outcome }) }
+    ensures memory { OnErr result (IsOk (carried_out (desk_of state.old) (Command.Assign class time room))) }
+{
+    let Some(class) = state.problem().class_of(class) else {
+        return Ok(Outcome::Refused(Refusal::NoSuchClass));
+    };
+    match find(state.problem(), class, time, room) {
+        Err(fault) => Ok(Outcome::Refused(value_refusal(fault))),
+        Ok(value) => {
+            state.assign(class, value)?;
+            Ok(Outcome::Accepted)
         }
-        self.assign(place, (time - 1) as u16)?;
-        Ok(Outcome::Accepted)
     }
+}
 
-    // Gives a class its time of this place, and keeps the plan before.
-    fn assign(&mut self, class: u32, time: u16) -> Result<(), AllocError>
-        requires class { class < length self.old.present }
-        requires time { time < times_at self.old.problem class }
-        ensures ok { OnOk result (self.new ≡ with_time self.old class time) }
-        ensures err { OnErr result (self.new ≡ self.old) }
-    {
-        let before = Vec::from_slice(self.alloc, &self.present)?;
-        self.earlier.push(before)?;
-        self.present[class as usize] = Some(Value { time, room: 0 });
-        Ok(())
+// Takes its value from a class, by its id.
+fn unassign(state: &mut State, class: u32) -> Result<Outcome, AllocError>
+    ensures ok { IfOk result (λ outcome. desk_step (desk_of state.old) (Command.Unassign class) ≡ record { desk = desk_of state.new; outcome = outcome }) }
+    ensures memory { OnErr result (IsOk (carried_out (desk_of state.old) (Command.Unassign class))) }
+{
+    let Some(class) = state.problem().class_of(class) else {
+        return Ok(Outcome::Refused(Refusal::NoSuchClass));
+    };
+    match state.unassign(class) {
+        Ok(()) => Ok(Outcome::Accepted),
+        Err(StateRefusal::Memory) => Err(AllocError),
+        Err(_) => Ok(Outcome::Refused(Refusal::NotPlaced)),
+    }
+}
+
+// The places of classes, by their ids, if all of these are known.
+fn class_places(problem: &Problem, ids: Ids) -> Option<Vec<u32>>
+    ensures places { MatchOption result (known_classes problem.now ids ≡ Err Refusal.NoSuchClass) (λ places. known_classes problem.now ids ≡ Ok places.items) }
+    ensures in_range { IfSome result (λ places. All (λ place. place < length problem.now.classes) places.items) }
+{
+    let mut places = ids.into_vec();
+    for place in places.iter_mut() {
+        *place = problem.class_of(*place)?;
+    }
+    Some(places)
+}
+
+// The id of the class at a place.
+fn class_id(problem: &Problem, place: u32) -> u32
+    requires { place < length problem.now.classes }
+    ensures { result ≡ class_id problem.now place }
+{
+    problem.class(place).id
+}
+
+// Gives a student the classes of a list, by ids.
+fn section(state: &mut State, student: u32, classes: Ids) -> Result<Outcome, AllocError>
+    ensures ok { IfOk result (λ outcome. desk_step (desk_of state.old) (Command.Section student classes) ≡ record { desk = desk_of state.new; outcome = outcome }) }
+    ensures memory { OnErr result (IsOk (carried_out (desk_of state.old) (Command.Section student classes))) }
+{
+    let Some(classes) = class_places(state.problem(), classes) else {
+        return Ok(Outcome::Refused(Refusal::NoSuchClass));
+    };
+    let Some(student) = state.problem().student_of(student) else {
+        return Ok(Outcome::Refused(Refusal::NoSuchStudent));
+    };
+    match state.section(student, &classes) {
+        Ok(()) => Ok(Outcome::Accepted),
+        Err(StateRefusal::Memory) => Err(AllocError),
+        Err(StateRefusal::NoSeat { class }) => Ok(Outcome::Refused(Refusal::NoSeat {
+            class: class_id(state.problem(), class),
+        })),
+        Err(_) => Ok(Outcome::Refused(Refusal::NoEnrolment)),
+    }
+}
+
+// Takes all classes from a student, by the student's id.
+fn drop_student(state: &mut State, student: u32) -> Result<Outcome, AllocError>
+    ensures ok { IfOk result (λ outcome. desk_step (desk_of state.old) (Command.Drop student) ≡ record { desk = desk_of state.new; outcome = outcome }) }
+    ensures memory { OnErr result (IsOk (carried_out (desk_of state.old) (Command.Drop student))) }
+{
+    let Some(student) = state.problem().student_of(student) else {
+        return Ok(Outcome::Refused(Refusal::NoSuchStudent));
+    };
+    match state.drop_student(student) {
+        Ok(()) => Ok(Outcome::Accepted),
+        Err(StateRefusal::Memory) => Err(AllocError),
+        Err(_) => Ok(Outcome::Refused(Refusal::NotSectioned)),
+    }
+}
+
+// Goes back by a step.
+fn undo(state: &mut State) -> Outcome
+    ensures { desk_step (desk_of state.old) Command.Undo ≡ record { desk = desk_of state.new; outcome = result } }
+{
+    match state.undo() {
+        Ok(()) => Outcome::Accepted,
+        Err(_) => Outcome::Refused(Refusal::NothingToUndo),
+    }
+}
+
+// Carries a command out, or says why it is refused. Memory is wanting only for one that isn't.
+fn carry_out(state: &mut State, command: Command) -> Result<Outcome, AllocError>
+    ensures ok { IfOk result (λ outcome. desk_step (desk_of state.old) command ≡ record { desk = desk_of state.new; outcome = outcome }) }
+    ensures memory { OnErr result (IsOk (carried_out (desk_of state.old) command)) }
+{
+    match command {
+        Command::Assign { class, time, room } => assign(state, class, time, room),
+        Command::Unassign { class } => unassign(state, class),
+        Command::Section { student, classes } => section(state, student, classes),
+        Command::Drop { student } => drop_student(state, student),
+        Command::Undo => Ok(undo(state)),
+        Command::Totals => Ok(Outcome::Accepted),
+        Command::Quit => Ok(Outcome::Ended),
+    }
+}
+
+/// Does what a line asks for, or says why it is refused.
+#[tactic(auto, unfolding(crate::specs::Desk::line_step, crate::specs::Ends::IsMemoryCause))]
+pub fn answer(alloc: Global, state: &mut State, line: &[u8]) -> Result<Outcome, AllocError>
+    ensures ok { IfOk result (λ outcome. line_step (desk_of state.old) line.now ≡ record { desk = desk_of state.new; outcome = outcome }) }
+    ensures memory { OnErr result (IsMemoryCause (desk_of state.old) line.now) }
+{
+    match read_line(alloc, line)? {
+        Line::Empty => Ok(Outcome::Skipped),
+        Line::Bad => Ok(Outcome::Refused(Refusal::BadLine)),
+        Line::Good(command) => carry_out(state, command),
     }
 }

@@ -3,12 +3,12 @@
 
 mod desk;
 mod end;
+mod refusal;
 mod reply;
 mod script;
 mod serve;
 #[cfg(test)]
 mod tests;
 mod top;
-mod totals;
 
-pub use top::{FILE_LIMIT, run};
+pub use top::run;

@@ -1,27 +1,24 @@
-ghost use Rattle.std.specs.Prelude.{◌≡◌, ◌<◌, [], ◌∷◌, length, IfSome, MatchOption};
-ghost use Rattle.tt_top.specs.Script.{lines_of, without_return, id_of, command_of, line_of, line_of_words};
+ghost use Rattle.std.specs.Prelude.{◌≡◌, ◌<◌, [], ◌∷◌, length, IfOk, OnErr, IfSome, MatchOption};
+ghost use Rattle.tt_script.specs.Forms.{IsSectionLine};
+ghost use Rattle.tt_text.specs.Line.{words_of};
+ghost use Rattle.tt_top.specs.Script.{lines_of, without_return, is_empty, line_of, line_of_words, line_words};
 
-use tt_text::{Words, read_decimal};
+use std::alloc::{AllocError, Global};
+use tt_script::{Command, LineFault, parse};
+use tt_text::Words;
 
-/// The most bytes of a line, its line end left out.
-pub const LINE_LIMIT: usize = 65_536;
-
-/// What the office asks of the desk.
-#[derive(Clone, Copy, Debug, PartialEq, Eq)]
-pub enum Command {
-    /// Give the class with this id its time of this number, counted from 1.
-    Assign { class: u32, time: u32 },
-}
+// The most bytes of a line, its line end left out.
+const LINE_LIMIT: usize = 65_536;
 
 /// What a line of a script is.
-#[derive(Clone, Copy, Debug, PartialEq, Eq)]
+#[derive(Debug, Drop)]
 pub enum Line {
     /// A blank line or a comment.
-    Skipped,
+    Empty,
     /// A line in no form.
     Bad,
     /// A command.
-    Asks(Command),
+    Good(Command),
 }
 
 /// The next line, and what follows it.
@@ -53,53 +50,39 @@ fn trimmed(line: &[u8]) -> &[u8]
     }
 }
 
-// The id, or the number of a time, that a word is.
-fn id(word: &[u8]) -> Option<u32>
-    ensures { result ≡ id_of word.now }
+// Whether a line has no words, or is a comment.
+fn is_empty_line(line: &[u8]) -> bool
+    ensures { result ≡ is_empty (words_of line.now) }
 {
-    match read_decimal(word, u64::from(u32::MAX)) {
-        Some(id) => Some(id as u32),
-        None => None,
+    match Words::new(line).next() {
+        None | Some([b'#', ..]) => true,
+        Some(_) => false,
     }
 }
 
-// The command that words are.
-fn command_from(word: &[u8], class: &[u8], time: &[u8], room: &[u8]) -> Option<Command>
-    ensures { result ≡ command_of (word.now ∷ class.now ∷ time.now ∷ room.now ∷ []) }
+// What a line without its carriage return is.
+fn read_trimmed(alloc: Global, line: &[u8]) -> Result<Line, AllocError>
+    ensures ok { IfOk result (λ read. read ≡ line_of_words (words_of line.now)) }
+    ensures memory { OnErr result (IsSectionLine (words_of line.now)) }
 {
-    if word != b"assign".as_slice() || room != b"-".as_slice() {
-        return None;
+    if is_empty_line(line) {
+        return Ok(Line::Empty);
     }
-    let class = id(class)?;
-    let time = id(time)?;
-    Some(Command::Assign { class, time })
+    match parse(alloc, line) {
+        Ok(command) => Ok(Line::Good(command)),
+        Err(LineFault::Bad) => Ok(Line::Bad),
+        Err(LineFault::Memory) => Err(AllocError),
+    }
 }
 
-/// What a line asks for. Its line end is left out, a carriage return before that is not.
-pub fn read_line(line: &[u8]) -> Line
-    ensures { result ≡ line_of line.now }
+/// What a line is. Its line end is left out, a carriage return before that is not. Only a `section`
+/// line takes memory.
+pub fn read_line(alloc: Global, line: &[u8]) -> Result<Line, AllocError>
+    ensures ok { IfOk result (λ read. read ≡ line_of line.now) }
+    ensures memory { OnErr result (IsSectionLine (line_words line.now)) }
 {
     if line.len() > LINE_LIMIT {
-        return Line::Bad;
+        return Ok(Line::Bad);
     }
-    read_words(Words::new(trimmed(line)))
-}
-
-// What the words of a line ask for.
-fn read_words(mut words: Words<'_>) -> Line
-    ensures { result ≡ line_of_words words.entry }
-{
-    let Some(word) = words.next() else {
-        return Line::Skipped;
-    };
-    if let [b'#', ..] = word {
-        return Line::Skipped;
-    }
-    match (words.next(), words.next(), words.next(), words.next()) {
-        (Some(class), Some(time), Some(room), None) => match command_from(word, class, time, room) {
-            Some(command) => Line::Asks(command),
-            None => Line::Bad,
-        },
-        _ => Line::Bad,
-    }
+    read_trimmed(alloc, trimmed(line))
 }

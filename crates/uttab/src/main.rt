@@ -2,20 +2,29 @@
 #![tactic(auto)]
 
 mod arguments;
+mod reason;
 
 use arguments::{NoArguments, arguments};
+use reason::reason_of;
 use std::process::ExitCode;
 use tt_io::{RealFiles, StdSink};
 use tt_top::run;
 
 fn main(rt: HostRuntime) -> ExitCode {
     let alloc = rt.alloc();
-    let words = match arguments(&rt, alloc) {
-        Ok(words) => words,
-        Err(NoArguments::Memory) => return ExitCode::from(7),
-        Err(NoArguments::Absent) => return ExitCode::from(9),
+    let status = match arguments(&rt, alloc) {
+        Ok(words) => run(
+            alloc,
+            &words,
+            &mut RealFiles::new(rt),
+            &mut StdSink::new(rt),
+        ),
+        Err(NoArguments::Memory) => 7,
+        Err(NoArguments::Absent) => 9,
     };
-    let mut files = RealFiles::new(rt);
-    let mut out = StdSink::new(rt);
-    ExitCode::from(run(alloc, &words, &mut files, &mut out))
+    if let Some(reason) = reason_of(status) {
+        // Where standard error takes nothing, the status alone says it.
+        let _ = rt.eprintln(reason);
+    }
+    ExitCode::from(status)
 }

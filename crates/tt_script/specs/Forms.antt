@@ -1,0 +1,80 @@
+-- The forms of a line, and the command of each.
+use Rattle.std.specs.Prelude.{◌≡◌, ℕ, IsTrue, List, [], ◌∷◌, Option, None, Some, option_map, if◌then◌else◌, codes, bytes_eq}
+use Rattle.tt_text.specs.Decimal.{decimal_of, at_most}
+use Rattle.tt_script.specs.declared.command.Command.{Command}
+use Rattle.tt_script.specs.declared.command.Command.TheVariants.{Assign, Unassign, Section, Drop, Undo, Totals, Quit}
+use Rattle.tt_script.specs.declared.reading.Choice.{Choice}
+
+-- ---- words
+
+-- an id, or the number of a time: a decimal number up to 4,294,967,295
+abbrev pub id_of : List ℕ → Option ℕ
+id_of word = at_most 4294967295 (decimal_of word)
+
+-- one more id before others; none where one of them is missing
+abbrev pub with_id : Option ℕ → Option (List ℕ) → Option (List ℕ)
+with_id (Some id) (Some ids) = Some (id ∷ ids)
+with_id (Some id) None = None
+with_id None ids = None
+
+-- an id for each word
+abbrev pub ids_of : List (List ℕ) → Option (List ℕ)
+ids_of [] = Some []
+ids_of (word ∷ words) = with_id (id_of word) (ids_of words)
+
+-- a room: its id, or '-' for none
+abbrev pub room_of : List ℕ → Option (Option ℕ)
+room_of word = if bytes_eq word (codes "-") then Some None else option_map Some (id_of word)
+
+-- ---- what follows the word of a command
+
+abbrev pub choice_with : Option ℕ → Option ℕ → Option (Option ℕ) → Option Choice
+choice_with (Some class) (Some time) (Some room) = Some (record { class = class; time = time; room = room })
+choice_with (Some class) (Some time) None = None
+choice_with (Some class) None room = None
+choice_with None time room = None
+
+-- `C T R`: a class, the number of a time, and a room
+abbrev pub choice_of : List (List ℕ) → Option Choice
+choice_of (class ∷ time ∷ room ∷ []) = choice_with (id_of class) (id_of time) (room_of room)
+choice_of words = None
+
+-- `C` or `S`: one id
+abbrev pub lone_id : List (List ℕ) → Option ℕ
+lone_id (word ∷ []) = id_of word
+lone_id words = None
+
+abbrev pub section_with : Option ℕ → Option (List ℕ) → Option Command
+section_with (Some student) (Some classes) = Some (Section student classes)
+section_with (Some student) None = None
+section_with None classes = None
+
+-- `S C1 C2 ..`: a student, and then any number of classes
+abbrev pub section_of : List (List ℕ) → Option Command
+section_of [] = None
+section_of (student ∷ classes) = section_with (id_of student) (ids_of classes)
+
+-- nothing
+abbrev pub alone : Command → List (List ℕ) → Option Command
+alone command [] = Some command
+alone command (word ∷ words) = None
+
+-- ---- the table of commands
+
+-- the command that the words of a line are, if they are in one of these forms
+abbrev pub command_of : List (List ℕ) → Option Command
+command_of [] = None
+command_of (word ∷ words) =
+    if bytes_eq word (codes "assign") then option_map (λ v. Assign v.class v.time v.room) (choice_of words)
+    else if bytes_eq word (codes "unassign") then option_map Unassign (lone_id words)
+    else if bytes_eq word (codes "section") then section_of words
+    else if bytes_eq word (codes "drop") then option_map Drop (lone_id words)
+    else if bytes_eq word (codes "undo") then alone Undo words
+    else if bytes_eq word (codes "totals") then alone Totals words
+    else if bytes_eq word (codes "quit") then alone Quit words
+    else None
+
+-- The first word is `section`.
+abbrev pub IsSectionLine : List (List ℕ) → Type 0
+IsSectionLine [] = ⊥
+IsSectionLine (word ∷ words) = IsTrue (bytes_eq word (codes "section"))

@@ -1,0 +1,173 @@
+ghost use Rattle.std.specs.Prelude.{◌≡◌, ◌↔◌, ◌∷◌, [], Some, None, IfOk, IsSome, is_some, codes, bytes_eq, false, option_map};
+ghost use Rattle.tt_script.specs.Forms.{IsSectionLine, id_of, ids_of, room_of, choice_of, lone_id, alone, section_of, command_of};
+ghost use Rattle.tt_text.specs.Line.{words_of};
+
+use crate::command::{Command, Ids, LineFault};
+use std::alloc::Global;
+use tt_text::{Words, read_decimal};
+
+/// The words `C T R`: a class, the number of a time, and a room.
+#[derive(Clone, Copy)]
+pub struct Choice {
+    class: u32,
+    time: u32,
+    room: Option<u32>,
+}
+
+// The id, or the number of a time, that a word is.
+fn read_id(word: &[u8]) -> Option<u32>
+    ensures { result ≡ id_of word.now }
+{
+    match read_decimal(word, u64::from(u32::MAX)) {
+        Some(id) => Some(id as u32),
+        None => None,
+    }
+}
+
+// The room that a word is: an id, or `-` for none.
+fn read_room(word: &[u8]) -> Option<Option<u32>>
+    ensures { result ≡ room_of word.now }
+{
+    if word == b"-".as_slice() {
+        return Some(None);
+    }
+    match read_id(word) {
+        Some(id) => Some(Some(id)),
+        None => None,
+    }
+}
+
+// The choice that three words are.
+fn read_choice(class: &[u8], time: &[u8], room: &[u8]) -> Option<Choice>
+    ensures { result ≡ choice_of (class.now ∷ time.now ∷ room.now ∷ []) }
+{
+    Some(Choice {
+        class: read_id(class)?,
+        time: read_id(time)?,
+        room: read_room(room)?,
+    })
+}
+
+// The choice that the words still to come are.
+fn only_choice(mut words: Words<'_>) -> Option<Choice>
+    ensures { result ≡ choice_of words.entry }
+{
+    match (words.next(), words.next(), words.next(), words.next()) {
+        (Some(class), Some(time), Some(room), None) => read_choice(class, time, room),
+        _ => None,
+    }
+}
+
+// The one id that the words still to come are.
+fn only_id(mut words: Words<'_>) -> Option<u32>
+    ensures { result ≡ lone_id words.entry }
+{
+    match (words.next(), words.next()) {
+        (Some(word), None) => read_id(word),
+        _ => None,
+    }
+}
+
+// The command, if no word is still to come.
+fn only_word(command: Command, mut words: Words<'_>) -> Option<Command>
+    ensures { result ≡ alone command words.entry }
+{
+    match words.next() {
+        None => Some(command),
+        Some(_) => None,
+    }
+}
+
+// The command of a line that isn't a `section` line, by its first word and those after it.
+fn read_short(word: &[u8], words: Words<'_>) -> Option<Command>
+    requires { bytes_eq word.now (codes "section") ≡ false }
+    ensures { result ≡ command_of (word.now ∷ words.entry) }
+{
+    if word == b"assign".as_slice() {
+        let Choice { class, time, room } = only_choice(words)?;
+        Some(Command::Assign { class, time, room })
+    } else if word == b"unassign".as_slice() {
+        let class = only_id(words)?;
+        Some(Command::Unassign { class })
+    } else if word == b"drop".as_slice() {
+        let student = only_id(words)?;
+        Some(Command::Drop { student })
+    } else if word == b"undo".as_slice() {
+        only_word(Command::Undo, words)
+    } else if word == b"totals".as_slice() {
+        only_word(Command::Totals, words)
+    } else if word == b"quit".as_slice() {
+        only_word(Command::Quit, words)
+    } else {
+        None
+    }
+}
+
+// Whether each word still to come is an id.
+fn are_ids(mut words: Words<'_>) -> bool
+    ensures { result ≡ is_some (ids_of words.entry) }
+{
+    while let Some(word) = words.next() {
+        if read_id(word).is_none() {
+            return false;
+        }
+    }
+    true
+}
+
+// The ids that the words still to come are.
+fn read_ids(alloc: Global, mut words: Words<'_>) -> Result<Ids, LineFault>
+    ensures ok { IfOk result (λ ids. ids_of words.entry ≡ Some ids) }
+    ensures bad { result ≡ Err LineFault.Bad → ids_of words.entry ≡ None }
+    ensures memory { result ≡ Err LineFault.Memory → IsSome (ids_of words.entry) }
+{
+    let mut ids = Vec::new(alloc);
+    while let Some(word) = words.next() {
+        let Some(id) = read_id(word) else {
+            return Err(LineFault::Bad);
+        };
+        if ids.push(id).is_err() {
+            return Err(if are_ids(words) {
+                LineFault::Memory
+            } else {
+                LineFault::Bad
+            });
+        }
+    }
+    Ok(Ids::from_vec(ids))
+}
+
+// The command of a `section` line, by the words after its first one.
+fn read_section(alloc: Global, mut words: Words<'_>) -> Result<Command, LineFault>
+    ensures ok { IfOk result (λ command. section_of words.entry ≡ Some command) }
+    ensures bad { result ≡ Err LineFault.Bad → section_of words.entry ≡ None }
+    ensures memory { result ≡ Err LineFault.Memory → IsSome (section_of words.entry) }
+{
+    let Some(word) = words.next() else {
+        return Err(LineFault::Bad);
+    };
+    let Some(student) = read_id(word) else {
+        return Err(LineFault::Bad);
+    };
+    let classes = read_ids(alloc, words)?;
+    Ok(Command::Section { student, classes })
+}
+
+/// The command that a line asks for. Only that of a `section` line takes memory.
+pub fn parse(alloc: Global, line: &[u8]) -> Result<Command, LineFault>
+    ensures ok { IfOk result (λ command. command_of (words_of line.now) ≡ Some command) }
+    ensures bad { result ≡ Err LineFault.Bad ↔ (command_of (words_of line.now) ≡ None) }
+    ensures memory { result ≡ Err LineFault.Memory → IsSectionLine (words_of line.now) }
+{
+    let mut words = Words::new(line);
+    let Some(word) = words.next() else {
+        return Err(LineFault::Bad);
+    };
+    if word == b"section".as_slice() {
+        return read_section(alloc, words);
+    }
+    match read_short(word, words) {
+        Some(command) => Ok(command),
+        None => Err(LineFault::Bad),
+    }
+}
