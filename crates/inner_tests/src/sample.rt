@@ -1,0 +1,43 @@
+use std::alloc::Global;
+use std::test::Fail;
+use tt_problem::Problem;
+use tt_read::read;
+
+/// A course with a subpart of two classes and one of a third, whose parent is the first class and
+/// which has one seat; two rooms; and two students of the course.
+const TEXT: &str = r#"{"nrDays":2,"nrWeeks":2,"slotsPerDay":288,
+    "optimization":{"time":2,"room":3,"distribution":5,"student":7},
+    "rooms":[
+        {"id":71,"travel":[{"room":72,"value":6}]},
+        {"id":72,"unavailable":[{"days":"10","start":0,"length":9,"weeks":"11"}]}],
+    "courses":[{"id":40,"configs":[{"subparts":[
+        {"classes":[
+            {"id":21,"rooms":[{"id":71,"penalty":5},{"id":72,"penalty":0}],"times":[
+                {"days":"10","start":10,"length":4,"weeks":"11","penalty":6},
+                {"days":"10","start":4,"length":4,"weeks":"10","penalty":1}]},
+            {"id":22,"room":false,"times":[
+                {"days":"01","start":30,"length":2,"weeks":"01","penalty":8}]}]},
+        {"classes":[
+            {"id":23,"limit":1,"parent":21,"rooms":[{"id":72,"penalty":2}],"times":[
+                {"days":"11","start":16,"length":4,"weeks":"11","penalty":3}]}]}]}]}],
+    "distributions":[
+        {"type":"SameRoom","penalty":10,"classes":[21,23]},
+        {"type":"MaxDays(1)","penalty":4,"classes":[23,21]},
+        {"type":"MaxBreaks(0,1)","required":true,"classes":[21,23]}],
+    "students":[{"id":31,"courses":[40]},{"id":32,"courses":[40]}]}"#;
+
+/// A course with one class that needs no room, and nothing else.
+const SMALL_TEXT: &str = r#"{"nrDays":1,"nrWeeks":1,"slotsPerDay":288,
+    "optimization":{"time":1,"room":1,"distribution":1,"student":1},
+    "courses":[{"id":1,"configs":[{"subparts":[{"classes":[{"id":1,"times":[
+        {"days":"1","start":0,"length":1,"weeks":"1","penalty":0}]}]}]}]}]}"#;
+
+/// The problem that the first text holds. A part is named by its place in it.
+pub fn problem(alloc: Global) -> Result<Problem, Fail> {
+    Ok(read(alloc, TEXT.as_bytes())?)
+}
+
+/// The problem that the second text holds.
+pub fn small_problem(alloc: Global) -> Result<Problem, Fail> {
+    Ok(read(alloc, SMALL_TEXT.as_bytes())?)
+}
