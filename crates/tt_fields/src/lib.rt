@@ -4,11 +4,13 @@
 #![tactic(auto)]
 
 mod answer;
+mod document;
 mod kinds;
 mod part;
 mod trail;
 
 pub use answer::{Path, ProblemFault};
+pub use document::json_value;
 pub use kinds::{
     Items, Known, add_id, as_object, as_text, days, fault, fault_at, item_reference, known_id,
     list, list_or_none, number, object, optional_number, optional_reference, reference, required,

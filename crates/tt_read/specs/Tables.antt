@@ -14,7 +14,7 @@ use Rattle.tt_fields.specs.Kinds.{a_number, an_object, a_list, required, or_else
 use Rattle.tt_tree.specs.Context.{Context}
 use Rattle.tt_tree.specs.Tables.{Rooms, Tree, rooms_in, courses_in}
 use Rattle.tt_lists.specs.Tables.{rules_of, students_of}
-use Rattle.tt_read.specs.Text.{json_of}
+use Rattle.tt_fields.specs.Text.{json_of}
 use Rattle.tt_read.specs.declared.term.Term.{Term}
 
 -- the days of a week and the weeks of the term

@@ -1,29 +1,13 @@
-ghost use Rattle.std.specs.Prelude.{◌≡◌, option_map, IfOk};
-ghost use Rattle.serde_json.specs.View.{view};
+ghost use Rattle.std.specs.Prelude.{IfOk};
 ghost use Rattle.tt_problem.specs.Valid.{IsValid};
 ghost use Rattle.tt_fields.specs.Answer.{Gives, part_of};
-ghost use Rattle.tt_read.specs.Text.{json_of};
 ghost use Rattle.tt_read.specs.Tables.{parts_of, problem_of};
 
 use crate::passes::{first_pass, second_pass};
 use crate::sums::third_pass;
-use serde_json::{Category, Value};
-use std::alloc::{AllocError, Global};
-use tt_fields::{Part, ProblemFault, no_json, whole};
+use std::alloc::Global;
+use tt_fields::{Part, ProblemFault, json_value, no_json, whole};
 use tt_problem::{Parts, Problem};
-
-/// The JSON value that the bytes are, if they are one.
-fn json(alloc: Global, bytes: &[u8]) -> Result<Option<Value>, AllocError>
-    ensures { IfOk result (λ value. json_of bytes.now ≡ option_map view value) }
-{
-    match Value::from_slice(alloc, bytes) {
-        Ok(value) => Ok(Some(value)),
-        Err(e) => match e.classify() {
-            Category::Memory => Err(AllocError),
-            _ => Ok(None),
-        },
-    }
-}
 
 /// The parts that the whole value has, by the three passes.
 #[tactic(auto, unfolding(crate::specs::Tables::parts_of))]
@@ -43,7 +27,7 @@ fn parts_in(alloc: Global, bytes: &[u8]) -> Result<Parts, ProblemFault>
     ensures reads { Gives (λ parts. parts) result (problem_of bytes.now) }
     ensures valid { IfOk result IsValid }
 {
-    match json(alloc, bytes)? {
+    match json_value(alloc, bytes)? {
         None => Err(ProblemFault::from(no_json(alloc))),
         Some(value) => parts(alloc, &whole(alloc, &value)),
     }
