@@ -51,7 +51,7 @@ fn each_member(
 }
 
 /// The places that a list of references names, without repeats.
-pub fn members(
+pub fn distinct_places(
     alloc: Global,
     known: &Known<'_>,
     items: &Items<'_>,

@@ -5,7 +5,7 @@ ghost use Rattle.tt_fields.specs.List.{items_of, known_of, IsFew};
 ghost use Rattle.tt_lists.specs.Tables.{a_type, penalty_unless, rule_of, rules_of};
 ghost use Rattle.tt_lists.specs.Valid.{IsRuleAmong};
 
-use crate::members::members;
+use crate::members::distinct_places;
 use std::alloc::Global;
 use tt_base::Row;
 use tt_fields::{
@@ -17,7 +17,7 @@ use tt_types::read_type;
 
 /// The type of a distribution. Faults: 31, and 37 where the text is no type.
 #[tactic(auto, unfolding(crate::specs::Tables::a_type, tt_fields::specs::Kinds::required))]
-fn kind<'a>(object: &'a Part<'a>) -> Result<DistKind, Fault<'a>>
+fn read_kind<'a>(object: &'a Part<'a>) -> Result<DistKind, Fault<'a>>
     ensures { Reads (λ k. k) result (required a_type (codes "type") (part_of object.now)) }
 {
     let part = required(object, "type")?;
@@ -29,7 +29,7 @@ fn kind<'a>(object: &'a Part<'a>) -> Result<DistKind, Fault<'a>>
 
 /// The penalty of a distribution, 0 where it is required.
 #[tactic(auto, unfolding(crate::specs::Tables::penalty_unless))]
-fn penalty<'a>(required: bool, object: &'a Part<'a>) -> Result<u32, Fault<'a>>
+fn read_penalty<'a>(required: bool, object: &'a Part<'a>) -> Result<u32, Fault<'a>>
     ensures reads { Reads (λ n. n) result (penalty_unless required (part_of object.now)) }
     ensures few { IfOk result (λ n. n ≤ 1000000) }
 {
@@ -48,11 +48,11 @@ fn rule(alloc: Global, known: &Known<'_>, object: &Part<'_>) -> Result<Rule, Pro
     ensures valid { IfOk result (λ rule. IsRuleAmong known.now rule) }
 {
     as_object(object)?;
-    let kind = kind(&*object)?;
+    let kind = read_kind(&*object)?;
     let required = truth_or(false, &*object, "required")?;
-    let penalty = penalty(required, &*object)?;
+    let penalty = read_penalty(required, &*object)?;
     let items = list(&*object, "classes", 0, 2000)?;
-    let members = members(alloc, known, &items)?;
+    let members = distinct_places(alloc, known, &items)?;
     Ok(Rule {
         kind,
         required,

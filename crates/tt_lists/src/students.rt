@@ -5,7 +5,7 @@ ghost use Rattle.tt_fields.specs.List.{items_of, known_of, IsFew};
 ghost use Rattle.tt_lists.specs.Tables.{student_of, students_of, ids_of};
 ghost use Rattle.tt_lists.specs.Valid.{IsStudentAmong};
 
-use crate::members::members;
+use crate::members::distinct_places;
 use indexmap::IndexSet;
 use std::alloc::Global;
 use tt_base::Row;
@@ -31,7 +31,7 @@ fn student(
     let id = number(&*object, "id", 0, u32::MAX)?;
     add_id(object, id, ids)?;
     let items = list(&*object, "courses", 0, 40)?;
-    let courses = members(alloc, known, &items)?;
+    let courses = distinct_places(alloc, known, &items)?;
     Ok(StudentPart { id, courses })
 }
 

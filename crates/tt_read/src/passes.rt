@@ -21,7 +21,7 @@ use tt_tree::{Context, Rooms, Tree, read_courses, read_rooms};
 
 /// The days of a week and the weeks of the term.
 #[tactic(auto, unfolding(crate::specs::Tables::term_of))]
-fn term<'a>(object: &'a Part<'a>) -> Result<Term, Fault<'a>>
+fn read_term<'a>(object: &'a Part<'a>) -> Result<Term, Fault<'a>>
     ensures reads { Reads (λ term. term) result (term_of (part_of object.now)) }
     ensures valid { IfOk result (λ term. IsValidTerm term.nr_days term.nr_weeks) }
 {
@@ -33,7 +33,7 @@ fn term<'a>(object: &'a Part<'a>) -> Result<Term, Fault<'a>>
 
 /// The optimization weights.
 #[tactic(auto, unfolding(crate::specs::Tables::weights_of))]
-fn weights<'a>(object: &'a Part<'a>) -> Result<Weights, Fault<'a>>
+fn read_weights<'a>(object: &'a Part<'a>) -> Result<Weights, Fault<'a>>
     ensures reads { Reads (λ weights. weights) result (weights_of (part_of object.now)) }
     ensures valid { IfOk result AreValidWeights }
 {
@@ -84,9 +84,9 @@ pub fn first_pass<'a>(alloc: Global, object: &'a Part<'a>) -> Result<Shape<'a>, 
     ensures valid { IfOk result IsShape }
 {
     as_object(object)?;
-    let term = term(object)?;
+    let term = read_term(object)?;
     let optimization = required_object(object, "optimization")?;
-    let weights = weights(&optimization)?;
+    let weights = read_weights(&optimization)?;
     let context = unknown(term);
     let rooms = list_or_none(object, "rooms", 2500)?;
     let Rooms { ids: room_ids, .. } = read_rooms(alloc, &context, &rooms)?;

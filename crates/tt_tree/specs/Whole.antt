@@ -1,4 +1,4 @@
--- What makes rooms and courses whole.
+-- What makes rooms and courses whole. Proofs alone need it.
 use Rattle.std.specs.Prelude.{◌≡◌, ℕ, List, Ok, length, map, nat_eq}
 use Rattle.std.specs.List.{IsDistinct}
 use Rattle.tt_problem.specs.Spans.{Covers}

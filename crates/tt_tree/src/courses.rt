@@ -83,7 +83,7 @@ fn rooms_if(
 }
 
 #[tactic(auto, unfolding(crate::specs::Tables::rooms_of))]
-fn rooms(
+fn read_class_rooms(
     alloc: Global,
     context: &Context<'_>,
     object: &Part<'_>,
@@ -118,7 +118,7 @@ fn class(
     add_id(object, id, &mut tree.class_ids)?;
     let limit = optional_number(&*object, "limit", 0, u32::MAX)?;
     let parent = optional_reference(&context.classes, &*object, "parent")?;
-    let rooms = rooms(alloc, context, object)?;
+    let rooms = read_class_rooms(alloc, context, object)?;
     let items = list(&*object, "times", 1, 1000)?;
     let times = each_choice(alloc, context, &items)?;
     tree.classes.push(ClassPart {

@@ -10,9 +10,7 @@ use crate::context::Context;
 use std::alloc::Global;
 use tt_base::Row;
 use tt_bits::Time;
-use tt_fields::{
-    Fault, Items, Part, ProblemFault, as_object, days, fault, fault_at, number, weeks,
-};
+use tt_fields::{Fault, Items, Part, ProblemFault, as_object, fault, fault_at, number};
 use tt_problem::TimeChoice;
 
 #[tactic(auto, unfolding(crate::specs::Tables::length_after))]
@@ -28,15 +26,15 @@ fn length_from<'a>(object: &'a Part<'a>, start: u16) -> Result<u16, Fault<'a>>
 }
 
 #[tactic(auto, unfolding(crate::specs::Tables::time_in))]
-fn time<'a>(context: &Context<'_>, object: &'a Part<'a>) -> Result<Time, Fault<'a>>
+fn read_time<'a>(context: &Context<'_>, object: &'a Part<'a>) -> Result<Time, Fault<'a>>
     requires { IsContext context.now }
     ensures reads { Reads (λ t. t) result (time_in (context_of context.now) (part_of object.now)) }
     ensures within { IfOk result (λ t. IsTimeOf context.now.nr_days context.now.nr_weeks t) }
 {
-    let days = days(object, "days", context.nr_days)?;
+    let days = tt_fields::days(object, "days", context.nr_days)?;
     let start = number(object, "start", 0, 65_535)? as u16;
     let length = length_from(object, start)?;
-    let weeks = weeks(object, "weeks", context.nr_weeks)?;
+    let weeks = tt_fields::weeks(object, "weeks", context.nr_weeks)?;
     match Time::new(days, weeks, start, length) {
         None => Err(fault(36, object)),
         Some(time) => Ok(time),
@@ -50,7 +48,7 @@ fn choice<'a>(context: &Context<'_>, object: &'a Part<'a>) -> Result<TimeChoice,
     ensures valid { IfOk result (λ t. IsValidTime context.now.nr_days context.now.nr_weeks t) }
 {
     as_object(object)?;
-    let time = time(context, object)?;
+    let time = read_time(context, object)?;
     let penalty = number(object, "penalty", 0, 1_000_000)?;
     Ok(TimeChoice { time, penalty })
 }
@@ -62,7 +60,7 @@ fn closed<'a>(context: &Context<'_>, object: &'a Part<'a>) -> Result<Time, Fault
     ensures valid { IfOk result (λ t. IsTimeOf context.now.nr_days context.now.nr_weeks t) }
 {
     as_object(object)?;
-    time(context, object)
+    read_time(context, object)
 }
 
 #[tactic(auto, using(tt_fields::proofs::Walk::collects_more, tt_fields::proofs::Walk::collects_fault, tt_fields::proofs::Walk::collects_all, tt_fields::proofs::Walk::passed_on))]
