@@ -8,7 +8,7 @@ mod tests;
 
 use std::alloc::{AllocError, Global};
 use std::marker::Model;
-use tt_bits::Value;
+use tt_bits::{Key, Value};
 
 /// An inverse change.
 #[derive(Clone, Copy, Debug, PartialEq, Eq)]
@@ -23,6 +23,8 @@ pub enum Entry {
     Left { student: u32, class: u32 },
     /// A student got a seat in a class.
     Seated { student: u32, class: u32 },
+    /// The count of the statistics at this key was raised by one.
+    Bumped { key: Key },
 }
 
 /// Entries, of which contracts see the list, the newest first, and for how many more there is room.

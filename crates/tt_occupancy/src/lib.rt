@@ -100,6 +100,13 @@ impl Occupancy {
         spot
     }
 
+    /// The spot of each class or none.
+    pub fn spots(&self) -> &[Option<Spot>]
+        ensures { result.now ≡ self.now.spots }
+    {
+        self.spots.as_slice()
+    }
+
     /// How many pairs of placed classes have the same room and overlap.
     pub fn clashes(&self) -> u64
         ensures { result ≡ clash_pairs self.now.spots }

@@ -29,6 +29,7 @@ fn a_pair_that_shares_several_cells_is_one_pair(rt: HostRuntime) -> Result<(), F
     occupancy.put(2, late);
     assert_eq!(rt; occupancy.clashes(), 1);
     assert_eq!(rt; occupancy.take(2), late);
+    assert_eq!(rt; occupancy.spots().len(), 3);
     assert_eq!(rt; occupancy.clashes(), 0);
     occupancy.put(1, spot("01", 15, Some(1)).ok_or("spot")?);
     assert_eq!(rt; occupancy.clashes(), 0);

@@ -16,7 +16,8 @@ use Rattle.tt_problem.specs.declared.parts.Parts.{Parts}
 use Rattle.tt_problem.specs.Valid.{IsValidRule}
 use Rattle.tt_score.specs.declared.group.Group.{Group}
 use Rattle.tt_score.specs.Groups.{group_held, group_shape, group_sum}
-use Rattle.tt_score.specs.Amounts.{held_by, kind_amount, kind_cost, kind_hard, one_if_any, rule_amount, cost_of, hard_of, rule_cost, rule_hard}
+use Rattle.tt_clash.specs.Amounts.{kind_amount}
+use Rattle.tt_score.specs.Amounts.{held_by, kind_cost, kind_hard, one_if_any, rule_amount, cost_of, hard_of, rule_cost, rule_hard}
 use Rattle.tt_score.specs.KindShapes.{kind_shape, kind_weeks, shape_kind-of, shape_weeks-of}
 use Rattle.tt_score.specs.KindLaws.{kind_amount-most, few_of_kind}
 use Rattle.tt_score.specs.Members.{IsGroupOf}

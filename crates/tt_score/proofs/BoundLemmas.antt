@@ -16,7 +16,8 @@ use Rattle.tt_problem.specs.Sums.{class_cells, cells_at}
 use Rattle.tt_occupancy.specs.Clashes.{room_cells, cells_taken}
 use Rattle.tt_plan.specs.Domain.{IsOfDomain, IsValueFor, IsSpotOf, spot_at_value, spots_of, time_penalty, room_penalty}
 use Rattle.tt_score.specs.Members.{AreSpotsOf}
-use Rattle.tt_score.specs.Placed.{placed_from, over_placed, closed_count, is_closed}
+use Rattle.tt_clash.specs.Blocked.{is_closed}
+use Rattle.tt_score.specs.Placed.{placed_from, over_placed, closed_count}
 use Rattle.tt_score.specs.Kept.{IsPlanOf}
 use Rattle.tt_score.proofs.PlanLemmas.{spot_in, length-spots_from}
 

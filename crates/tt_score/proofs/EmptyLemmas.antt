@@ -19,7 +19,8 @@ use Rattle.tt_plan.specs.Domain.{spots_from, time_penalty, room_penalty}
 use Rattle.tt_score.specs.declared.group.Group.{Group}
 use Rattle.tt_score.specs.declared.classes.ClassSums.{ClassSums}
 use Rattle.tt_score.specs.declared.rules.RuleSums.{RuleSums}
-use Rattle.tt_score.specs.Amounts.{held_by, kind_amount, kind_cost, kind_hard, rule_amount, cost_of, hard_of, rule_cost, rule_hard}
+use Rattle.tt_clash.specs.Amounts.{kind_amount}
+use Rattle.tt_score.specs.Amounts.{held_by, kind_cost, kind_hard, rule_amount, cost_of, hard_of, rule_cost, rule_hard}
 use Rattle.tt_score.specs.KindLaws.{kind_amount-empty}
 use Rattle.tt_score.specs.Members.{AreGroupsOf}
 use Rattle.tt_score.specs.Placed.{placed_from, closed_count, unplaced_count}

@@ -11,7 +11,7 @@ use Rattle.tt_blocks.specs.declared.rules.CellRule.TheVariants.{Breaks, Block}
 use Rattle.tt_blocks.specs.CellLaws.{amount_over-empty, amount_over-most, few_amounts}
 use Rattle.tt_problem.specs.declared.parts.DistKind.{DistKind}
 use Rattle.tt_problem.specs.declared.parts.DistKind.TheVariants.{Pair, MaxDays, MaxDayLoad, MaxBreaks, MaxBlock}
-use Rattle.tt_score.specs.Amounts.{kind_amount}
+use Rattle.tt_clash.specs.Amounts.{kind_amount}
 
 -- nobody placed: nothing
 pub kind_amount-empty : (kind : DistKind) (weeks : ℕ) (t : Table) (n : ℕ) → kind_amount kind weeks t (replicate n None) ≡ 0

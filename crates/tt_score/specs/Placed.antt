@@ -1,11 +1,9 @@
 -- Sums over the placed classes of a plan.
-use Rattle.std.specs.Prelude.{ℕ, ◌+◌, Bool, false, cond, List, [], ◌∷◌, Option, Some, None, slice_get, count_by, is_none}
+use Rattle.std.specs.Prelude.{ℕ, ◌+◌, cond, List, [], ◌∷◌, Option, Some, None, count_by, is_none}
 use Rattle.std.specs.Option.{option_map_or}
-use Rattle.std.specs.List.{list_any}
-use Rattle.tt_bits.specs.declared.times.Spot.{Spot}
 use Rattle.tt_bits.specs.declared.times.Value.{Value}
-use Rattle.tt_bits.specs.Times.{overlaps}
 use Rattle.tt_problem.specs.declared.parts.Parts.{Parts}
+use Rattle.tt_clash.specs.Blocked.{is_closed}
 use Rattle.tt_plan.specs.Domain.{spot_at_value}
 
 -- the sum over the placed classes of a plan of which the first class is at this place
@@ -17,10 +15,6 @@ placed_from f class (Some v ∷ plan) = f class v + placed_from f (class + 1) pl
 -- the sum over the placed classes
 abbrev pub over_placed : (ℕ → Value → ℕ) → List (Option Value) → ℕ
 over_placed f plan = placed_from f 0 plan
-
--- whether the room of a spot is unavailable at an overlapping time
-unfoldable pub is_closed : Parts → Spot → Bool
-is_closed p x = option_map_or (λ room. option_map_or (λ r. list_any (λ t. overlaps x.time t) r.closed) (slice_get p.rooms room) false) x.room false
 
 -- 1 where the room of a value is unavailable at an overlapping time
 unfoldable pub closed_count : Parts → ℕ → Value → ℕ

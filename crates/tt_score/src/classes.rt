@@ -1,14 +1,13 @@
-ghost use Rattle.std.specs.Prelude.{◌≡◌, ◌+◌, ◌*◌, ◌<◌, ◌≤◌, option_and_then, Some, None, IfSome, length, slice_set};
+ghost use Rattle.std.specs.Prelude.{◌≡◌, ◌+◌, ◌*◌, ◌<◌, ◌≤◌, option_and_then, Some, None, length, slice_set};
 ghost use Rattle.std.specs.Prelude.{slice_index_or};
-ghost use Rattle.std.specs.List.{list_any};
-ghost use Rattle.tt_bits.specs.Times.{overlaps};
 ghost use Rattle.tt_problem.specs.Valid.{IsValid};
 ghost use Rattle.tt_plan.specs.Domain.{IsOfDomain, IsSpotOf, spot_at_value, time_penalty, room_penalty};
-ghost use Rattle.tt_score.specs.Placed.{is_closed, closed_count, over_placed};
+ghost use Rattle.tt_score.specs.Placed.{closed_count, over_placed};
 ghost use Rattle.tt_score.specs.Paid.{paid_at};
 ghost use Rattle.tt_score.specs.Kept.{AreClassSums, IsPlanOf};
 
-use tt_bits::{Spot, Time, Value};
+use tt_bits::{Spot, Value};
+use tt_clash::is_closed;
 use tt_plan::{room_penalty, spot, time_penalty};
 use tt_problem::Problem;
 
@@ -19,28 +18,6 @@ pub struct ClassSums {
     pub room: u64,
     pub closed: u64,
     pub unplaced: u32,
-}
-
-/// Whether a time overlaps one of others.
-fn overlaps_any(time: Time, others: &[Time]) -> bool
-    ensures { result ≡ list_any (λ other. overlaps time other) others.now }
-{
-    others.iter().any(|other| time.overlaps(other))
-}
-
-/// Whether the room of a spot is unavailable at an overlapping time.
-#[tactic(auto, unfolding(crate::specs::Placed::is_closed))]
-fn is_closed(problem: &Problem, spot: Spot) -> bool
-    requires { IfSome spot.room (λ room. room < length problem.now.rooms) }
-    ensures { result ≡ is_closed problem.now spot }
-{
-    match spot.room {
-        None => false,
-        Some(room) => {
-            let part = problem.room(room);
-            overlaps_any(spot.time, part.closed.as_slice())
-        }
-    }
 }
 
 /// 1 where the room of a value is unavailable at an overlapping time, else 0.

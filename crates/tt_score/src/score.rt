@@ -9,6 +9,7 @@ use crate::totals::{Totals, weighted};
 use crate::trial::costs_with;
 use std::alloc::{AllocError, Global};
 use tt_bits::Value;
+use tt_clash::conflicts;
 use tt_measure::Measure;
 use tt_occupancy::Occupancy;
 use tt_plan::spot;
@@ -33,10 +34,14 @@ pub struct Score {
 }
 
 impl Score {
-    ghost use Rattle.std.specs.Prelude.{◌≡◌, ◌<◌, ◌≤◌, Some, None, IsSome, IfOk, [], false, true, length, slice_index, replicate, slice_get, slice_set, slice_index_or};
+    ghost use Rattle.std.specs.Prelude.{◌≡◌, ◌<◌, ◌≤◌, All, Some, None, IsSome, IfOk, [], false, true, length, slice_index, replicate, slice_get, slice_set, slice_index_or, option_and_then, take};
+    ghost use Rattle.std.specs.Option.{option_map_or};
     ghost use Rattle.tt_problem.specs.declared.parts.Parts.{Parts};
     ghost use Rattle.tt_problem.specs.declared.parts.Rule.{Rule};
-    ghost use Rattle.tt_plan.specs.Domain.{IsOfDomain, spots_of};
+    ghost use Rattle.tt_clash.specs.Amounts.{rule_amounts};
+    ghost use Rattle.tt_clash.specs.Blocked.{blocked_by};
+    ghost use Rattle.tt_clash.specs.ConflictSet.{conflict_set};
+    ghost use Rattle.tt_plan.specs.Domain.{IsOfDomain, spot_at_value, spots_of};
     ghost use Rattle.tt_score.specs.Amounts.{rule_amount, rule_cost};
     ghost use Rattle.tt_score.specs.Kept.{Fits, plan_of, seats_of, occupancy_of, roster_of, group_count};
     ghost use Rattle.tt_roster.specs.Lists.{has_class, with_class, without_class, list_of};
@@ -255,5 +260,45 @@ impl Score {
         );
         let student = conflicts_with(problem, &self.roster, class, has, spot);
         weighted(self.weights, paid.time, paid.room, distribution, student)
+    }
+
+    /// Lists the classes that have to go where a class is forced to a value that isn't blocked: those
+    /// that overlap it in its room or break a required pair rule with it, and for each required rule
+    /// of MaxDays, MaxDayLoad, MaxBreaks and MaxBlock with it as many of the remaining members, in
+    /// member order, as bring the amount to 0. `order` begins with them, and the answer is how many
+    /// they are.
+    pub fn conflicts(
+        &mut self,
+        problem: &Problem,
+        class: u32,
+        value: Value,
+        marks: &mut [bool],
+        order: &mut [u32],
+    ) -> u32
+        requires fits { Fits problem.now self.old }
+        requires value { IsOfDomain problem.now class value }
+        requires open { option_and_then (blocked_by problem.now class) (spot_at_value problem.now class value) ≡ None }
+        requires marks { length marks.old ≡ length problem.now.classes }
+        requires unmarked { All (λ marked. marked ≡ false) marks.old }
+        requires order { length order.old ≡ length problem.now.classes }
+        ensures set { take result order.new
+            ≡ option_map_or (conflict_set problem.now (rule_amounts problem.now) (spots_of problem.now (plan_of self.old)) class) (spot_at_value problem.now class value) [] }
+        ensures few { result ≤ length order.new }
+        ensures marks { marks.new ≡ marks.old }
+        ensures plan { plan_of self.new ≡ plan_of self.old }
+        ensures seats { seats_of self.new ≡ seats_of self.old }
+        ensures fits { Fits problem.now self.new }
+    {
+        let spot = spot(problem, class, value);
+        conflicts(
+            problem,
+            self.occupancy.spots(),
+            &self.occupancy,
+            self.groups.as_mut_slice(),
+            class,
+            spot,
+            marks,
+            order,
+        )
     }
 }

@@ -1,9 +1,10 @@
 -- The forms of a line, and the command of each.
-use Rattle.std.specs.Prelude.{◌≡◌, ℕ, IsTrue, List, [], ◌∷◌, Option, None, Some, option_map, if◌then◌else◌, codes, bytes_eq}
+use Rattle.std.specs.Prelude.{ℕ, IsTrue, List, [], ◌∷◌, Option, None, Some, option_map, if◌then◌else◌, codes, bytes_eq}
 use Rattle.tt_text.specs.Decimal.{decimal_of, at_most}
 use Rattle.tt_script.specs.declared.command.Command.{Command}
-use Rattle.tt_script.specs.declared.command.Command.TheVariants.{Assign, Unassign, Section, Drop, Undo, Totals, Quit}
+use Rattle.tt_script.specs.declared.command.Command.TheVariants.{Assign, Unassign, Force, Section, Drop, Enrol, EnrolAll, Search, Repair, Recall, Undo, Publish, Totals, Explain, Why, Stats, Quit}
 use Rattle.tt_script.specs.declared.reading.Choice.{Choice}
+use Rattle.tt_script.specs.declared.reading.Turns.{Turns}
 
 -- ---- words
 
@@ -26,6 +27,14 @@ ids_of (word ∷ words) = with_id (id_of word) (ids_of words)
 abbrev pub room_of : List ℕ → Option (Option ℕ)
 room_of word = if bytes_eq word (codes "-") then Some None else option_map Some (id_of word)
 
+-- a number of turns: up to 1,000,000
+abbrev pub count_of : List ℕ → Option ℕ
+count_of word = at_most 1000000 (decimal_of word)
+
+-- a seed: up to 18,446,744,073,709,551,615
+abbrev pub seed_of : List ℕ → Option ℕ
+seed_of word = at_most 18446744073709551615 (decimal_of word)
+
 -- ---- what follows the word of a command
 
 abbrev pub choice_with : Option ℕ → Option ℕ → Option (Option ℕ) → Option Choice
@@ -39,10 +48,25 @@ abbrev pub choice_of : List (List ℕ) → Option Choice
 choice_of (class ∷ time ∷ room ∷ []) = choice_with (id_of class) (id_of time) (room_of room)
 choice_of words = None
 
+abbrev pub turns_with : Option ℕ → Option ℕ → Option Turns
+turns_with (Some count) (Some seed) = Some (record { count = count; seed = seed })
+turns_with (Some count) None = None
+turns_with None seed = None
+
+-- `N SEED`: a number of turns, and the seed
+abbrev pub turns_of : List (List ℕ) → Option Turns
+turns_of (count ∷ seed ∷ []) = turns_with (count_of count) (seed_of seed)
+turns_of words = None
+
 -- `C` or `S`: one id
 abbrev pub lone_id : List (List ℕ) → Option ℕ
 lone_id (word ∷ []) = id_of word
 lone_id words = None
+
+-- `all`, or `S`: one id
+abbrev pub enrol_of : List (List ℕ) → Option Command
+enrol_of (word ∷ []) = if bytes_eq word (codes "all") then Some EnrolAll else option_map Enrol (id_of word)
+enrol_of words = None
 
 abbrev pub section_with : Option ℕ → Option (List ℕ) → Option Command
 section_with (Some student) (Some classes) = Some (Section student classes)
@@ -67,10 +91,19 @@ command_of [] = None
 command_of (word ∷ words) =
     if bytes_eq word (codes "assign") then option_map (λ v. Assign v.class v.time v.room) (choice_of words)
     else if bytes_eq word (codes "unassign") then option_map Unassign (lone_id words)
+    else if bytes_eq word (codes "force") then option_map (λ v. Force v.class v.time v.room) (choice_of words)
     else if bytes_eq word (codes "section") then section_of words
     else if bytes_eq word (codes "drop") then option_map Drop (lone_id words)
+    else if bytes_eq word (codes "enrol") then enrol_of words
+    else if bytes_eq word (codes "search") then option_map (λ t. Search t.count t.seed) (turns_of words)
+    else if bytes_eq word (codes "repair") then option_map (λ t. Repair t.count t.seed) (turns_of words)
+    else if bytes_eq word (codes "recall") then alone Recall words
     else if bytes_eq word (codes "undo") then alone Undo words
+    else if bytes_eq word (codes "publish") then alone Publish words
     else if bytes_eq word (codes "totals") then alone Totals words
+    else if bytes_eq word (codes "explain") then option_map Explain (lone_id words)
+    else if bytes_eq word (codes "why") then option_map (λ v. Why v.class v.time v.room) (choice_of words)
+    else if bytes_eq word (codes "stats") then option_map Stats (lone_id words)
     else if bytes_eq word (codes "quit") then alone Quit words
     else None
 

@@ -17,6 +17,12 @@ pub enum Command {
     Unassign {
         class: u32,
     },
+    /// The same as `Assign`, and take out the classes that are in conflict with it.
+    Force {
+        class: u32,
+        time: u32,
+        room: Option<u32>,
+    },
     /// Give the student these classes in place of those he has.
     Section {
         student: u32,
@@ -26,10 +32,44 @@ pub enum Command {
     Drop {
         student: u32,
     },
+    /// Find classes for the student.
+    Enrol {
+        student: u32,
+    },
+    /// Find classes for each student who has none.
+    EnrolAll,
+    /// Search for a better timetable, by at most 1,000,000 turns.
+    Search {
+        turns: u32,
+        seed: u64,
+    },
+    /// Search for one that is close to the published one, by at most 1,000,000 turns.
+    Repair {
+        turns: u32,
+        seed: u64,
+    },
+    /// Go back to the published timetable.
+    Recall,
     /// Go back by one step.
     Undo,
+    /// Publish the timetable.
+    Publish,
     /// Say the totals.
     Totals,
+    /// Say what a class costs.
+    Explain {
+        class: u32,
+    },
+    /// Say what would follow if the class had this value.
+    Why {
+        class: u32,
+        time: u32,
+        room: Option<u32>,
+    },
+    /// Say how often the class took out others.
+    Stats {
+        class: u32,
+    },
     /// End the script.
     Quit,
 }

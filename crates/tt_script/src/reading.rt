@@ -1,10 +1,13 @@
 ghost use Rattle.std.specs.Prelude.{◌≡◌, ◌↔◌, ◌∷◌, [], Some, None, IfOk, IsSome, is_some, codes, bytes_eq, false, option_map};
-ghost use Rattle.tt_script.specs.Forms.{IsSectionLine, id_of, ids_of, room_of, choice_of, lone_id, alone, section_of, command_of};
+ghost use Rattle.tt_script.specs.Forms.{IsSectionLine, id_of, ids_of, room_of, count_of, seed_of, choice_of, turns_of, lone_id, enrol_of, section_of, alone, command_of};
 ghost use Rattle.tt_text.specs.Line.{words_of};
 
 use crate::command::{Command, Ids, LineFault};
 use std::alloc::Global;
 use tt_text::{Words, read_decimal};
+
+// The most turns of a command.
+const MOST_TURNS: u64 = 1_000_000;
 
 /// The words `C T R`: a class, the number of a time, and a room.
 #[derive(Clone, Copy)]
@@ -12,6 +15,13 @@ pub struct Choice {
     class: u32,
     time: u32,
     room: Option<u32>,
+}
+
+/// The words `N SEED`: a number of turns, and the seed of their random words.
+#[derive(Clone, Copy)]
+pub struct Turns {
+    count: u32,
+    seed: u64,
 }
 
 // The id, or the number of a time, that a word is.
@@ -37,6 +47,23 @@ fn read_room(word: &[u8]) -> Option<Option<u32>>
     }
 }
 
+// The number of turns that a word is.
+fn read_count(word: &[u8]) -> Option<u32>
+    ensures { result ≡ count_of word.now }
+{
+    match read_decimal(word, MOST_TURNS) {
+        Some(count) => Some(count as u32),
+        None => None,
+    }
+}
+
+// The seed that a word is.
+fn read_seed(word: &[u8]) -> Option<u64>
+    ensures { result ≡ seed_of word.now }
+{
+    read_decimal(word, u64::MAX)
+}
+
 // The choice that three words are.
 fn read_choice(class: &[u8], time: &[u8], room: &[u8]) -> Option<Choice>
     ensures { result ≡ choice_of (class.now ∷ time.now ∷ room.now ∷ []) }
@@ -58,6 +85,26 @@ fn only_choice(mut words: Words<'_>) -> Option<Choice>
     }
 }
 
+// The number of turns and the seed that two words are.
+fn read_turns(count: &[u8], seed: &[u8]) -> Option<Turns>
+    ensures { result ≡ turns_of (count.now ∷ seed.now ∷ []) }
+{
+    Some(Turns {
+        count: read_count(count)?,
+        seed: read_seed(seed)?,
+    })
+}
+
+// The number of turns and the seed that the words still to come are.
+fn only_turns(mut words: Words<'_>) -> Option<Turns>
+    ensures { result ≡ turns_of words.entry }
+{
+    match (words.next(), words.next(), words.next()) {
+        (Some(count), Some(seed), None) => read_turns(count, seed),
+        _ => None,
+    }
+}
+
 // The one id that the words still to come are.
 fn only_id(mut words: Words<'_>) -> Option<u32>
     ensures { result ≡ lone_id words.entry }
@@ -66,6 +113,20 @@ fn only_id(mut words: Words<'_>) -> Option<u32>
         (Some(word), None) => read_id(word),
         _ => None,
     }
+}
+
+// The command of an `enrol` line, by the words after its first one: for all students, or for one.
+fn read_enrol(mut words: Words<'_>) -> Option<Command>
+    ensures { result ≡ enrol_of words.entry }
+{
+    let (Some(word), None) = (words.next(), words.next()) else {
+        return None;
+    };
+    if word == b"all".as_slice() {
+        return Some(Command::EnrolAll);
+    }
+    let student = read_id(word)?;
+    Some(Command::Enrol { student })
 }
 
 // The command, if no word is still to come.
@@ -89,13 +150,37 @@ fn read_short(word: &[u8], words: Words<'_>) -> Option<Command>
     } else if word == b"unassign".as_slice() {
         let class = only_id(words)?;
         Some(Command::Unassign { class })
+    } else if word == b"force".as_slice() {
+        let Choice { class, time, room } = only_choice(words)?;
+        Some(Command::Force { class, time, room })
     } else if word == b"drop".as_slice() {
         let student = only_id(words)?;
         Some(Command::Drop { student })
+    } else if word == b"enrol".as_slice() {
+        read_enrol(words)
+    } else if word == b"search".as_slice() {
+        let Turns { count: turns, seed } = only_turns(words)?;
+        Some(Command::Search { turns, seed })
+    } else if word == b"repair".as_slice() {
+        let Turns { count: turns, seed } = only_turns(words)?;
+        Some(Command::Repair { turns, seed })
+    } else if word == b"recall".as_slice() {
+        only_word(Command::Recall, words)
     } else if word == b"undo".as_slice() {
         only_word(Command::Undo, words)
+    } else if word == b"publish".as_slice() {
+        only_word(Command::Publish, words)
     } else if word == b"totals".as_slice() {
         only_word(Command::Totals, words)
+    } else if word == b"explain".as_slice() {
+        let class = only_id(words)?;
+        Some(Command::Explain { class })
+    } else if word == b"why".as_slice() {
+        let Choice { class, time, room } = only_choice(words)?;
+        Some(Command::Why { class, time, room })
+    } else if word == b"stats".as_slice() {
+        let class = only_id(words)?;
+        Some(Command::Stats { class })
     } else if word == b"quit".as_slice() {
         only_word(Command::Quit, words)
     } else {

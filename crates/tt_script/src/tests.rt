@@ -29,6 +29,46 @@ fn each_form_gives_its_command(rt: HostRuntime) -> Result<(), Fail> {
     assert!(rt; matches!(unassign, Command::Unassign { class: 7 }));
     let drop = parse(alloc, b"drop 3")?;
     assert!(rt; matches!(drop, Command::Drop { student: 3 }));
+    let force = parse(alloc, b"force 7 2 9")?;
+    let is_force = matches!(
+        force,
+        Command::Force {
+            class: 7,
+            time: 2,
+            room: Some(9)
+        }
+    );
+    assert!(rt; is_force);
+    let why = parse(alloc, b"why 7 2 -")?;
+    let is_why = matches!(
+        why,
+        Command::Why {
+            class: 7,
+            time: 2,
+            room: None
+        }
+    );
+    assert!(rt; is_why);
+    let enrol = parse(alloc, b"enrol 3")?;
+    assert!(rt; matches!(enrol, Command::Enrol { student: 3 }));
+    assert!(rt; matches!(parse(alloc, b"enrol all")?, Command::EnrolAll));
+    let search = parse(alloc, b"search 1000000 18446744073709551615")?;
+    let is_search = matches!(
+        search,
+        Command::Search {
+            turns: 1_000_000,
+            seed: 18_446_744_073_709_551_615
+        }
+    );
+    assert!(rt; is_search);
+    let repair = parse(alloc, b"repair 0 00000000000000000007")?;
+    assert!(rt; matches!(repair, Command::Repair { turns: 0, seed: 7 }));
+    let explain = parse(alloc, b"explain 7")?;
+    assert!(rt; matches!(explain, Command::Explain { class: 7 }));
+    let stats = parse(alloc, b"stats 7")?;
+    assert!(rt; matches!(stats, Command::Stats { class: 7 }));
+    assert!(rt; matches!(parse(alloc, b"recall")?, Command::Recall));
+    assert!(rt; matches!(parse(alloc, b"publish")?, Command::Publish));
     assert!(rt; matches!(parse(alloc, b"undo")?, Command::Undo));
     assert!(rt; matches!(parse(alloc, b"totals")?, Command::Totals));
     assert!(rt; matches!(parse(alloc, b"quit")?, Command::Quit));
@@ -53,7 +93,7 @@ fn a_section_line_gives_its_classes_in_order(rt: HostRuntime) -> Result<(), Fail
 
 #[test]
 fn a_line_in_no_form_is_bad(rt: HostRuntime) {
-    let lines: [&[u8]; 16] = [
+    let lines: [&[u8]; 22] = [
         b"",
         b"# undo",
         b"fly",
@@ -68,6 +108,12 @@ fn a_line_in_no_form_is_bad(rt: HostRuntime) {
         b"assign 1 1 +",
         b"unassign",
         b"drop 1 2",
+        b"enrol",
+        b"enrol all 1",
+        b"search 1000001 1",
+        b"search 1 18446744073709551616",
+        b"repair 1",
+        b"recall 1",
         b"section",
         b"section 1 2 x 3",
     ];

@@ -1,0 +1,4 @@
+pub mod KeyOrder
+pub mod Counts
+pub mod Listed
+pub mod Kept

@@ -1,0 +1,41 @@
+-- What the code keeps: marks by class, and the marked classes listed. Proofs alone need it.
+use Rattle.std.specs.Prelude.{◌≡◌, ℕ, Bool, false, not, is_some, ◌&&◌, ◌||◌, ◌==◌, List, Option, None, if◌then◌else◌, slice_index_or, take, count_by}
+use Rattle.tt_bits.specs.declared.times.Spot.{Spot}
+use Rattle.tt_bits.specs.declared.pairs.PairKind.{PairKind}
+use Rattle.tt_bits.specs.Spots.{spot_at}
+use Rattle.tt_travel.specs.Table.{Table}
+use Rattle.tt_occupancy.specs.Clashes.{clash}
+use Rattle.tt_clash.specs.ConflictSet.{is_in, passes, breaks_at, breaks_pair}
+
+-- d overlaps c in its room
+abbrev pub clashes_in_room : List (Option Spot) → ℕ → Spot → ℕ → Bool
+clashes_in_room spots c x d = passes spots c (clash x) d
+
+-- the member d at another place breaks the pair rule with c
+abbrev pub breaks_with : Table → PairKind → List (Option Spot) → ℕ → ℕ → Spot → ℕ → ℕ → Bool
+breaks_with t kind spots c place x other d = passes spots c (breaks_at t kind place x other) d
+
+-- d breaks the pair rule with c
+abbrev pub clashes_in_rule : Table → PairKind → List ℕ → List (Option Spot) → ℕ → ℕ → Spot → ℕ → Bool
+clashes_in_rule t kind members spots c place x d = passes spots c (breaks_pair t kind members place x d) d
+
+-- what a class has, where those that pass the test have nothing
+abbrev pub spot_unless : (ℕ → Bool) → List (Option Spot) → ℕ → Option Spot
+spot_unless out spots d = if out d then None else spot_at spots d
+
+-- what a class that passes the test has in the plan
+abbrev pub lent_spot : (ℕ → Bool) → List (Option Spot) → ℕ → Option Spot
+lent_spot out spots d = if out d then spot_at spots d else None
+
+-- the class c and the marked ones
+abbrev pub is_out : ℕ → List Bool → ℕ → Bool
+is_out c marks d = (d == c) || slice_index_or marks d false
+
+-- the class is another than c, it is placed, and it isn't marked
+abbrev pub may_go : List (Option Spot) → ℕ → List Bool → ℕ → Bool
+may_go spots c marks d = not (d == c) && not (slice_index_or marks d false) && is_some (spot_at spots d)
+
+-- exactly the first `count` classes of `order` are marked, and each is listed once
+pub record IsListed (marks : List Bool) (order : List ℕ) (count : ℕ) : Type 0 where
+  pub counted : count ≡ count_by (λ b. b) marks
+  pub each : (d : ℕ) → slice_index_or marks d false ≡ is_in (take count order) d

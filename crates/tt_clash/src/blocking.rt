@@ -1,0 +1,67 @@
+ghost use Rattle.std.specs.Prelude.{◌≡◌, ◌<◌, ◌≤◌, length, IfSome};
+ghost use Rattle.std.specs.List.{list_any};
+ghost use Rattle.tt_bits.specs.Times.{overlaps};
+ghost use Rattle.tt_bits.specs.Spots.{IsBelow};
+ghost use Rattle.tt_problem.specs.Valid.{IsValidRule};
+ghost use Rattle.tt_clash.specs.RulesOf.{IsMemberOf};
+ghost use Rattle.tt_clash.specs.Blocked.{is_closed, blocks_alone, blocked_by};
+
+use crate::Block;
+use crate::rules::rules_of;
+use tt_bits::{Spot, Time};
+use tt_problem::{DistKind, Problem, Rule};
+
+/// Why the spot is blocked for the class, if it is.
+pub fn blocked(problem: &Problem, class: u32, spot: Spot) -> Option<Block>
+    requires class { class < length problem.now.classes }
+    requires room { IfSome spot.room (λ room. room < length problem.now.rooms) }
+    requires weeks { IsBelow problem.now.nr_weeks spot }
+    ensures { result ≡ blocked_by problem.now class spot }
+{
+    if is_closed(problem, spot) {
+        return Some(Block::Closed);
+    }
+    for with in rules_of(problem, class) {
+        if blocks_alone(problem, problem.rule(with.rule), class, spot) {
+            return Some(Block::Rule(with.rule));
+        }
+    }
+    None
+}
+
+/// Whether the spot's room is unavailable at an overlapping time.
+#[tactic(auto, unfolding(crate::specs::Blocked::is_closed))]
+pub fn is_closed(problem: &Problem, spot: Spot) -> bool
+    requires room { IfSome spot.room (λ room. room < length problem.now.rooms) }
+    ensures { result ≡ is_closed problem.now spot }
+{
+    match spot.room {
+        Some(room) => overlaps_some(problem.room(room).closed.as_slice(), spot.time),
+        None => false,
+    }
+}
+
+/// Whether the time overlaps one of some times.
+fn overlaps_some(times: &[Time], time: Time) -> bool
+    ensures { result ≡ list_any (λ t. overlaps time t) times.now }
+{
+    times.iter().any(|other| time.overlaps(other))
+}
+
+/// Whether a rule with the class is a required group rule whose amount is above 0 with the class
+/// alone at the spot.
+fn blocks_alone(problem: &Problem, rule: &Rule, class: u32, spot: Spot) -> bool
+    requires valid { IsValidRule problem.now rule.now }
+    requires member { IsMemberOf rule.now.members class }
+    requires weeks { IsBelow problem.now.nr_weeks spot }
+    ensures { result ≡ blocks_alone problem.now rule.now class spot }
+{
+    rule.required
+        && match rule.kind {
+            DistKind::MaxDays { most } => u16::from(spot.time.days.count()) > most,
+            DistKind::MaxDayLoad { most } => spot.time.length > most,
+            DistKind::Pair { kind: _ }
+            | DistKind::MaxBreaks { breaks: _, gap: _ }
+            | DistKind::MaxBlock { most: _, gap: _ } => false,
+        }
+}

@@ -1,0 +1,242 @@
+ghost use Rattle.std.specs.Prelude.{◌≡◌, ℕ, ◌<◌, ◌≤◌, All, IfSome, ◌||◌, false, slice_index_or, length, take, filter};
+ghost use Rattle.std.specs.List.{range_with_len};
+ghost use Rattle.tt_bits.specs.Spots.{IsBelow};
+ghost use Rattle.tt_travel.specs.Table.{IsRoomOf};
+ghost use Rattle.tt_measure.specs.Held.{AreRoomsOf};
+ghost use Rattle.tt_problem.specs.RulePlaces.{rules_of};
+ghost use Rattle.tt_clash.specs.ConflictSet.{clashes, clashing, conflict_set, is_in};
+ghost use Rattle.tt_clash.specs.Freed.{IsFreeAlone, IsFreedRule};
+ghost use Rattle.tt_clash.specs.Groups.{amounts_of, SameGroups, AreGroupsOf};
+ghost use Rattle.tt_clash.specs.Marks.{IsListed, clashes_in_room, clashes_in_rule, breaks_with};
+
+use crate::group::make_room;
+use crate::rules::{is_required_group, required_pair, rules_of};
+use tt_bits::{PairKind, Spot, holds};
+use tt_measure::Measure;
+use tt_occupancy::Occupancy;
+use tt_problem::Problem;
+use tt_travel::Travel;
+
+/// Lists the classes that have to go where the class is forced to the spot. `order` begins with
+/// them, and the answer is how many they are. Groups and marks are left as they were.
+pub fn conflicts<M: Measure>(
+    problem: &Problem,
+    spots: &[Option<Spot>],
+    occupancy: &Occupancy,
+    groups: &mut [M],
+    class: u32,
+    spot: Spot,
+    marks: &mut [bool],
+    order: &mut [u32],
+) -> u32
+    requires class { class < length problem.now.classes }
+    requires spots { length spots.now ≡ length problem.now.classes }
+    requires room { IsRoomOf problem.now.travel spot.room }
+    requires weeks { IsBelow problem.now.nr_weeks spot }
+    requires rooms { AreRoomsOf problem.now.travel spots.now }
+    requires occupancy { occupancy.now.spots ≡ spots.now }
+    requires groups { AreGroupsOf M.held M.weeks M.fits problem.now spots.now groups.old }
+    requires free { All (IsFreeAlone problem.now (amounts_of M.shape M.sum problem.now.travel groups.old) class spot) (rules_of problem.now class) }
+    requires marks { length marks.old ≡ length spots.now }
+    requires unmarked { All (λ b. b ≡ false) marks.old }
+    requires order { length order.old ≡ length spots.now }
+    ensures set { take result order.new ≡ conflict_set problem.now (amounts_of M.shape M.sum problem.now.travel groups.old) spots.now class spot }
+    ensures few { result ≤ length order.new }
+    ensures frees { All (IsFreedRule problem.now (amounts_of M.shape M.sum problem.now.travel groups.old) spots.now class spot (take result order.new)) (rules_of problem.now class) }
+    ensures groups { AreGroupsOf M.held M.weeks M.fits problem.now spots.now groups.new }
+    ensures same { SameGroups M.held M.weeks M.spare M.shape groups.old groups.new }
+    ensures marks { marks.new ≡ marks.old }
+{
+    let rules = rules_of(problem, class);
+    let mut count = list_clashing(problem, spots, occupancy, class, spot, marks, order);
+    for with in rules {
+        let rule = problem.rule(with.rule);
+        if is_required_group(rule) {
+            count = make_room(
+                &mut groups[with.rule as usize],
+                problem.travel(),
+                rule.members.as_slice(),
+                spots,
+                class,
+                with.place,
+                spot,
+                marks,
+                order,
+                count,
+            );
+        }
+    }
+    clear_marks(marks, &order[..count as usize]);
+    count
+}
+
+/// Marks and lists the classes that clash with the class at the spot. The answer is how many they
+/// are.
+fn list_clashing(
+    problem: &Problem,
+    spots: &[Option<Spot>],
+    occupancy: &Occupancy,
+    class: u32,
+    spot: Spot,
+    marks: &mut [bool],
+    order: &mut [u32],
+) -> u32
+    requires class { class < length problem.now.classes }
+    requires spots { length spots.now ≡ length problem.now.classes }
+    requires room { IsRoomOf problem.now.travel spot.room }
+    requires rooms { AreRoomsOf problem.now.travel spots.now }
+    requires occupancy { occupancy.now.spots ≡ spots.now }
+    requires marks { length marks.old ≡ length spots.now }
+    requires unmarked { All (λ b. b ≡ false) marks.old }
+    requires order { length order.old ≡ length spots.now }
+    ensures list { take result order.new ≡ clashing problem.now spots.now class spot }
+    ensures listed { IsListed marks.new order.new result }
+    ensures few { result ≤ length order.new }
+{
+    problem.validity();
+    if !mark_clashing(problem, spots, occupancy, class, spot, marks) {
+        return 0;
+    }
+    list_marked(marks, order)
+}
+
+/// Marks the classes that clash with the class at the spot. Where the answer is false, there is none.
+fn mark_clashing(
+    problem: &Problem,
+    spots: &[Option<Spot>],
+    occupancy: &Occupancy,
+    class: u32,
+    spot: Spot,
+    marks: &mut [bool],
+) -> bool
+    requires class { class < length problem.now.classes }
+    requires spots { length spots.now ≡ length problem.now.classes }
+    requires room { IsRoomOf problem.now.travel spot.room }
+    requires rooms { AreRoomsOf problem.now.travel spots.now }
+    requires occupancy { occupancy.now.spots ≡ spots.now }
+    requires marks { length marks.old ≡ length spots.now }
+    requires unmarked { All (λ b. b ≡ false) marks.old }
+    ensures marks { (d : ℕ) → slice_index_or marks.new d false ≡ clashes problem.now spots.now class spot d }
+    ensures none { result ≡ false → marks.new ≡ marks.old }
+{
+    let mut some = mark_room(occupancy, class, spot, marks);
+    for with in rules_of(problem, class) {
+        let rule = problem.rule(with.rule);
+        if let Some(kind) = required_pair(rule) {
+            some |= mark_pairs(
+                problem.travel(),
+                kind,
+                rule.members.as_slice(),
+                spots,
+                class,
+                with.place,
+                spot,
+                marks,
+            );
+        }
+    }
+    some
+}
+
+/// Marks the placed classes but one that overlap the spot in its room. Where the answer is false,
+/// there is none.
+fn mark_room(occupancy: &Occupancy, except: u32, spot: Spot, marks: &mut [bool]) -> bool
+    requires marks { length marks.old ≡ length occupancy.now.spots }
+    ensures marks { (d : ℕ) → slice_index_or marks.new d false ≡ (slice_index_or marks.old d false || clashes_in_room occupancy.now.spots except spot d) }
+    ensures none { result ≡ false → marks.new ≡ marks.old }
+{
+    if occupancy.clashes_with(spot, except) == 0 {
+        return false;
+    }
+    occupancy.mark(spot, except, marks);
+    true
+}
+
+/// Marks the classes that break a pair rule with the class at the spot. Where the answer is false,
+/// there is none.
+fn mark_pairs(
+    travel: &Travel,
+    kind: PairKind,
+    members: &[u32],
+    spots: &[Option<Spot>],
+    class: u32,
+    place: u32,
+    spot: Spot,
+    marks: &mut [bool],
+) -> bool
+    requires members { All (λ d. d < length spots.now) members.now }
+    requires room { IsRoomOf travel.now spot.room }
+    requires rooms { AreRoomsOf travel.now spots.now }
+    requires marks { length marks.old ≡ length spots.now }
+    ensures marks { (d : ℕ) → slice_index_or marks.new d false
+        ≡ (slice_index_or marks.old d false || clashes_in_rule travel.now kind members.now spots.now class place spot d) }
+    ensures none { result ≡ false → marks.new ≡ marks.old }
+{
+    let mut some = false;
+    for other in 0..members.len() {
+        let member = members[other];
+        if breaks_with(travel, kind, spots, class, place, spot, other, member) {
+            marks[member as usize] = true;
+            some = true;
+        }
+    }
+    some
+}
+
+/// Whether a member but the class is placed and breaks a pair rule with the class at the spot.
+fn breaks_with(
+    travel: &Travel,
+    kind: PairKind,
+    spots: &[Option<Spot>],
+    class: u32,
+    place: u32,
+    spot: Spot,
+    other_place: usize,
+    member: u32,
+) -> bool
+    requires member { member < length spots.now }
+    requires room { IsRoomOf travel.now spot.room }
+    requires rooms { AreRoomsOf travel.now spots.now }
+    ensures { result ≡ breaks_with travel.now kind spots.now class place spot other_place member }
+{
+    match spots[member as usize] {
+        Some(other) => {
+            member != class
+                && if other_place < place as usize {
+                    !holds(kind, other, spot, travel.between(other.room, spot.room))
+                } else {
+                    !holds(kind, spot, other, travel.between(spot.room, other.room))
+                }
+        }
+        None => false,
+    }
+}
+
+/// Lists the marked classes in order. The answer is how many they are.
+fn list_marked(marks: &[bool], order: &mut [u32]) -> u32
+    requires few { length marks.now ≤ 20000 }
+    requires order { length order.old ≡ length marks.now }
+    ensures list { take result order.new ≡ filter (λ d. slice_index_or marks.now d false) (range_with_len 0 (length marks.now)) }
+    ensures listed { IsListed marks.now order.new result }
+    ensures few { result ≤ length order.new }
+{
+    let mut count = 0;
+    for class in 0..marks.len() {
+        if marks[class] {
+            order[count] = class as u32;
+            count += 1;
+        }
+    }
+    count as u32
+}
+
+/// Takes the marks off the listed classes.
+fn clear_marks(marks: &mut [bool], listed: &[u32])
+    requires listed { All (λ d. d < length marks.old) listed.now }
+    requires each { (d : ℕ) → slice_index_or marks.old d false ≡ is_in listed.now d }
+    ensures { All (λ b. b ≡ false) marks.new }
+{
+    for class in listed {
+        marks[*class as usize] = false;
+    }
+}

@@ -1,0 +1,33 @@
+-- What is made with numbers that a generator gives one after another.
+use Rattle.std.specs.Prelude.{ℕ, zero, suc, ◌*◌, ◌+◌, ◌/◌, ◌^◌, List, [], ◌∷◌, ◌++◌}
+use Rattle.rand_pcg.specs.Lcg.{Lcg, started, increment_of}
+use Rattle.rand_pcg.specs.Pcg.{pcg32, multiplier_64}
+
+-- what is made by drawing, and the generator afterwards
+abbrev pub Draws : Type 0 → Type 0
+Draws A = Lcg → A × Lcg
+
+infixl 10 ◌>>=◌
+-- first the one, then what is made from it
+abbrev pub ◌>>=◌ : {A B : Type 0} → Draws A → (A → Draws B) → Draws B
+(made >>= next) g = next (made g).0 (made g).1
+
+-- without a draw
+abbrev pub give : {A : Type 0} → A → Draws A
+give x g = (x, g)
+
+-- the generator that a seed starts
+abbrev pub first : ℕ → Lcg
+first seed = started 64 multiplier_64 seed (increment_of 64 1)
+
+-- a number below k, from the next word
+unfoldable pub draw : ℕ → Draws ℕ
+draw k g = ((pcg32 g).0 * k / 2 ^ 32, (pcg32 g).1)
+
+-- what is made for `from` and the numbers after it, `count` in all, in order
+unfoldable pub each : {A : Type 0} → ℕ → ℕ → (ℕ → Draws A) → Draws (List A)
+each from zero make = give []
+each from (suc count) make = do
+  before ← each from count make
+  last ← make (from + count)
+  give (before ++ last ∷ [])

@@ -1,0 +1,10 @@
+pub mod Classes
+pub mod Courses
+pub mod Draws
+pub mod Members
+pub mod Plain
+pub mod Rooms
+pub mod Rules
+pub mod Students
+pub mod Text
+pub mod Values

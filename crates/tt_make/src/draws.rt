@@ -1,0 +1,16 @@
+ghost use Rattle.std.specs.Prelude.{◌≡◌, ◌<◌};
+ghost use Rattle.tt_make.specs.Draws.{draw as draw_of};
+
+use rand_core::utils::NextWord;
+use rand_pcg::Lcg64Xsh32;
+
+/// A number below `k`, from the next word.
+#[tactic(auto, unfolding(crate::specs::Draws::draw))]
+pub fn draw(words: &mut Lcg64Xsh32, k: u32) -> u32
+    requires { 0 < k }
+    ensures gives { (result, words.new) ≡ draw_of k words.old }
+    ensures below { result < k }
+{
+    let word = words.next_word();
+    ((u64::from(word) * u64::from(k)) >> 32) as u32
+}

@@ -1,0 +1,76 @@
+//! Times: days and weeks are taken from lists, and all else is drawn from a range.
+
+ghost use Rattle.std.specs.Prelude.{◌≡◌, ◌<◌, IfOk, ⊤};
+ghost use Rattle.serde_json.specs.View.{view};
+ghost use Rattle.tt_make.specs.Values.{word_at};
+ghost use Rattle.tt_make.specs.Classes.{day_words, week_words, time as time_of, time_data};
+ghost use Rattle.tt_make.specs.Plain.{time_plain};
+
+use crate::draws::draw;
+use crate::parts::Part;
+use rand_pcg::Lcg64Xsh32;
+use serde_json::{Value, json};
+use std::alloc::{AllocError, Global};
+
+/// The times that a class may have.
+#[derive(Drop)]
+pub struct Times;
+
+impl Part for Times {
+    ghost made = { λ times i. time_of };
+
+    ghost covers = { λ times i. ⊤ };
+
+    ghost plain = { λ times i g. time_plain g };
+
+    #[tactic(auto, unfolding(crate::specs::Classes::time))]
+    fn draw(&self, alloc: Global, words: &mut Lcg64Xsh32, _i: u32) -> Result<Value, AllocError> {
+        let days = draw(words, 9);
+        let start = draw(words, 10);
+        let length = draw(words, 3);
+        let weeks = draw(words, 3);
+        let penalty = draw(words, 5);
+        time_value(alloc, days, start, length, weeks, penalty)
+    }
+}
+
+const DAYS: [&str; 9] = [
+    "1010000", "0101000", "1001000", "0010100", "1000000", "0100000", "0010000", "0001000",
+    "0000100",
+];
+
+const WEEKS: [&str; 3] = ["1111111111111", "1010101010101", "0101010101010"];
+
+fn day_word(k: u32) -> &'static str
+    requires { k < 9 }
+    ensures { result.now ≡ word_at day_words k }
+{
+    DAYS[k as usize]
+}
+
+fn week_word(k: u32) -> &'static str
+    requires { k < 3 }
+    ensures { result.now ≡ word_at week_words k }
+{
+    WEEKS[k as usize]
+}
+
+#[tactic(auto, unfolding(crate::specs::Classes::time_data))]
+fn time_value(
+    alloc: Global,
+    days: u32,
+    start: u32,
+    length: u32,
+    weeks: u32,
+    penalty: u32,
+) -> Result<Value, AllocError>
+    requires days { days < 9 }
+    requires start { start < 10 }
+    requires length { length < 3 }
+    requires weeks { weeks < 3 }
+    ensures { IfOk result (λ v. view v ≡ time_data days start length weeks penalty) }
+{
+    let days = day_word(days);
+    let weeks = week_word(weeks);
+    json!(in alloc; {"days": days, "start": (96 + 12 * start), "length": (10 + 6 * length), "weeks": weeks, "penalty": penalty})
+}
