@@ -14,6 +14,7 @@ day_words =
 abbrev pub week_words : List (List ℕ)
 week_words = codes "1111111111111" ∷ codes "1010101010101" ∷ codes "0101010101010" ∷ []
 
+-- a time, from the numbers that were drawn for it
 unfoldable pub time_data : ℕ → ℕ → ℕ → ℕ → ℕ → Data
 time_data days start length weeks penalty =
     object (member (codes "days") (string (word_at day_words days)) (member (codes "length") (num (10 + 6 * length))
@@ -48,6 +49,7 @@ abbrev pub rooms_key : Option (List Data) → Members → Members
 rooms_key None rest = member (codes "room") (boolean false) rest
 rooms_key (Some rooms) rest = member (codes "rooms") (list rooms) rest
 
+-- a class, from its parts
 unfoldable pub class_data : ℕ → Option ℕ → Option (List Data) → List Data → Data
 class_data id parent rooms times =
     object (member (codes "id") (num id) (member (codes "limit") (num 50)
@@ -57,5 +59,5 @@ class_data id parent rooms times =
 unfoldable pub class : ℕ → Option ℕ → ℕ → Draws Data
 class rooms parent id = do
   times ← each 0 6 (λ i. time)
-  choices ← choices rooms id
-  give (class_data id parent choices times)
+  chosen ← choices rooms id
+  give (class_data id parent chosen times)

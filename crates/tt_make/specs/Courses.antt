@@ -9,14 +9,17 @@ use Rattle.tt_make.specs.Classes.{class}
 abbrev pub course_count : ℕ → ℕ
 course_count classes = if classes % 4 == 0 then classes / 4 else classes / 4 + 1
 
+-- a subpart with these classes
 unfoldable pub subpart_data : ℕ → List Data → Data
 subpart_data id classes = object (member (codes "classes") (list classes) (member (codes "id") (num id) no_members))
 
--- a course with one configuration
+-- a configuration with these subparts
+unfoldable pub config_data : ℕ → Data → Data
+config_data id subparts = object (member (codes "id") (num id) (member (codes "subparts") subparts no_members))
+
+-- a course with one configuration, of the same id
 unfoldable pub course_data : ℕ → Data → Data
-course_data id subparts =
-    let config = object (member (codes "id") (num id) (member (codes "subparts") subparts no_members)) in
-    object (member (codes "configs") (list (config ∷ [])) (member (codes "id") (num id) no_members))
+course_data id subparts = object (member (codes "configs") (list (config_data id subparts ∷ [])) (member (codes "id") (num id) no_members))
 
 -- a course with two subparts
 unfoldable pub whole_data : ℕ → List Data → List Data → Data

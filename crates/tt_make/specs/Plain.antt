@@ -7,11 +7,10 @@ use Rattle.serde_json.specs.Data.{Data}
 use Rattle.serde_json.specs.View.{items_of}
 use Rattle.serde_json.specs.Written.{has_float, items_have_float}
 use Rattle.tt_make.specs.Draws.{Draws, each}
-use Rattle.std.proofs.Common.{rules}
 use Rattle.tt_make.specs.Values.{list}
 use Rattle.tt_make.specs.Classes.{time, time_data, choice, choices, class, class_data}
 use Rattle.std.specs.Prelude.{nat_le, ◌-◌, ◌*◌, ◌/◌}
-use Rattle.tt_make.specs.Courses.{whole_data, whole_course, last_course, course, course_data, subpart_data}
+use Rattle.tt_make.specs.Courses.{whole_data, whole_course, last_course, course, course_data, config_data, subpart_data}
 use Rattle.tt_make.specs.Rules.{rule, turn_rule, turn_data, attendees_rule}
 use Rattle.tt_make.specs.Students.{student, request}
 use Rattle.tt_make.specs.Rooms.{room, travel, friday_afternoon}
@@ -40,7 +39,10 @@ each_plain make plain from (suc count) g = pushed (each from count make g).0 _ (
 
 pub room_plain : (id : ℕ) (g : Lcg) → has_float (room id g).0 ≡ false
 unfolding room travel friday_afternoon
-room_plain id g = search rules
+room_plain id g = elim (cases_Bool (id == 1)) [
+  | inl t ↦ elim (cases_Bool (id % 5 == 0)) [ inl f ↦ rw (t, f) refl | inr f ↦ rw (t, f) refl ]
+  | inr t ↦ elim (cases_Bool (id % 5 == 0)) [ inl f ↦ rw (t, f) refl | inr f ↦ rw (t, f) refl ]
+]
 
 abbrev PlainRooms : Option (List Data) → Type 0
 PlainRooms None = ⊤
@@ -78,13 +80,13 @@ classes_plain : (rooms from count : ℕ) (parent : ℕ → Option ℕ) (g : Lcg)
 classes_plain rooms from count parent g = each_plain (λ id. class rooms (parent id) id) (λ id. class_plain rooms (parent id) id) from count g
 
 whole_plain : (rooms k : ℕ) (g : Lcg) → has_float (whole_course rooms k g).0 ≡ false
-unfolding whole_course whole_data course_data subpart_data
+unfolding whole_course whole_data course_data config_data subpart_data
 whole_plain rooms k g =
     let parents : Draws (List Data) = each (4 * k - 3) 2 (λ id. class rooms None id) in
     rw (classes_plain rooms (4 * k - 3) 2 (λ id. None) g, classes_plain rooms (4 * k - 1) 2 (λ id. Some (id - 2)) (parents g).1) refl
 
 last_plain : (rooms count k : ℕ) (g : Lcg) → has_float (last_course rooms count k g).0 ≡ false
-unfolding last_course course_data subpart_data
+unfolding last_course course_data config_data subpart_data
 last_plain rooms count k g = rw (classes_plain rooms (4 * k - 3) count (λ id. None) g) refl
 
 pub course_plain : (rooms classes k : ℕ) (g : Lcg) → has_float (course rooms classes k g).0 ≡ false

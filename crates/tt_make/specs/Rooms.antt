@@ -24,11 +24,13 @@ friday_afternoon =
 abbrev pub unavailable : ℕ → Option Data
 unavailable id = if id % 5 == 0 then Some (list (friday_afternoon ∷ [])) else None
 
+-- a room, with its travel where it has any
 abbrev pub room_data : ℕ → Option Data → Data
 room_data id to_previous =
     object (member (codes "capacity") (num 60) (member (codes "id") (num id)
     (optional (codes "travel") to_previous (optional (codes "unavailable") (unavailable id) no_members))))
 
+-- the room with this id
 unfoldable pub room : ℕ → Draws Data
 room id = do
   to_previous ← travel id

@@ -22,13 +22,14 @@ abbrev pub wished_data : List ℕ → ℕ → List Data → Data
 wished_data type penalty classes =
     object (member (codes "classes") (list classes) (member (codes "penalty") (num penalty) (member (codes "type") (string type) no_members)))
 
--- over the four classes of course k: the types in turn, each fourth one required
+-- over the four classes of course k: the types in turn, the first one and each fourth after it required
 unfoldable pub turn_data : ℕ → ℕ → Data
 turn_data k penalty =
     let type = word_at type_words ((k - 1) % 19) in
     let classes = num (4 * k - 3) ∷ num (4 * k - 2) ∷ num (4 * k - 1) ∷ num (4 * k) ∷ [] in
     if (k - 1) % 4 == 0 then required_data type classes else wished_data type penalty classes
 
+-- the same, with the penalty drawn, needed or not
 unfoldable pub turn_rule : ℕ → Draws Data
 turn_rule k = do
   penalty ← draw 10

@@ -9,6 +9,7 @@ use Rattle.tt_make.specs.Courses.{course, course_count}
 use Rattle.tt_make.specs.Rules.{rule}
 use Rattle.tt_make.specs.Students.{student}
 
+-- a problem of seven days and thirteen weeks, from its parts
 unfoldable pub problem_data : List Data → List Data → List Data → List Data → Data
 problem_data rooms courses rules students =
     let weights = object (member (codes "distribution") (num 1) (member (codes "room") (num 1) (member (codes "student") (num 2) (member (codes "time") (num 2) no_members)))) in
@@ -16,6 +17,7 @@ problem_data rooms courses rules students =
     (member (codes "nrDays") (num 7) (member (codes "nrWeeks") (num 13) (member (codes "optimization") weights (member (codes "rooms") (list rooms)
     (member (codes "slotsPerDay") (num 288) (member (codes "students") (list students) no_members)))))))))
 
+-- the number of rooms of a problem with so many classes
 abbrev pub room_count : ℕ → ℕ
 room_count classes = classes / 10 + 2
 

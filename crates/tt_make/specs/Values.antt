@@ -3,9 +3,11 @@ use Rattle.std.specs.Prelude.{ℕ, List, [], Option, Some, None, slice_get, unwr
 use Rattle.serde_json.specs.Data.{Data, number, unsigned, array, Members, member}
 use Rattle.serde_json.specs.View.{items_of}
 
+-- a number as JSON
 abbrev pub num : ℕ → Data
 num n = number (unsigned n)
 
+-- a list as JSON
 abbrev pub list : List Data → Data
 list values = array (items_of values)
 

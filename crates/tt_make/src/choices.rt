@@ -7,8 +7,9 @@ ghost use Rattle.tt_make.specs.Plain.{choice_plain};
 
 use crate::draws::draw;
 use crate::parts::Part;
+use crate::values::Object;
 use rand_pcg::Lcg64Xsh32;
-use serde_json::{Value, json};
+use serde_json::Value;
 use std::alloc::{AllocError, Global};
 
 /// The rooms that a class may have.
@@ -30,6 +31,9 @@ impl Part for Choices {
     fn draw(&self, alloc: Global, words: &mut Lcg64Xsh32, _i: u32) -> Result<Value, AllocError> {
         let room = draw(words, self.rooms);
         let penalty = draw(words, 5);
-        json!(in alloc; {"id": (1 + room), "penalty": penalty})
+        let choice = Object::new(alloc)
+            .number("id", 1 + room)?
+            .number("penalty", penalty)?;
+        Ok(choice.into_value())
     }
 }

@@ -10,9 +10,9 @@ ghost use Rattle.tt_make.specs.Plain.{time_plain, choice_plain, class_plain};
 use crate::choices::Choices;
 use crate::parts::{Part, drawn};
 use crate::times::Times;
-use crate::values::put_if;
+use crate::values::Object;
 use rand_pcg::Lcg64Xsh32;
-use serde_json::{Map, Value};
+use serde_json::Value;
 use std::alloc::{AllocError, Global};
 
 /// The classes without a parent, by their ids.
@@ -107,14 +107,14 @@ fn class_value(
 ) -> Result<Value, AllocError>
     ensures { IfOk result (λ v. view v ≡ class_data id parent (option_map (λ rooms. map view rooms.items) choices) (map view times.items)) }
 {
-    let mut class = Map::new(alloc);
-    serde_json::put(&mut class, alloc, "id", Value::from(id))?;
-    serde_json::put(&mut class, alloc, "limit", Value::from(50u32))?;
-    serde_json::put(&mut class, alloc, "times", Value::Array(times))?;
-    put_if(&mut class, alloc, "parent", number_if(parent))?;
-    match choices {
-        Some(rooms) => serde_json::put(&mut class, alloc, "rooms", Value::Array(rooms))?,
-        None => serde_json::put(&mut class, alloc, "room", Value::Bool(false))?,
-    }
-    Ok(Value::Object(class))
+    let class = Object::new(alloc)
+        .number("id", id)?
+        .number("limit", 50)?
+        .with_if("parent", number_if(parent))?
+        .with("times", Value::Array(times))?;
+    let class = match choices {
+        Some(rooms) => class.with("rooms", Value::Array(rooms))?,
+        None => class.truth("room", false)?,
+    };
+    Ok(class.into_value())
 }

@@ -5,13 +5,14 @@ ghost use Rattle.std.specs.Prelude.{◌≡◌, ◌<◌, ◌≤◌, ◌+◌, ◌*
 ghost use Rattle.serde_json.specs.View.{view};
 ghost use Rattle.tt_make.specs.Draws.{each};
 ghost use Rattle.tt_make.specs.Values.{list};
-ghost use Rattle.tt_make.specs.Courses.{course as course_of, course_count as count_of, whole_course as whole_of, last_course as last_of, course_data, whole_data, subpart_data};
+ghost use Rattle.tt_make.specs.Courses.{course as course_of, course_count as count_of, whole_course as whole_of, last_course as last_of, course_data, config_data, whole_data, subpart_data};
 ghost use Rattle.tt_make.specs.Plain.{course_plain};
 
 use crate::classes::{Children, Parents};
 use crate::parts::{Part, drawn};
+use crate::values::{Object, pair, single};
 use rand_pcg::Lcg64Xsh32;
-use serde_json::{Value, json};
+use serde_json::Value;
 use std::alloc::{AllocError, Global};
 
 /// The courses of a problem, by their ids.
@@ -83,14 +84,8 @@ fn whole_value(
 {
     let parents = subpart_value(alloc, 2 * k - 1, parents)?;
     let children = subpart_value(alloc, 2 * k, children)?;
-    let subparts = subparts_value(alloc, parents, children)?;
+    let subparts = pair(alloc, parents, children)?;
     course_value(alloc, k, subparts)
-}
-
-fn subparts_value(alloc: Global, parents: Value, children: Value) -> Result<Value, AllocError>
-    ensures { IfOk result (λ v. view v ≡ list (view parents ∷ view children ∷ [])) }
-{
-    json!(in alloc; [parents, children])
 }
 
 #[tactic(auto, unfolding(crate::specs::Courses::last_course))]
@@ -110,7 +105,7 @@ fn last_course(
 {
     let left = drawn(alloc, words, &Parents { rooms }, 4 * k - 3, count)?;
     let left = subpart_value(alloc, 2 * k - 1, left)?;
-    let subparts = json!(in alloc; [left])?;
+    let subparts = single(alloc, left)?;
     course_value(alloc, k, subparts)
 }
 
@@ -118,12 +113,30 @@ fn last_course(
 fn subpart_value(alloc: Global, id: u32, classes: Vec<Value>) -> Result<Value, AllocError>
     ensures { IfOk result (λ v. view v ≡ subpart_data id (map view classes.items)) }
 {
-    json!(in alloc; {"id": id, "classes": (Value::Array(classes))})
+    let subpart = Object::new(alloc)
+        .number("id", id)?
+        .with("classes", Value::Array(classes))?;
+    Ok(subpart.into_value())
+}
+
+#[tactic(auto, unfolding(crate::specs::Courses::config_data))]
+fn config_value(alloc: Global, id: u32, subparts: Value) -> Result<Value, AllocError>
+    ensures { IfOk result (λ v. view v ≡ config_data id (view subparts)) }
+{
+    let config = Object::new(alloc)
+        .number("id", id)?
+        .with("subparts", subparts)?;
+    Ok(config.into_value())
 }
 
 #[tactic(auto, unfolding(crate::specs::Courses::course_data))]
 fn course_value(alloc: Global, id: u32, subparts: Value) -> Result<Value, AllocError>
     ensures { IfOk result (λ v. view v ≡ course_data id (view subparts)) }
 {
-    json!(in alloc; {"id": id, "configs": [{"id": id, "subparts": subparts}]})
+    let config = config_value(alloc, id, subparts)?;
+    let configs = single(alloc, config)?;
+    let course = Object::new(alloc)
+        .number("id", id)?
+        .with("configs", configs)?;
+    Ok(course.into_value())
 }

@@ -7,9 +7,9 @@ ghost use Rattle.tt_make.specs.Plain.{room_plain};
 
 use crate::draws::draw;
 use crate::parts::Part;
-use crate::values::{Members, put_if};
+use crate::values::{Object, single};
 use rand_pcg::Lcg64Xsh32;
-use serde_json::{Map, Value, json};
+use serde_json::Value;
 use std::alloc::{AllocError, Global};
 
 /// The rooms of a problem, by their ids.
@@ -40,7 +40,10 @@ fn travel(alloc: Global, words: &mut Lcg64Xsh32, id: u32) -> Result<Option<Value
         return Ok(None);
     }
     let steps = draw(words, 3);
-    let travel = json!(in alloc; [{"room": (id - 1), "value": (1 + steps)}])?;
+    let entry = Object::new(alloc)
+        .number("room", id - 1)?
+        .number("value", 1 + steps)?;
+    let travel = single(alloc, entry.into_value())?;
     Ok(Some(travel))
 }
 
@@ -48,7 +51,12 @@ fn travel(alloc: Global, words: &mut Lcg64Xsh32, id: u32) -> Result<Option<Value
 fn friday_afternoon(alloc: Global) -> Result<Value, AllocError>
     ensures { IfOk result (λ v. view v ≡ friday_data) }
 {
-    json!(in alloc; {"days": "0000100", "start": 192, "length": 24, "weeks": "1111111111111"})
+    let time = Object::new(alloc)
+        .text("days", "0000100")?
+        .number("start", 192)?
+        .number("length", 24)?
+        .text("weeks", "1111111111111")?;
+    Ok(time.into_value())
 }
 
 fn unavailable(alloc: Global, id: u32) -> Result<Option<Value>, AllocError>
@@ -58,7 +66,7 @@ fn unavailable(alloc: Global, id: u32) -> Result<Option<Value>, AllocError>
         return Ok(None);
     }
     let time = friday_afternoon(alloc)?;
-    let times = json!(in alloc; [time])?;
+    let times = single(alloc, time)?;
     Ok(Some(times))
 }
 
@@ -71,10 +79,10 @@ fn room_value(
     requires { option_map view unavailable ≡ unavailable_of id }
     ensures { IfOk result (λ v. view v ≡ room_data id (option_map view travel)) }
 {
-    let mut room = Map::new(alloc);
-    serde_json::put(&mut room, alloc, "capacity", Value::from(60u32))?;
-    serde_json::put(&mut room, alloc, "id", Value::from(id))?;
-    put_if(&mut room, alloc, "travel", travel)?;
-    put_if(&mut room, alloc, "unavailable", unavailable)?;
-    Ok(Value::Object(room))
+    let room = Object::new(alloc)
+        .number("capacity", 60)?
+        .number("id", id)?
+        .with_if("travel", travel)?
+        .with_if("unavailable", unavailable)?;
+    Ok(room.into_value())
 }

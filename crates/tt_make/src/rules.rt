@@ -1,16 +1,17 @@
 //! Distributions: two for each course of four classes, one of a type in turn and one on its
 //! attendees.
 
-ghost use Rattle.std.specs.Prelude.{◌≡◌, ◌<◌, ◌≤◌, ◌-◌, ◌%◌, IfOk};
+ghost use Rattle.std.specs.Prelude.{◌≡◌, ◌<◌, ◌≤◌, ◌-◌, ◌%◌, ◌*◌, [], ◌∷◌, map, IfOk};
 ghost use Rattle.serde_json.specs.View.{view};
-ghost use Rattle.tt_make.specs.Values.{word_at};
-ghost use Rattle.tt_make.specs.Rules.{rule as rule_of, turn_rule as turn_rule_of, turn_data, attendees_rule as attendees_rule_of, type_words};
+ghost use Rattle.tt_make.specs.Values.{num, word_at};
+ghost use Rattle.tt_make.specs.Rules.{rule as rule_of, turn_rule as turn_rule_of, turn_data, required_data, wished_data, attendees_rule as attendees_rule_of, type_words};
 ghost use Rattle.tt_make.specs.Plain.{rule_plain};
 
 use crate::draws::draw;
 use crate::parts::Part;
+use crate::values::Object;
 use rand_pcg::Lcg64Xsh32;
-use serde_json::{Value, json};
+use serde_json::Value;
 use std::alloc::{AllocError, Global};
 
 /// The distributions of a problem, counted from 0.
@@ -81,12 +82,50 @@ fn turn_value(alloc: Global, k: u32, penalty: u32) -> Result<Value, AllocError>
     ensures { IfOk result (λ v. view v ≡ turn_data k penalty) }
 {
     let word = type_word((k - 1) % 19);
-    let classes = json!(in alloc; [(4 * k - 3), (4 * k - 2), (4 * k - 1), (4 * k)])?;
+    let classes = four_classes(alloc, k)?;
     if (k - 1) % 4 == 0 {
-        json!(in alloc; {"type": word, "required": true, "classes": classes})
+        required_value(alloc, word, classes)
     } else {
-        json!(in alloc; {"type": word, "penalty": penalty, "classes": classes})
+        wished_value(alloc, word, penalty, classes)
     }
+}
+
+fn four_classes(alloc: Global, k: u32) -> Result<Vec<Value>, AllocError>
+    requires first { 1 ≤ k }
+    requires last { k ≤ 5000 }
+    ensures { IfOk result (λ v. map view v.items ≡ num (4 * k - 3) ∷ num (4 * k - 2) ∷ num (4 * k - 1) ∷ num (4 * k) ∷ []) }
+{
+    let mut classes = Vec::new(alloc);
+    classes.push(Value::from(4 * k - 3))?;
+    classes.push(Value::from(4 * k - 2))?;
+    classes.push(Value::from(4 * k - 1))?;
+    classes.push(Value::from(4 * k))?;
+    Ok(classes)
+}
+
+fn required_value(alloc: Global, word: &str, classes: Vec<Value>) -> Result<Value, AllocError>
+    ensures { IfOk result (λ v. view v ≡ required_data word.now (map view classes.items)) }
+{
+    let rule = Object::new(alloc)
+        .text("type", word)?
+        .truth("required", true)?
+        .with("classes", Value::Array(classes))?;
+    Ok(rule.into_value())
+}
+
+fn wished_value(
+    alloc: Global,
+    word: &str,
+    penalty: u32,
+    classes: Vec<Value>,
+) -> Result<Value, AllocError>
+    ensures { IfOk result (λ v. view v ≡ wished_data word.now penalty (map view classes.items)) }
+{
+    let rule = Object::new(alloc)
+        .text("type", word)?
+        .number("penalty", penalty)?
+        .with("classes", Value::Array(classes))?;
+    Ok(rule.into_value())
 }
 
 #[tactic(auto, unfolding(crate::specs::Rules::attendees_rule))]
@@ -95,5 +134,8 @@ fn attendees_rule(alloc: Global, k: u32) -> Result<Value, AllocError>
     requires last { k ≤ 5000 }
     ensures { IfOk result (λ v. view v ≡ attendees_rule_of k) }
 {
-    json!(in alloc; {"type": "SameAttendees", "required": true, "classes": [(4 * k - 3), (4 * k - 1)]})
+    let mut classes = Vec::new(alloc);
+    classes.push(Value::from(4 * k - 3))?;
+    classes.push(Value::from(4 * k - 1))?;
+    required_value(alloc, "SameAttendees", classes)
 }

@@ -7,8 +7,9 @@ ghost use Rattle.tt_make.specs.Plain.{student_plain, request_plain};
 
 use crate::draws::draw;
 use crate::parts::{Part, drawn};
+use crate::values::Object;
 use rand_pcg::Lcg64Xsh32;
-use serde_json::{Value, json};
+use serde_json::Value;
 use std::alloc::{AllocError, Global};
 
 /// The students of a problem, by their ids.
@@ -40,7 +41,10 @@ impl Part for Students {
             courses: self.courses,
         };
         let courses = drawn(alloc, words, &requests, 0, 4)?;
-        json!(in alloc; {"id": id, "courses": (Value::Array(courses))})
+        let student = Object::new(alloc)
+            .number("id", id)?
+            .with("courses", Value::Array(courses))?;
+        Ok(student.into_value())
     }
 }
 

@@ -8,8 +8,9 @@ ghost use Rattle.tt_make.specs.Plain.{time_plain};
 
 use crate::draws::draw;
 use crate::parts::Part;
+use crate::values::Object;
 use rand_pcg::Lcg64Xsh32;
-use serde_json::{Value, json};
+use serde_json::Value;
 use std::alloc::{AllocError, Global};
 
 /// The times that a class may have.
@@ -70,7 +71,11 @@ fn time_value(
     requires weeks { weeks < 3 }
     ensures { IfOk result (λ v. view v ≡ time_data days start length weeks penalty) }
 {
-    let days = day_word(days);
-    let weeks = week_word(weeks);
-    json!(in alloc; {"days": days, "start": (96 + 12 * start), "length": (10 + 6 * length), "weeks": weeks, "penalty": penalty})
+    let time = Object::new(alloc)
+        .text("days", day_word(days))?
+        .number("start", 96 + 12 * start)?
+        .number("length", 10 + 6 * length)?
+        .text("weeks", week_word(weeks))?
+        .number("penalty", penalty)?;
+    Ok(time.into_value())
 }

@@ -2,7 +2,11 @@ mod OrderLemmas
 mod SoundLemmas
 mod StepLemmas
 mod TrailLemmas
+mod PastLemmas
+mod CountLemmas
 mod SeatLemmas
 mod ListsLemmas
 mod StateLemmas
+mod ForceLemmas
+mod FitsLemmas
 mod FaultLemmas

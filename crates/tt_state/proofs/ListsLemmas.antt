@@ -10,7 +10,6 @@ use Rattle.std.proofs.lemmas.List.Elements.{All-set, All-replicate}
 use Rattle.tt_problem.specs.declared.parts.ClassPart.{ClassPart}
 use Rattle.tt_problem.specs.declared.parts.Parts.{Parts}
 use Rattle.tt_roster.specs.Lists.{Ascends, has_class, list_of}
-use Rattle.tt_struct.specs.Enrolments.{is_enrolment}
 use Rattle.tt_state.specs.Seats.{limit_of, count_with, others_with, has_seat, first_without_seat}
 use Rattle.tt_state.specs.Sound.{IsEnrolled, AreListsOf}
 
@@ -67,10 +66,6 @@ all_have_seats p lists student (a ∷ classes) none class has = elim (cases_Bool
       ]
   | inr has_none ↦ absurd (let some : Some a ≡ None = rw has_none at none in cc some)
 ]
-
-pub enrolled_by : (p : Parts) (student : ℕ) (list : List ℕ) → is_enrolment p student list ≡ true → IsEnrolled p student list
-enrolled_by p student [] is = tt
-enrolled_by p student (class ∷ list) is = is
 
 -- whether a class has a seat, by its part
 pub has_seat-by : (p : Parts) (lists : List (List ℕ)) (student class : ℕ) (part : ClassPart) (o : Option ℕ) → slice_get p.classes class ≡ Some part → part.limit ≡ o → has_seat p lists student class ≡ option_map_or (nat_lt (others_with lists student class)) o true

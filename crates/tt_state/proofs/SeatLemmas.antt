@@ -14,9 +14,11 @@ use Rattle.tt_struct.specs.Enrolments.{lists, has_no_repeat}
 use Rattle.tt_journal.specs.declared.Entry.{Entry}
 use Rattle.tt_journal.specs.declared.Entry.TheVariants.{Left, Seated}
 use Rattle.tt_state.specs.Snapshots.{Snapshot, in_order, list_in, with_list}
-use Rattle.tt_state.specs.History.{HasStep, earlier_by, point_count, with_seat, without_seat, left_by, seated_by}
-use Rattle.tt_state.specs.Kept.{LeadBack, most_at}
+use Rattle.tt_state.specs.History.{HasStep, with_seat, without_seat, left_by, seated_by}
+use Rattle.tt_state.specs.Past.{HasPastOf}
+use Rattle.tt_state.specs.Kept.{LeadBack, counts_of, most_at}
 use Rattle.tt_state.proofs.OrderLemmas.{any-ordered}
+use Rattle.tt_state.proofs.PastLemmas.{past_by, past_same, past_then}
 
 nat_turned : (a b : ℕ) → nat_eq a b ≡ (b == a)
 nat_turned a b = grind (arith, nat_tests)
@@ -115,10 +117,10 @@ free_above class from front free le c above =
 
 -- a list that a student gets in place of another
 pub same_list : (s : Snapshot) (student : ℕ) → with_list s student (list_in s student) ≡ s
-same_list s student = ap (λ (l : List (List ℕ)). record { plan = s.plan; lists = l }) (set-get_or s.lists student [])
+same_list s student = ap (λ (l : List (List ℕ)). record { plan = s.plan; lists = l; statistics = s.statistics }) (set-get_or s.lists student [])
 
 pub list_twice : (s : Snapshot) (student : ℕ) (one two : List ℕ) → with_list (with_list s student one) student two ≡ with_list s student two
-list_twice s student one two = ap (λ (l : List (List ℕ)). record { plan = s.plan; lists = l }) (set-set s.lists student one two)
+list_twice s student one two = ap (λ (l : List (List ℕ)). record { plan = s.plan; lists = l; statistics = s.statistics }) (set-set s.lists student one two)
 
 list_there : (s : Snapshot) (student : ℕ) (list : List ℕ) → student < length s.lists → list_in (with_list s student list) student ≡ list
 list_there s student list lt = get_or-set_same s.lists student list [] lt
@@ -133,18 +135,21 @@ leave_there s student class list lt = ap (λ l. with_list (with_list s student l
 left_one : (s : Snapshot) (student class from after : ℕ) (list : List ℕ) → student < length s.lists → Ascends from after (class ∷ list) → with_seat (with_list s student list) student class ≡ with_list s student (class ∷ list)
 left_one s student class from after list lt up = seat_there s student class list lt ∙ ap (with_list s student) (with_first class (class + 1) after list up.2 (omega arith))
 
-pub left_earlier : (s : Snapshot) (student from after : ℕ) (list : List ℕ) (es : List Entry) → student < length s.lists → Ascends from after list → earlier_by (with_list s student []) (left_by student list es) ≡ earlier_by (with_list s student list) es
-left_earlier s student from after [] es lt up = refl
-left_earlier s student from after (class ∷ list) es lt up =
-    left_earlier s student (class + 1) after list (Left student class ∷ es) lt up.2 ∙ ap (λ x. earlier_by x es) (left_one s student class from after list lt up)
+-- the past after a student left each class
+pub left_past : (s : Snapshot) (student from after : ℕ) (list : List ℕ) (es : List Entry) → student < length s.lists → Ascends from after list → HasPastOf (with_list s student list) es (with_list s student []) (left_by student list es)
+left_past s student from after [] es lt up = past_same (with_list s student []) es
+left_past s student from after (class ∷ list) es lt up =
+    past_then (with_list s student (class ∷ list)) (with_list s student list) (with_list s student []) es (Left student class ∷ es) (left_by student list (Left student class ∷ es))
+    (past_by (with_list s student (class ∷ list)) (with_seat (with_list s student list) student class) (with_list s student list) es (Left student class ∷ es) (left_one s student class from after list lt up) refl refl refl refl refl)
+    (left_past s student (class + 1) after list (Left student class ∷ es) lt up.2)
 
 pub left_step : (student : ℕ) (list : List ℕ) (es : List Entry) → HasStep es → HasStep (left_by student list es)
 left_step student [] es step = step
 left_step student (class ∷ list) es step = left_step student list (Left student class ∷ es) step
 
-pub left_count : (student : ℕ) (list : List ℕ) (es : List Entry) → point_count (left_by student list es) ≡ point_count es
-left_count student [] es = refl
-left_count student (class ∷ list) es = left_count student list (Left student class ∷ es)
+pub left_counts : (student : ℕ) (list : List ℕ) (es : List Entry) → counts_of (left_by student list es) ≡ counts_of es
+left_counts student [] es = refl
+left_counts student (class ∷ list) es = left_counts student list (Left student class ∷ es)
 
 pub left_back : (p : Parts) (s : Snapshot) (student from : ℕ) (list : List ℕ) (es : List Entry) → student < length s.lists → student < length p.students → Ascends from (length p.classes) list → length list ≤ most_at p student → HasStep es
     → LeadBack p (with_list s student list) es → LeadBack p (with_list s student []) (left_by student list es)
@@ -167,21 +172,23 @@ append_none : (front : List ℕ) → front ++ [] ≡ front
 append_none [] = refl
 append_none (a ∷ front) = ap (λ l. a ∷ l) (append_none front)
 
-pub seated_earlier : (s : Snapshot) (student from after : ℕ) (front list : List ℕ) (es : List Entry) → student < length s.lists → Ascends from after list → ((c : ℕ) → from ≤ c → has_class c front ≡ false)
-    → earlier_by (with_list s student (front ++ list)) (seated_by student list es) ≡ earlier_by (with_list s student front) es
-seated_earlier s student from after front [] es lt up free = ap (λ l. earlier_by (with_list s student l) es) (append_none front)
-seated_earlier s student from after front (class ∷ list) es lt up free =
-    ap (λ l. earlier_by (with_list s student l) (seated_by student list (Seated student class ∷ es))) (sym (append_one front list class))
-    ∙ seated_earlier s student (class + 1) after (front ++ class ∷ []) list (Seated student class ∷ es) lt up.2 (free_above class from front free up.0)
-    ∙ ap (λ x. earlier_by x es) (seated_one s student class front lt (free class up.0))
+-- the past after a student got a seat in each class
+pub seated_past : (s : Snapshot) (student from after : ℕ) (front list : List ℕ) (es : List Entry) → student < length s.lists → Ascends from after list → ((c : ℕ) → from ≤ c → has_class c front ≡ false)
+    → HasPastOf (with_list s student front) es (with_list s student (front ++ list)) (seated_by student list es)
+seated_past s student from after front [] es lt up free = subst (λ l. HasPastOf (with_list s student front) es (with_list s student l) es) (sym (append_none front)) (past_same (with_list s student front) es)
+seated_past s student from after front (class ∷ list) es lt up free =
+    subst (λ l. HasPastOf (with_list s student front) es (with_list s student l) (seated_by student list (Seated student class ∷ es))) (append_one front list class)
+    (past_then (with_list s student front) (with_list s student (front ++ class ∷ [])) (with_list s student ((front ++ class ∷ []) ++ list)) es (Seated student class ∷ es) (seated_by student list (Seated student class ∷ es))
+    (past_by (with_list s student front) (without_seat (with_list s student (front ++ class ∷ [])) student class) (with_list s student (front ++ class ∷ [])) es (Seated student class ∷ es) (seated_one s student class front lt (free class up.0)) refl refl refl refl refl)
+    (seated_past s student (class + 1) after (front ++ class ∷ []) list (Seated student class ∷ es) lt up.2 (free_above class from front free up.0)))
 
 pub seated_step : (student : ℕ) (list : List ℕ) (es : List Entry) → HasStep es → HasStep (seated_by student list es)
 seated_step student [] es step = step
 seated_step student (class ∷ list) es step = seated_step student list (Seated student class ∷ es) step
 
-pub seated_count : (student : ℕ) (list : List ℕ) (es : List Entry) → point_count (seated_by student list es) ≡ point_count es
-seated_count student [] es = refl
-seated_count student (class ∷ list) es = seated_count student list (Seated student class ∷ es)
+pub seated_counts : (student : ℕ) (list : List ℕ) (es : List Entry) → counts_of (seated_by student list es) ≡ counts_of es
+seated_counts student [] es = refl
+seated_counts student (class ∷ list) es = seated_counts student list (Seated student class ∷ es)
 
 pub seated_back : (p : Parts) (s : Snapshot) (student from : ℕ) (front list : List ℕ) (es : List Entry) → student < length s.lists → student < length p.students → Ascends from (length p.classes) list → ((c : ℕ) → from ≤ c → has_class c front ≡ false) → HasStep es
     → LeadBack p (with_list s student front) es → LeadBack p (with_list s student (front ++ list)) (seated_by student list es)

@@ -1,147 +1,181 @@
 -- What a state keeps after each change.
-use Rattle.std.proofs.Common.{◌≡◌, ◌∙◌, ℕ, ◌<◌, ◌≤◌, true, List, [], ◌∷◌, ◌++◌, Option, None, length, refl, ap, sym, subst, arith}
+use Rattle.std.proofs.Common.{◌≡◌, ◌∙◌, ℕ, ◌<◌, ◌≤◌, List, [], ◌∷◌, Option, Some, None, length, refl, ap, sym, subst, arith}
 use Rattle.std.specs.Prelude.{replicate, slice_index, slice_index_or, slice_set, All}
+use Rattle.std.specs.FinMap.{FinMap, empty}
+use Rattle.std.proofs.lemmas.List.{length-set}
+use Rattle.tt_bits.specs.declared.times.Key.{Key}
 use Rattle.tt_bits.specs.declared.times.Value.{Value}
 use Rattle.tt_problem.specs.declared.parts.Parts.{Parts}
-use Rattle.tt_roster.specs.Lists.{Ascends}
+use Rattle.tt_roster.specs.Lists.{Ascends, list_of}
 use Rattle.tt_roster.proofs.KeptLemmas.{list_is}
 use Rattle.tt_score.specs.declared.score.Score.{Score}
-use Rattle.tt_score.specs.Kept.{Fits, plan_of, seats_of}
-use Rattle.tt_struct.specs.Enrolments.{is_enrolment}
+use Rattle.tt_score.specs.Kept.{Fits, IsPlanOf, plan_of, seats_of}
+use Rattle.tt_score.proofs.BoundLemmas.{IsPlanOf-put, IsPlanOf-take}
+use Rattle.tt_cbs.specs.KeyOrder.{key_cmp}
+use Rattle.tt_cbs.specs.Counts.{count_at}
+use Rattle.tt_cbs.proofs.KeyLemmas.{count_empty}
 use Rattle.tt_journal.specs.declared.Entry.{Entry}
-use Rattle.tt_journal.specs.declared.Entry.TheVariants.{Mark, Placed}
-use Rattle.tt_state.specs.Snapshots.{Snapshot, in_order, list_in, with_list, with_value}
+use Rattle.tt_journal.specs.declared.Entry.TheVariants.{Mark, Point, Placed}
+use Rattle.tt_state.specs.Snapshots.{Snapshot, in_order, list_in, value_in, with_list, with_value}
+use Rattle.tt_state.specs.Values.{MayHave}
 use Rattle.tt_state.specs.Seats.{first_without_seat}
-use Rattle.tt_state.specs.Sound.{AreListsOf, IsSound}
-use Rattle.tt_state.specs.History.{Held, HasStep, desk_of, earlier_by, left_by, point_count, points_by, seated_by, stepped, trail}
-use Rattle.tt_state.specs.Kept.{IsStateOf, LeadBack, MayHave, most_at, snapshot_of}
-use Rattle.tt_state.proofs.OrderLemmas.{enrolment_has_no_repeat, is_enrolment-ordered}
-use Rattle.tt_state.proofs.SeatLemmas.{has-ordered, left_back, left_count, left_earlier, left_step, ordered_ascends, same_list, seated_back, seated_count, seated_earlier}
-use Rattle.tt_state.proofs.ListsLemmas.{all_have_seats, enrolled_by, lists_empty, lists_with, lists_without}
-use Rattle.tt_state.proofs.StepLemmas.{put_back}
-use Rattle.tt_state.proofs.TrailLemmas.{length-points_by}
+use Rattle.tt_state.specs.Sound.{AreListsOf, IsEnrolled, IsSound}
+use Rattle.tt_state.specs.History.{HasStep, left_by, point_count, seated_by}
+use Rattle.tt_state.specs.Past.{HasPastOf, LeadsTo, StandsOn}
+use Rattle.tt_state.specs.Kept.{IsStateOf, LeadBack, counts_of, most_at, snapshot_of}
+use Rattle.tt_state.proofs.OrderLemmas.{enrolled_once, enrolled_ordered}
+use Rattle.tt_state.proofs.SeatLemmas.{has-ordered, left_back, left_counts, left_past, left_step, ordered_ascends, same_list, seated_back, seated_counts, seated_past, seated_step}
+use Rattle.tt_state.proofs.ListsLemmas.{all_have_seats, lists_empty, lists_with, lists_without}
+use Rattle.tt_state.proofs.PastLemmas.{past_placed, past_then, put_back}
 
-pub same_snapshot : (s t : Snapshot) → s.plan ≡ t.plan → s.lists ≡ t.lists → s ≡ t
-same_snapshot s t plan lists = ap (λ (l : List (Option Value)). record { plan = l; lists = s.lists }) plan ∙ ap (λ (l : List (List ℕ)). record { plan = t.plan; lists = l }) lists
+pub same_snapshot : (s t : Snapshot) → s.plan ≡ t.plan → s.lists ≡ t.lists → s.statistics ≡ t.statistics → s ≡ t
+same_snapshot s t plan lists counts =
+    ap (λ (l : List (Option Value)). record { plan = l; lists = s.lists; statistics = s.statistics }) plan
+    ∙ ap (λ (l : List (List ℕ)). record { plan = t.plan; lists = l; statistics = s.statistics }) lists
+    ∙ ap (λ (m : FinMap key_cmp ℕ). record { plan = t.plan; lists = t.lists; statistics = m }) counts
 
--- a state after a class got another value or none
-pub placed_state : (p : Parts) (before after : Score) (points : ℕ) (es fs : List Entry) (class : ℕ) (v : Option Value) → Fits p before → AreListsOf p (seats_of before) → MayHave p class v → HasStep es → LeadBack p (snapshot_of before) es → points ≡ point_count es
-    → Fits p after → plan_of after ≡ slice_set (plan_of before) class v → seats_of after ≡ seats_of before → fs ≡ Placed class (slice_index_or (plan_of before) class None) ∷ es → IsStateOf p after points fs
-placed_state p before after points es fs class v fits sound may step back points_is fits' plan lists is =
-    let had = slice_index_or (plan_of before) class None in
-    let there : snapshot_of after ≡ with_value (snapshot_of before) class v = same_snapshot (snapshot_of after) (with_value (snapshot_of before) class v) plan lists in
-    let put : with_value (snapshot_of after) class had ≡ snapshot_of before = ap (λ x. with_value x class had) there ∙ put_back (snapshot_of before) class v in
-    record {
-      kept = record {
-        fits = fits';
-        entries = subst (LeadBack p (snapshot_of after)) (sym is) (step, (record { within = may.within; value = λ w here. fits.kept.planned.domain class w here }, subst (λ x. LeadBack p x es) (sym put) back));
-        points_is = points_is ∙ sym (ap point_count is);
-      };
-      lists = subst (AreListsOf p) (sym lists) sound;
-    }
+-- a state after a change
+pub state_by : (p : Parts) (after : Score) (counts : FinMap key_cmp ℕ) (points : ℕ) (s t : Snapshot) (es fs gs : List Entry) → Fits p after → LeadsTo p s es t fs → snapshot_of after counts ≡ t → gs ≡ fs → points ≡ point_count es → IsStateOf p after counts points gs
+state_by p after counts points s t es fs gs fits leads same is points_is = record {
+  kept = record {
+    fits = fits;
+    entries = subst (λ x. LeadBack p x gs) (sym same) (subst (LeadBack p t) (sym is) leads.stands.back);
+    counted = ap (λ (x : Snapshot). x.statistics) same ∙ leads.stands.counted ∙ sym (ap counts_of is);
+    points_is = points_is ∙ sym leads.past.count ∙ sym (ap point_count is);
+  };
+  sound = subst (IsSound p) (sym same) leads.stands.sound;
+}
 
--- a step that leads from one snapshot with its entries to another
-pub record IsStepTo (p : Parts) (s : Snapshot) (es : List Entry) (t : Snapshot) (fs : List Entry) : Type 0 where
-  pub back : LeadBack p t fs
-  pub count : point_count fs ≡ 0
-  pub steps : earlier_by t fs ≡ s ∷ earlier_by s es
+plan_with : (p : Parts) (plan : List (Option Value)) (class : ℕ) (v : Option Value) → IsPlanOf p plan → MayHave p class v → IsPlanOf p (slice_set plan class v)
+plan_with p plan class (Some v) of may = IsPlanOf-put p plan class v of (omega (arith, of.whole, may.within)) (may.value v refl)
+plan_with p plan class None of may = IsPlanOf-take p plan class of (omega (arith, of.whole, may.within))
 
--- what a new step stands on
-pub record StandsOn (p : Parts) (s : Snapshot) (points : ℕ) (es : List Entry) (student : ℕ) : Type 0 where
-  pub sound : IsSound p s
-  pub back : LeadBack p s es
-  pub points_is : points ≡ point_count es
+-- a class got another value or none
+pub placed : (p : Parts) (s : Snapshot) (es : List Entry) (class : ℕ) (v : Option Value) → StandsOn p s es → MayHave p class v → LeadsTo p s es (with_value s class v) (Placed class (value_in s class) ∷ es)
+placed p s es class v on may = record {
+  stands = record {
+    sound = record { plan = plan_with p s.plan class v on.sound.plan may; lists = on.sound.lists; statistics = on.sound.statistics };
+    back = (on.step, (record { within = may.within; value = λ w here. on.sound.plan.domain class w here }, subst (λ x. LeadBack p x es) (sym (put_back s class v)) on.back));
+    counted = on.counted;
+    step = on.step;
+  };
+  past = past_placed s (with_value s class v) es (Placed class (value_in s class) ∷ es) class v refl refl;
+}
+
+-- the list of a student of the problem ascends, and isn't too long
+pub record HasList (p : Parts) (s : Snapshot) (student : ℕ) : Type 0 where
   pub within : student < length p.students
   pub up : Ascends 0 (length p.classes) (list_in s student)
   pub few : length (list_in s student) ≤ most_at p student
 
-pub stands : (p : Parts) (score : Score) (points : ℕ) (es : List Entry) (student : ℕ) → IsStateOf p score points es → student < length p.students → StandsOn p (snapshot_of score) points es student
-stands p score points es student of within = record {
-  sound = record { plan = of.kept.fits.kept.planned; lists = of.lists };
-  back = of.kept.entries;
-  points_is = of.kept.points_is;
+pub list_held : (p : Parts) (score : Score) (counts : FinMap key_cmp ℕ) (student : ℕ) → Fits p score → student < length p.students → HasList p (snapshot_of score counts) student
+list_held p score counts student fits within = record {
   within = within;
-  up = list_is p score.roster student of.kept.fits.roster within;
-  few = let most = ap (λ l. slice_index l student) of.kept.fits.roster.rows in omega (arith, of.kept.fits.roster.room student, most);
+  up = list_is p score.roster student fits.roster within;
+  few = let most = ap (λ l. slice_index l student) fits.roster.rows in omega (arith, fits.roster.room student, most);
 }
 
 -- a student was taken out of each class
-pub emptied : (p : Parts) (s : Snapshot) (points : ℕ) (es : List Entry) (student : ℕ) → StandsOn p s points es student → IsStepTo p s es (with_list s student []) (left_by student (list_in s student) (Mark points ∷ es))
-emptied p s points es student on =
-    let lt : student < length s.lists = omega (arith, on.within, on.sound.lists.whole) in
-    let marked : LeadBack p s (Mark points ∷ es) = (on.points_is, (on.sound, on.back)) in
+pub emptied : (p : Parts) (s : Snapshot) (es : List Entry) (student : ℕ) → StandsOn p s es → HasList p s student → LeadsTo p s es (with_list s student []) (left_by student (list_in s student) es)
+emptied p s es student on has =
+    let list = list_in s student in
+    let lt : student < length s.lists = omega (arith, has.within, on.sound.lists.whole) in
+    let there : LeadBack p (with_list s student list) es = subst (λ x. LeadBack p x es) (sym (same_list s student)) on.back in
     record {
-      back = left_back p s student 0 (list_in s student) (Mark points ∷ es) lt on.within on.up on.few tt (subst (λ x. LeadBack p x (Mark points ∷ es)) (sym (same_list s student)) marked);
-      count = left_count student (list_in s student) (Mark points ∷ es);
-      steps = left_earlier s student 0 (length p.classes) (list_in s student) (Mark points ∷ es) lt on.up ∙ ap (λ x. earlier_by x (Mark points ∷ es)) (same_list s student);
+      stands = record {
+        sound = record { plan = on.sound.plan; lists = lists_without p s.lists student has.within on.sound.lists; statistics = on.sound.statistics };
+        back = left_back p s student 0 list es lt has.within has.up has.few on.step there;
+        counted = on.counted ∙ sym (left_counts student list es);
+        step = left_step student list es on.step;
+      };
+      past = subst (λ x. HasPastOf x es (with_list s student []) (left_by student list es)) (same_list s student) (left_past s student 0 (length p.classes) list es lt has.up);
     }
 
--- a student got another list
-pub filled : (p : Parts) (s : Snapshot) (points : ℕ) (es : List Entry) (student : ℕ) (list : List ℕ) → StandsOn p s points es student → Ascends 0 (length p.classes) list
-    → IsStepTo p s es (with_list s student list) (seated_by student list (left_by student (list_in s student) (Mark points ∷ es)))
-filled p s points es student list on up =
-    let lt : student < length s.lists = omega (arith, on.within, on.sound.lists.whole) in
-    let first = emptied p s points es student on in
-    let fs = left_by student (list_in s student) (Mark points ∷ es) in
+-- a student who was taken out of each class got a list
+pub seated : (p : Parts) (s : Snapshot) (es : List Entry) (student : ℕ) (list : List ℕ) → StandsOn p (with_list s student []) es → student < length p.students → Ascends 0 (length p.classes) list
+    → AreListsOf p (slice_set s.lists student list) → LeadsTo p (with_list s student []) es (with_list s student list) (seated_by student list es)
+seated p s es student list on within up lists =
+    let lt : student < length s.lists = omega (arith, within, on.sound.lists.whole, length-set s.lists student []) in
     record {
-      back = seated_back p s student 0 [] list fs lt on.within up (λ c le. refl) (left_step student (list_in s student) (Mark points ∷ es) tt) first.back;
-      count = seated_count student list fs ∙ first.count;
-      steps = seated_earlier s student 0 (length p.classes) [] list fs lt up (λ c le. refl) ∙ first.steps;
+      stands = record {
+        sound = record { plan = on.sound.plan; lists = lists; statistics = on.sound.statistics };
+        back = seated_back p s student 0 [] list es lt within up (λ c le. refl) on.step on.back;
+        counted = on.counted ∙ sym (seated_counts student list es);
+        step = seated_step student list es on.step;
+      };
+      past = seated_past s student 0 (length p.classes) [] list es lt up (λ c le. refl);
     }
 
-state_by : (p : Parts) (after : Score) (none : ℕ) (s t : Snapshot) (es fs gs : List Entry) → Fits p after → IsStepTo p s es t fs → snapshot_of after ≡ t → gs ≡ fs → AreListsOf p t.lists → none ≡ 0 → IsStateOf p after none gs
-state_by p after none s t es fs gs fits step same is lists zero_is = record {
-  kept = record {
-    fits = fits;
-    entries = subst (λ x. LeadBack p x gs) (sym same) (subst (LeadBack p t) (sym is) step.back);
-    points_is = zero_is ∙ sym step.count ∙ sym (ap point_count is);
-  };
-  lists = subst (AreListsOf p) (sym (ap (λ (x : Snapshot). x.lists) same)) lists;
-}
+pub then : (p : Parts) (s t u : Snapshot) (es fs gs : List Entry) → LeadsTo p s es t fs → LeadsTo p t fs u gs → LeadsTo p s es u gs
+then p s t u es fs gs one two = record { stands = two.stands; past = past_then s t u es fs gs one.past two.past }
 
--- a state after a student was taken out of each class
-pub emptied_state : (p : Parts) (before after : Score) (points none : ℕ) (es gs : List Entry) (student : ℕ) → IsStateOf p before points es → student < length p.students → Fits p after
-    → snapshot_of after ≡ with_list (snapshot_of before) student [] → gs ≡ left_by student (list_in (snapshot_of before) student) (Mark points ∷ es) → none ≡ 0 → IsStateOf p after none gs
-emptied_state p before after points none es gs student of within fits same is zero_is =
-    let s = snapshot_of before in
-    state_by p after none s (with_list s student []) es (left_by student (list_in s student) (Mark points ∷ es)) gs fits (emptied p s points es student (stands p before points es student of within)) same is (lists_without p (seats_of before) student within of.lists) zero_is
+-- a list that a student may get
+pub record MayGet (p : Parts) (s : Snapshot) (student : ℕ) (classes : List ℕ) : Type 0 where
+  pub all : All (λ class. class < length p.classes) classes
+  pub valid : IsEnrolled p student classes
+  pub seats : first_without_seat p s.lists student classes ≡ None
 
--- a state after a student got another list
-pub filled_state : (p : Parts) (before after : Score) (points none : ℕ) (es gs : List Entry) (student : ℕ) (classes : List ℕ) → IsStateOf p before points es → student < length p.students → All (λ class. class < length p.classes) classes
-    → is_enrolment p student classes ≡ true → first_without_seat p (seats_of before) student classes ≡ None → Fits p after
-    → snapshot_of after ≡ with_list (snapshot_of before) student (in_order classes) → gs ≡ seated_by student (in_order classes) (left_by student (list_in (snapshot_of before) student) (Mark points ∷ es)) → none ≡ 0 → IsStateOf p after none gs
-filled_state p before after points none es gs student classes of within all valid seats fits same is zero_is =
-    let s = snapshot_of before in
+-- a student got a list in place of another
+pub filled : (p : Parts) (s : Snapshot) (es : List Entry) (student : ℕ) (classes : List ℕ) → StandsOn p s es → HasList p s student → MayGet p s student classes
+    → LeadsTo p s es (with_list s student (in_order classes)) (seated_by student (in_order classes) (left_by student (list_in s student) es))
+filled p s es student classes on has may =
     let list = in_order classes in
-    let up = ordered_ascends (length p.classes) classes all (enrolment_has_no_repeat p student classes valid) in
-    state_by p after none s (with_list s student list) es (seated_by student list (left_by student (list_in s student) (Mark points ∷ es))) gs fits
-    (filled p s points es student list (stands p before points es student of within) up) same is
-    (lists_with p (seats_of before) student list within of.lists up (enrolled_by p student list (is_enrolment-ordered p student classes ∙ valid))
-    (λ class has. all_have_seats p (seats_of before) student classes seats class (sym (has-ordered class classes) ∙ has))) zero_is
+    let up = ordered_ascends (length p.classes) classes may.all (enrolled_once p student classes may.valid) in
+    let first = emptied p s es student on has in
+    then p s (with_list s student []) (with_list s student list) es (left_by student (list_in s student) es) (seated_by student list (left_by student (list_in s student) es)) first
+    (seated p s (left_by student (list_in s student) es) student list first.stands has.within up
+    (lists_with p s.lists student list has.within on.sound.lists up (enrolled_ordered p student classes may.valid) (λ class has. all_have_seats p s.lists student classes may.seats class (sym (has-ordered class classes) ∙ has))))
 
--- what a new step of a state stands on, as contracts see the state
-pub stands_seen : (p : Parts) (score : Score) (points : ℕ) (es : List Entry) (student : ℕ) (h : Held) → IsStateOf p score points es → record { problem = p; present = snapshot_of score; entries = es } ≡ h → student < length h.problem.students
-    → StandsOn h.problem h.present (point_count h.entries) h.entries student
-stands_seen p score points es student h of is within =
-    let P : Held → Type 0 = λ h. student < length h.problem.students → StandsOn h.problem h.present (point_count h.entries) h.entries student in
-    subst P is (λ within. stands p score (point_count es) es student (subst (λ n. IsStateOf p score n es) of.kept.points_is of) within) within
+-- what a state stands on where a step begins, and at a point of its last step
+pub on_mark : (p : Parts) (s : Score) (counts : FinMap key_cmp ℕ) (points : ℕ) (es : List Entry) → IsStateOf p s counts points es → StandsOn p (snapshot_of s counts) (Mark points ∷ es)
+on_mark p s counts points es of = record { sound = of.sound; back = (of.kept.points_is, (of.sound, of.kept.entries)); counted = of.kept.counted; step = tt }
 
--- the desk and the trail after a step
-pub desk_by : (p : Parts) (h new : Held) (t : Snapshot) (fs : List Entry) → new ≡ record { problem = h.problem; present = t; entries = fs } → IsStepTo p h.present h.entries t fs → desk_of new ≡ stepped (desk_of h) t
-desk_by p h new t fs is step = ap desk_of is ∙ ap (λ (l : List Snapshot). record { problem = h.problem; present = t; earlier = l }) step.steps
+pub on_point : (p : Parts) (s : Score) (counts : FinMap key_cmp ℕ) (points : ℕ) (es : List Entry) → IsStateOf p s counts points es → HasStep es → StandsOn p (snapshot_of s counts) (Point ∷ es)
+on_point p s counts points es of step = record { sound = of.sound; back = (step, (of.sound, of.kept.entries)); counted = of.kept.counted; step = step }
 
-none_of : (xs : List Snapshot) → length xs ≡ 0 → xs ≡ []
-none_of [] is = refl
-none_of (x ∷ xs) is = absurd (omega arith)
-
-pub trail_by : (p : Parts) (h new : Held) (t : Snapshot) (fs : List Entry) → new ≡ record { problem = h.problem; present = t; entries = fs } → IsStepTo p h.present h.entries t fs → trail new ≡ new.present ∷ []
-trail_by p h new t fs is step =
-    let none : points_by t fs ≡ [] = none_of (points_by t fs) (length-points_by t fs ∙ step.count) in
-    subst (λ (n : Held). trail n ≡ n.present ∷ []) (sym is) (ap (λ l. l ++ t ∷ []) none)
+none_counted : (counts : FinMap key_cmp ℕ) (key : Key) → counts ≡ empty → 0 < count_at counts key → ⊥
+none_counted counts key is some = let zero_is : count_at counts key ≡ 0 = ap (λ m. count_at m key) is ∙ count_empty key in absurd (omega arith)
 
 -- a state before its first step
-pub start_state : (p : Parts) (score : Score) (es : List Entry) → Fits p score → seats_of score ≡ replicate (length p.students) [] → es ≡ [] → IsStateOf p score 0 es
-start_state p score es fits seats none = record {
-  kept = record { fits = fits; entries = subst (LeadBack p (snapshot_of score)) (sym none) tt; points_is = sym (ap point_count none) };
-  lists = lists_empty p (seats_of score) seats;
+pub start_state : (p : Parts) (score : Score) (counts : FinMap key_cmp ℕ) (es : List Entry) → Fits p score → seats_of score ≡ replicate (length p.students) [] → counts ≡ empty → es ≡ [] → IsStateOf p score counts 0 es
+start_state p score counts es fits seats uncounted none = record {
+  kept = record { fits = fits; entries = subst (LeadBack p (snapshot_of score counts)) (sym none) tt; counted = uncounted ∙ sym (ap counts_of none); points_is = sym (ap point_count none) };
+  sound = record {
+    plan = fits.kept.planned;
+    lists = lists_empty p (seats_of score) seats;
+    statistics = record { value = λ key some. absurd (none_counted counts key uncounted some); other_value = λ key some. absurd (none_counted counts key uncounted some) };
+  };
 }
+
+-- a class got another value or none, by an entry on those of a step
+pub placed_leads : (p : Parts) (before after : Score) (counts : FinMap key_cmp ℕ) (es fs : List Entry) (class : ℕ) (v : Option Value) → StandsOn p (snapshot_of before counts) es → MayHave p class v
+    → plan_of after ≡ slice_set (plan_of before) class v → seats_of after ≡ seats_of before → fs ≡ Placed class (slice_index_or (plan_of before) class None) ∷ es → LeadsTo p (snapshot_of before counts) es (snapshot_of after counts) fs
+placed_leads p before after counts es fs class v on may plan lists is =
+    let s = snapshot_of before counts in
+    rw (same_snapshot (snapshot_of after counts) (with_value s class v) plan lists refl, is) (placed p s es class v on may)
+
+-- a student got a list in place of another, by entries on those of a step
+pub filled_leads : (p : Parts) (before after : Score) (counts : FinMap key_cmp ℕ) (es fs : List Entry) (student : ℕ) (classes : List ℕ) → StandsOn p (snapshot_of before counts) es → Fits p before → student < length p.students → MayGet p (snapshot_of before counts) student classes
+    → plan_of after ≡ plan_of before → seats_of after ≡ slice_set (seats_of before) student (in_order classes) → fs ≡ seated_by student (in_order classes) (left_by student (list_of (seats_of before) student) es) → LeadsTo p (snapshot_of before counts) es (snapshot_of after counts) fs
+filled_leads p before after counts es fs student classes on fits within may plan lists is =
+    let s = snapshot_of before counts in
+    rw (same_snapshot (snapshot_of after counts) (with_list s student (in_order classes)) plan lists refl, is) (filled p s es student classes on (list_held p before counts student fits within) may)
+
+-- a state that a change led to
+pub state_after : (p : Parts) (after : Score) (counts : FinMap key_cmp ℕ) (points : ℕ) (s : Snapshot) (es fs : List Entry) → Fits p after → LeadsTo p s es (snapshot_of after counts) fs → points ≡ point_count es → IsStateOf p after counts points fs
+state_after p after counts points s es fs fits leads points_is = state_by p after counts points s (snapshot_of after counts) es fs fs fits leads refl refl points_is
+
+-- a state after a class got another value or none
+pub placed_state : (p : Parts) (before after : Score) (counts : FinMap key_cmp ℕ) (points : ℕ) (es fs : List Entry) (class : ℕ) (v : Option Value) → StandsOn p (snapshot_of before counts) es → MayHave p class v → points ≡ point_count es
+    → Fits p after → plan_of after ≡ slice_set (plan_of before) class v → seats_of after ≡ seats_of before → fs ≡ Placed class (slice_index_or (plan_of before) class None) ∷ es → IsStateOf p after counts points fs
+placed_state p before after counts points es fs class v on may points_is fits plan lists is =
+    state_after p after counts points (snapshot_of before counts) es fs fits (placed_leads p before after counts es fs class v on may plan lists is) points_is
+
+-- a state whose score was asked, and has the plan and the lists that it had
+pub asked_state : (p : Parts) (before after : Score) (counts : FinMap key_cmp ℕ) (points : ℕ) (es : List Entry) → IsStateOf p before counts points es → Fits p after → plan_of after ≡ plan_of before → seats_of after ≡ seats_of before → IsStateOf p after counts points es
+asked_state p before after counts points es of fits plan lists =
+    let same : snapshot_of after counts ≡ snapshot_of before counts = same_snapshot (snapshot_of after counts) (snapshot_of before counts) plan lists refl in
+    record {
+      kept = record { fits = fits; entries = subst (λ s. LeadBack p s es) (sym same) of.kept.entries; counted = of.kept.counted; points_is = of.kept.points_is };
+      sound = subst (IsSound p) (sym same) of.sound;
+    }

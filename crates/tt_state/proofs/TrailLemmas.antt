@@ -3,9 +3,9 @@ use Rattle.std.specs.Prelude.{slice_get}
 use Rattle.std.proofs.Common.{◌≡◌, ◌∙◌, ℕ, zero, suc, Some, ◌+◌, ◌≤◌, List, [], ◌∷◌, ◌++◌, length, take, refl, ap, sym, arith, length-append}
 use Rattle.std.proofs.lemmas.List.{take_all, take_at, take-take}
 use Rattle.tt_journal.specs.declared.Entry.{Entry}
-use Rattle.tt_journal.specs.declared.Entry.TheVariants.{Mark, Point, Placed, Left, Seated}
+use Rattle.tt_journal.specs.declared.Entry.TheVariants.{Mark, Point, Placed, Left, Seated, Bumped}
 use Rattle.tt_state.specs.Snapshots.{Snapshot, with_value}
-use Rattle.tt_state.specs.History.{Held, trail, with_seat, without_seat, points_by, point_count}
+use Rattle.tt_state.specs.History.{Held, trail, with_seat, without_seat, with_dropped, points_by, point_count}
 
 pub length-points_by : (s : Snapshot) (es : List Entry) → length (points_by s es) ≡ point_count es
 length-points_by s [] = refl
@@ -14,6 +14,7 @@ length-points_by s (Point ∷ es) = omega (arith, length-append (points_by s es)
 length-points_by s (Placed class before ∷ es) = length-points_by (with_value s class before) es
 length-points_by s (Left student class ∷ es) = length-points_by (with_seat s student class) es
 length-points_by s (Seated student class ∷ es) = length-points_by (without_seat s student class) es
+length-points_by s (Bumped key ∷ es) = length-points_by (with_dropped s key) es
 
 pub length-trail : (s : Snapshot) (es : List Entry) → length (points_by s es ++ s ∷ []) ≡ point_count es + 1
 length-trail s es = omega (arith, length-append (points_by s es) (s ∷ []), length-points_by s es)
@@ -26,6 +27,7 @@ few_points (Point ∷ es) = omega (arith, few_points es)
 few_points (Placed class before ∷ es) = omega (arith, few_points es)
 few_points (Left student class ∷ es) = omega (arith, few_points es)
 few_points (Seated student class ∷ es) = omega (arith, few_points es)
+few_points (Bumped key ∷ es) = omega (arith, few_points es)
 
 -- all moments up to the present one
 pub whole_trail : (s : Snapshot) (es : List Entry) (n : ℕ) → n ≡ point_count es → points_by s es ++ s ∷ [] ≡ take (n + 1) (points_by s es ++ s ∷ [])

@@ -1,16 +1,23 @@
 -- The earlier snapshots, as undoing entries gives them. Entries stand newest first.
 use Rattle.std.specs.Prelude.{ℕ, ◌+◌, List, [], ◌∷◌, ◌++◌}
+use Rattle.tt_bits.specs.declared.times.Key.{Key}
+use Rattle.tt_cbs.specs.Counts.{dropped}
 use Rattle.tt_problem.specs.declared.parts.Parts.{Parts}
 use Rattle.tt_roster.specs.Lists.{with_class, without_class}
 use Rattle.tt_journal.specs.declared.Entry.{Entry}
-use Rattle.tt_journal.specs.declared.Entry.TheVariants.{Mark, Point, Placed, Left, Seated}
+use Rattle.tt_journal.specs.declared.Entry.TheVariants.{Mark, Point, Placed, Left, Seated, Bumped}
 use Rattle.tt_state.specs.Snapshots.{Snapshot, with_value, list_in, with_list}
 
--- what a state is: a problem, its present snapshot, and the entries that lead back
+-- what a state is: a problem, its present snapshot, the entries that lead back, and the conflict set that was found last
 pub record Held : Type 0 where
   pub problem : Parts
   pub present : Snapshot
   pub entries : List Entry
+  pub taken : List ℕ
+
+-- the same state with another conflict set found last
+abbrev pub with_taken : Held → List ℕ → Held
+with_taken s found = record { problem = s.problem; present = s.present; entries = s.entries; taken = found }
 
 -- a snapshot in which a student has a class more
 abbrev pub with_seat : Snapshot → (student class : ℕ) → Snapshot
@@ -20,6 +27,10 @@ with_seat s student class = with_list s student (with_class class (list_in s stu
 abbrev pub without_seat : Snapshot → (student class : ℕ) → Snapshot
 without_seat s student class = with_list s student (without_class class (list_in s student))
 
+-- a snapshot with a counter lowered by one
+abbrev pub with_dropped : Snapshot → Key → Snapshot
+with_dropped s key = record { plan = s.plan; lists = s.lists; statistics = dropped s.statistics key }
+
 -- the snapshots before each step, the newest first
 abbrev pub earlier_by : Snapshot → List Entry → List Snapshot
 earlier_by s [] = []
@@ -28,6 +39,7 @@ earlier_by s (Point ∷ es) = earlier_by s es
 earlier_by s (Placed class before ∷ es) = earlier_by (with_value s class before) es
 earlier_by s (Left student class ∷ es) = earlier_by (with_seat s student class) es
 earlier_by s (Seated student class ∷ es) = earlier_by (without_seat s student class) es
+earlier_by s (Bumped key ∷ es) = earlier_by (with_dropped s key) es
 
 -- the snapshots at the points of the last step, the oldest first
 abbrev pub points_by : Snapshot → List Entry → List Snapshot
@@ -37,6 +49,7 @@ points_by s (Point ∷ es) = points_by s es ++ s ∷ []
 points_by s (Placed class before ∷ es) = points_by (with_value s class before) es
 points_by s (Left student class ∷ es) = points_by (with_seat s student class) es
 points_by s (Seated student class ∷ es) = points_by (without_seat s student class) es
+points_by s (Bumped key ∷ es) = points_by (with_dropped s key) es
 
 -- how many points the last step has
 abbrev pub point_count : List Entry → ℕ
@@ -46,6 +59,7 @@ point_count (Point ∷ es) = point_count es + 1
 point_count (Placed class before ∷ es) = point_count es
 point_count (Left student class ∷ es) = point_count es
 point_count (Seated student class ∷ es) = point_count es
+point_count (Bumped key ∷ es) = point_count es
 
 -- the entries below the last step
 abbrev pub before_step : List Entry → List Entry
@@ -55,6 +69,7 @@ before_step (Point ∷ es) = before_step es
 before_step (Placed class before ∷ es) = before_step es
 before_step (Left student class ∷ es) = before_step es
 before_step (Seated student class ∷ es) = before_step es
+before_step (Bumped key ∷ es) = before_step es
 
 -- the entries below the newest point
 abbrev pub before_point : List Entry → List Entry
@@ -64,6 +79,7 @@ before_point (Point ∷ es) = es
 before_point (Placed class before ∷ es) = before_point es
 before_point (Left student class ∷ es) = before_point es
 before_point (Seated student class ∷ es) = before_point es
+before_point (Bumped key ∷ es) = before_point es
 
 -- there is a step
 abbrev pub HasStep : List Entry → Type 0
@@ -73,6 +89,7 @@ HasStep (Point ∷ es) = HasStep es
 HasStep (Placed class before ∷ es) = HasStep es
 HasStep (Left student class ∷ es) = HasStep es
 HasStep (Seated student class ∷ es) = HasStep es
+HasStep (Bumped key ∷ es) = HasStep es
 
 -- the entries with one more for each class that a student leaves, the first class first
 abbrev pub left_by : (student : ℕ) → List ℕ → List Entry → List Entry

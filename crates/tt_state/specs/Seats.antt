@@ -3,6 +3,7 @@ use Rattle.std.specs.Prelude.{ℕ, Bool, true, nat_lt, List, [], ◌∷◌, Opti
 use Rattle.std.specs.Option.{option_map_or}
 use Rattle.tt_problem.specs.declared.parts.Parts.{Parts}
 use Rattle.tt_roster.specs.Lists.{has_class}
+use Rattle.tt_struct.specs.Enrolments.{is_enrolment}
 
 -- how many students a class may have, if it has a limit
 abbrev pub limit_of : Parts → (class : ℕ) → Option ℕ
@@ -25,3 +26,8 @@ abbrev pub first_without_seat : Parts → List (List ℕ) → (student : ℕ) �
 first_without_seat p lists student [] = None
 first_without_seat p lists student (class ∷ classes) =
     if has_seat p lists student class then first_without_seat p lists student classes else Some class
+
+-- whether a student may have these classes: none, or a valid enrolment
+abbrev pub may_have : Parts → (student : ℕ) → List ℕ → Bool
+may_have p student [] = true
+may_have p student (class ∷ classes) = is_enrolment p student (class ∷ classes)

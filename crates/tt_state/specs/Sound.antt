@@ -1,6 +1,11 @@
 -- What holds of each snapshot, and when one is ready.
-use Rattle.std.specs.Prelude.{◌≡◌, ℕ, ◌≤◌, Bool, true, ◌&&◌, ◌==◌, List, [], ◌∷◌, All, IfSome, length}
+use Rattle.std.specs.Prelude.{◌≡◌, ℕ, ◌≤◌, ◌<◌, Bool, true, ◌&&◌, ◌==◌, List, [], ◌∷◌, All, IfSome, length}
+use Rattle.std.specs.FinMap.{FinMap}
+use Rattle.tt_bits.specs.declared.times.Key.{Key}
+use Rattle.tt_cbs.specs.Counts.{count_at}
+use Rattle.tt_cbs.specs.KeyOrder.{key_cmp}
 use Rattle.tt_problem.specs.declared.parts.Parts.{Parts}
+use Rattle.tt_plan.specs.Domain.{IsOfDomain}
 use Rattle.tt_roster.specs.Lists.{Ascends, list_of}
 use Rattle.tt_score.specs.declared.totals.Totals.{Totals}
 use Rattle.tt_score.specs.Kept.{IsPlanOf}
@@ -21,10 +26,16 @@ pub record AreListsOf (p : Parts) (lists : List (List ℕ)) : Type 0 where
   pub enrolled : (student : ℕ) → IsEnrolled p student (list_of lists student)
   pub limits : (class : ℕ) → IfSome (limit_of p class) (λ limit. count_with lists class ≤ limit)
 
--- each value is of the domain of its class, and the lists are those of a problem
+-- what is counted is of classes of the problem, at values of their domains
+pub record AreCountersOf (p : Parts) (statistics : FinMap key_cmp ℕ) : Type 0 where
+  pub value : (key : Key) → 0 < count_at statistics key → IsOfDomain p key.class key.value
+  pub other_value : (key : Key) → 0 < count_at statistics key → IsOfDomain p key.other key.other_value
+
+-- each value is of the domain of its class, and lists and statistics are those of a problem
 pub record IsSound (p : Parts) (s : Snapshot) : Type 0 where
   pub plan : IsPlanOf p s.plan
   pub lists : AreListsOf p s.lists
+  pub statistics : AreCountersOf p s.statistics
 
 -- each of these snapshots is sound
 abbrev pub AreSound : Parts → List Snapshot → Type 0

@@ -1,7 +1,8 @@
 ghost use Rattle.std.specs.Prelude.{◌≡◌, ◌+◌, ◌<◌, ◌≤◌, ◌∷◌, None, length, slice_index_or, slice_set};
 ghost use Rattle.tt_score.specs.Kept.{Fits, plan_of, seats_of};
-ghost use Rattle.tt_state.specs.History.{with_seat, without_seat};
-ghost use Rattle.tt_state.specs.Kept.{MayHave, MayLeave, MaySeat, snapshot_of};
+ghost use Rattle.tt_roster.specs.Lists.{list_of, with_class, without_class};
+ghost use Rattle.tt_state.specs.Kept.{MayLeave, MaySeat};
+ghost use Rattle.tt_state.specs.Values.{MayHave};
 
 use tt_bits::Value;
 use tt_journal::{Entry, Journal};
@@ -17,6 +18,18 @@ pub fn mark_step(journal: &mut Journal, points: &mut u64)
 {
     journal.push(Entry::Mark { points: *points });
     *points = 0;
+}
+
+/// Adds a moment to the last step, that it may go back to.
+pub fn mark_point(journal: &mut Journal, points: &mut u64)
+    requires spare { 1 ≤ journal.old.spare }
+    requires few { points.old ≤ length journal.old.list }
+    ensures entries { journal.new.list ≡ Entry.Point ∷ journal.old.list }
+    ensures spare { journal.new.spare + 1 ≡ journal.old.spare }
+    ensures points { points.new ≡ points.old + 1 }
+{
+    journal.push(Entry::Point);
+    *points += 1;
 }
 
 /// The value that a class has.
@@ -57,8 +70,9 @@ pub fn set_value(problem: &Problem, score: &mut Score, class: u32, to: Option<Va
 /// Gives a student a class more.
 pub fn seat(problem: &Problem, score: &mut Score, student: u32, class: u32)
     requires fits { Fits problem.now score.old }
-    requires may { MaySeat problem.now (snapshot_of score.old) student class }
-    ensures seated { snapshot_of score.new ≡ with_seat (snapshot_of score.old) student class }
+    requires may { MaySeat problem.now (seats_of score.old) student class }
+    ensures plan { plan_of score.new ≡ plan_of score.old }
+    ensures lists { seats_of score.new ≡ slice_set (seats_of score.old) student (with_class class (list_of (seats_of score.old) student)) }
     ensures fits { Fits problem.now score.new }
 {
     score.seat(problem, student, class);
@@ -67,8 +81,9 @@ pub fn seat(problem: &Problem, score: &mut Score, student: u32, class: u32)
 /// Takes a class from a student.
 pub fn leave(problem: &Problem, score: &mut Score, student: u32, class: u32)
     requires fits { Fits problem.now score.old }
-    requires may { MayLeave problem.now (snapshot_of score.old) student class }
-    ensures left { snapshot_of score.new ≡ without_seat (snapshot_of score.old) student class }
+    requires may { MayLeave problem.now (seats_of score.old) student class }
+    ensures plan { plan_of score.new ≡ plan_of score.old }
+    ensures lists { seats_of score.new ≡ slice_set (seats_of score.old) student (without_class class (list_of (seats_of score.old) student)) }
     ensures fits { Fits problem.now score.new }
 {
     score.leave(problem, student, class);

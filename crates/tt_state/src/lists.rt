@@ -2,16 +2,17 @@ ghost use Rattle.std.specs.Prelude.{◌≡◌, ◌+◌, ◌<◌, ◌≤◌, ◌�
 ghost use Rattle.tt_score.specs.Kept.{Fits, plan_of, seats_of};
 ghost use Rattle.tt_roster.specs.Lists.{list_of};
 ghost use Rattle.tt_struct.specs.Enrolments.{has_no_repeat};
-ghost use Rattle.tt_state.specs.Snapshots.{in_order, list_in, with_list};
+ghost use Rattle.tt_state.specs.Sound.{IsEnrolled};
+ghost use Rattle.tt_state.specs.Snapshots.{in_order};
 ghost use Rattle.tt_state.specs.History.{left_by, seated_by};
-ghost use Rattle.tt_state.specs.Kept.{most_at, snapshot_of};
+ghost use Rattle.tt_state.specs.Kept.{most_at};
 
 use tt_journal::{Entry, Journal};
 use tt_problem::Problem;
 use tt_score::Score;
 
 /// How many classes a student has.
-pub fn seat_count(problem: &Problem, score: &Score, student: u32) -> u32
+fn seat_count(problem: &Problem, score: &Score, student: u32) -> u32
     requires fits { Fits problem.now score.now }
     requires student { student < length problem.now.students }
     ensures count { result ≡ length (list_of (seats_of score.now) student) }
@@ -26,7 +27,7 @@ pub fn seat_count(problem: &Problem, score: &Score, student: u32) -> u32
 }
 
 /// The first class of a student.
-fn first_class(score: &Score, student: u32) -> Option<u32>
+pub fn first_class(score: &Score, student: u32) -> Option<u32>
     requires { student < length (seats_of score.now) }
     ensures { MatchOption result (list_of (seats_of score.now) student ≡ []) (λ class. list_of (seats_of score.now) student ≡ class ∷ drop 1 (list_of (seats_of score.now) student)) }
 {
@@ -89,13 +90,14 @@ fn seat_all(problem: &Problem, score: &mut Score, student: u32, classes: &[u32])
 }
 
 /// Takes a student out of each class, and notes it.
-pub fn empty_list(problem: &Problem, score: &mut Score, journal: &mut Journal, student: u32)
+fn empty_list(problem: &Problem, score: &mut Score, journal: &mut Journal, student: u32)
     requires fits { Fits problem.now score.old }
     requires student { student < length problem.now.students }
     requires spare { length (list_of (seats_of score.old) student) ≤ journal.old.spare }
-    ensures now { snapshot_of score.new ≡ with_list (snapshot_of score.old) student [] }
+    ensures plan { plan_of score.new ≡ plan_of score.old }
+    ensures lists { seats_of score.new ≡ slice_set (seats_of score.old) student [] }
     ensures fits { Fits problem.now score.new }
-    ensures entries { journal.new.list ≡ left_by student (list_in (snapshot_of score.old) student) journal.old.list }
+    ensures entries { journal.new.list ≡ left_by student (list_of (seats_of score.old) student) journal.old.list }
     ensures spare { journal.new.spare + length (list_of (seats_of score.old) student) ≡ journal.old.spare }
 {
     note_left(score, journal, student);
@@ -126,8 +128,19 @@ fn fill_list(
     note_seated(score, journal, student);
 }
 
-/// Takes a student out of each class, then gives the student a seat in each class of a list, and
-/// notes both.
+/// How many entries it takes to begin or to go on with a step, and to give a student these classes
+/// in place of those that the student has.
+pub fn entry_count(problem: &Problem, score: &Score, student: u32, classes: &[u32]) -> u32
+    requires fits { Fits problem.now score.now }
+    requires student { student < length problem.now.students }
+    requires valid { IsEnrolled problem.now student classes.now }
+    ensures { result ≡ length (list_of (seats_of score.now) student) + length classes.now + 1 }
+{
+    seat_count(problem, score, student) + classes.len() as u32 + 1
+}
+
+/// Takes a student out of each class, then gives the student a seat in each class of a list that is
+/// empty or a valid enrolment, and notes both.
 pub fn replace_list(
     problem: &Problem,
     score: &mut Score,
@@ -138,12 +151,12 @@ pub fn replace_list(
     requires fits { Fits problem.now score.old }
     requires student { student < length problem.now.students }
     requires classes { All (λ class. class < length problem.now.classes) classes.now }
-    requires no_repeat { has_no_repeat classes.now ≡ true }
-    requires few { length classes.now ≤ most_at problem.now student }
+    requires valid { IsEnrolled problem.now student classes.now }
     requires spare { length (list_of (seats_of score.old) student) + length classes.now ≤ journal.old.spare }
-    ensures now { snapshot_of score.new ≡ with_list (snapshot_of score.old) student (in_order classes.now) }
+    ensures plan { plan_of score.new ≡ plan_of score.old }
+    ensures lists { seats_of score.new ≡ slice_set (seats_of score.old) student (in_order classes.now) }
     ensures fits { Fits problem.now score.new }
-    ensures entries { journal.new.list ≡ seated_by student (in_order classes.now) (left_by student (list_in (snapshot_of score.old) student) journal.old.list) }
+    ensures entries { journal.new.list ≡ seated_by student (in_order classes.now) (left_by student (list_of (seats_of score.old) student) journal.old.list) }
 {
     empty_list(problem, score, journal, student);
     fill_list(problem, score, journal, student, classes);

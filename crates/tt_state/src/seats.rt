@@ -2,7 +2,7 @@ ghost use Rattle.std.specs.Prelude.{◌≡◌, ◌<◌, All, Some, None, length,
 ghost use Rattle.tt_score.specs.Kept.{Fits, seats_of};
 ghost use Rattle.tt_roster.specs.Lists.{has_class, list_of};
 ghost use Rattle.tt_state.specs.Seats.{first_without_seat, has_seat, others_with};
-ghost use Rattle.tt_state.specs.Faults.{section_fault_of};
+ghost use Rattle.tt_state.specs.Faults.{list_fault_of, section_fault_of};
 
 use tt_problem::Problem;
 use tt_score::Score;
@@ -93,4 +93,22 @@ pub fn section_fault(
         None => None,
         Some(class) => Some(SectionFault::Full { class }),
     }
+}
+
+/// Why a student can't have the classes of a list, which may be empty; `None` where the student can.
+pub fn list_fault(
+    problem: &Problem,
+    score: &Score,
+    student: u32,
+    classes: &[u32],
+) -> Option<SectionFault>
+    requires fits { Fits problem.now score.now }
+    requires student { student < length problem.now.students }
+    requires classes { All (λ class. class < length problem.now.classes) classes.now }
+    ensures { result ≡ list_fault_of problem.now (seats_of score.now) student classes.now }
+{
+    if classes.is_empty() {
+        return None;
+    }
+    section_fault(problem, score, student, classes)
 }

@@ -3,20 +3,25 @@ ghost use Rattle.tt_plan.specs.Domain.{IsOfDomain};
 ghost use Rattle.tt_score.specs.Kept.{Fits, plan_of, seats_of};
 ghost use Rattle.tt_score.specs.Totals.{totals_of};
 ghost use Rattle.tt_struct.specs.Enrolments.{is_enrolment};
-ghost use Rattle.tt_state.specs.Kept.{MayHave};
+ghost use Rattle.tt_state.specs.Values.{MayHave};
 ghost use Rattle.tt_state.specs.Refusals.{IsOfUnassign, IsOfSection, IsOfDrop};
-ghost use Rattle.tt_state.specs.Seats.{first_without_seat};
+ghost use Rattle.tt_state.specs.Seats.{first_without_seat, may_have};
 ghost use Rattle.tt_state.specs.Snapshots.{in_order, list_in, opening_snapshot, value_in, with_list, with_value};
-ghost use Rattle.tt_state.specs.Sound.{AreSound, IsSound, is_ready, no_faults};
+ghost use Rattle.tt_state.specs.Sound.{AreSound, IsEnrolled, IsSound, is_ready, no_faults};
+ghost use Rattle.tt_state.specs.Past.{HasPastOf};
 ghost use Rattle.tt_state.specs.History.{HasStep, before_step, desk_of, earlier, left_by, point_count, seated_by, stepped, moved_to, trail};
 
+mod forcing;
+
 use crate::back::{back_to_mark, back_to_moment};
-use crate::change::{change, mark_step, value_now};
-use crate::lists::{empty_list, replace_list, seat_count};
-use crate::seats::{SectionFault, section_fault};
+use crate::change::{change, mark_point, mark_step, value_now};
+use crate::lists::{entry_count, first_class, replace_list};
+use crate::seats::{SectionFault, list_fault, section_fault};
 use std::alloc::{AllocError, Global};
 use std::marker::Model;
 use tt_bits::Value;
+use tt_cbs::Cbs;
+use tt_clash::Block;
 use tt_journal::{Entry, Journal};
 use tt_problem::Problem;
 use tt_score::{Score, Totals};
@@ -26,6 +31,8 @@ use tt_score::{Score, Totals};
 pub enum Refusal {
     /// The class has no value.
     NotPlaced,
+    /// The value is blocked.
+    Blocked { reason: Block },
     /// The list is no valid enrolment of the student.
     BadSection,
     /// The class has no seat for the student.
@@ -38,25 +45,39 @@ pub enum Refusal {
     Memory,
 }
 
-/// A problem, its present plan and lists with the sums over them, and the entries that lead back.
+/// A problem, its present plan, lists and statistics with the sums over them, and the entries that
+/// lead back.
 #[derive(Drop)]
 pub struct State {
     problem: Problem,
     score: Score,
     journal: Journal,
+    statistics: Cbs,
+    /// How many points the last step has.
     points: u64,
+    /// A mark for each class, set only while a conflict set is found.
+    marks: Vec<bool>,
+    /// The conflict set found last is the first `found` of these.
+    order: Vec<u32>,
+    found: usize,
 }
 
 impl Model for State {
+    ghost use Rattle.std.specs.Coded.{codes, coded_ℕ};
+    ghost use Rattle.std.specs.FinMap as map;
+    ghost use Rattle.tt_cbs.specs.KeyOrder.{key_cmp, coded_key};
     ghost use Rattle.tt_state.specs.History.{Held};
 
     ghost Value = { Held };
 
-    ghost use Rattle.tt_state.specs.Kept.{IsStateOf, snapshot_of};
+    ghost coded = { Prim.hlevel (codes, map.code {R = key_cmp} coded_key coded_ℕ) };
 
-    ghost view = { λ s. record { problem = s.problem; present = snapshot_of s.score; entries = s.journal.list } };
+    ghost use Rattle.std.specs.Prelude.{take};
+    ghost use Rattle.tt_state.specs.Kept.{IsScratchOf, IsStateOf, snapshot_of};
 
-    ghost invariant = { λ s. IsStateOf s.problem s.score s.points s.journal.list };
+    ghost view = { λ s. record { problem = s.problem; present = snapshot_of s.score s.statistics; entries = s.journal.list; taken = take s.found s.order.items } };
+
+    ghost invariant = { λ s. IsStateOf s.problem s.score s.statistics s.points s.journal.list × IsScratchOf s.problem s.marks.items s.order.items s.found };
 }
 
 /// Whether no class is without a value, no student without classes, and nothing in conflict.
@@ -70,14 +91,21 @@ fn has_no_faults(totals: Totals) -> bool
 impl State {
     /// Nothing placed, no student with a class, and no step.
     pub fn start(alloc: Global, problem: Problem) -> Result<State, AllocError>
-        ensures { IfOk result (λ s. s ≡ record { problem = problem; present = opening_snapshot problem; entries = [] }) }
+        ensures { IfOk result (λ s. s ≡ record { problem = problem; present = opening_snapshot problem; entries = []; taken = [] }) }
     {
         let score = Score::new(alloc, &problem)?;
+        let count = problem.class_count() as usize;
+        let marks = vec![in alloc; false; count]?;
+        let order = vec![in alloc; 0; count]?;
         Ok(State {
             problem,
             score,
             journal: Journal::new(alloc),
+            statistics: Cbs::new(alloc),
             points: 0,
+            marks,
+            order,
+            found: 0,
         })
     }
 
@@ -96,7 +124,7 @@ impl State {
     /// Gives a class a value or none, as one step.
     fn add_step(&mut self, class: u32, to: Option<Value>) -> Result<(), AllocError>
         requires { MayHave self.old.problem class to }
-        ensures now { OnOk result (self.new ≡ record { problem = self.old.problem; present = with_value self.old.present class to; entries = Entry.Placed class (value_in self.old.present class) ∷ Entry.Mark (point_count self.old.entries) ∷ self.old.entries }) }
+        ensures now { OnOk result (self.new ≡ record { problem = self.old.problem; present = with_value self.old.present class to; entries = Entry.Placed class (value_in self.old.present class) ∷ Entry.Mark (point_count self.old.entries) ∷ self.old.entries; taken = self.old.taken }) }
         ensures err { OnErr result (self.new ≡ self.old) }
     {
         self.journal.reserve(2)?;
@@ -106,7 +134,7 @@ impl State {
     }
 
     /// Gives a class a value, as one step.
-    #[tactic(auto, using(crate::proofs::StepLemmas::placed_step))]
+    #[tactic(auto, using(crate::proofs::PastLemmas::placed_step))]
     pub fn assign(&mut self, class: u32, value: Value) -> Result<(), AllocError>
         requires { IsOfDomain self.old.problem class value }
         ensures desk { OnOk result (desk_of self.new ≡ stepped (desk_of self.old) (with_value self.old.present class (Some value))) }
@@ -118,7 +146,7 @@ impl State {
     }
 
     /// Takes its value from a class, as one step.
-    #[tactic(auto, using(crate::proofs::StepLemmas::placed_step))]
+    #[tactic(auto, using(crate::proofs::PastLemmas::placed_step))]
     pub fn unassign(&mut self, class: u32) -> Result<(), Refusal>
         requires { class < length self.old.problem.classes }
         ensures desk { OnOk result (desk_of self.new ≡ stepped (desk_of self.old) (with_value self.old.present class None)) }
@@ -143,18 +171,17 @@ impl State {
     fn add_to_step(&mut self, class: u32, to: Option<Value>) -> Result<(), AllocError>
         requires may { MayHave self.old.problem class to }
         requires step { HasStep self.old.entries }
-        ensures now { OnOk result (self.new ≡ record { problem = self.old.problem; present = with_value self.old.present class to; entries = Entry.Placed class (value_in self.old.present class) ∷ Entry.Point ∷ self.old.entries }) }
+        ensures now { OnOk result (self.new ≡ record { problem = self.old.problem; present = with_value self.old.present class to; entries = Entry.Placed class (value_in self.old.present class) ∷ Entry.Point ∷ self.old.entries; taken = self.old.taken }) }
         ensures err { OnErr result (self.new ≡ self.old) }
     {
         self.journal.reserve(2)?;
-        self.journal.push(Entry::Point);
-        self.points += 1;
+        mark_point(&mut self.journal, &mut self.points);
         change(&self.problem, &mut self.score, &mut self.journal, class, to);
         Ok(())
     }
 
     /// Gives a class a value or none, in the last step.
-    #[tactic(auto, using(crate::proofs::StepLemmas::placed_in_step, crate::proofs::StepLemmas::placed_trail, crate::proofs::StepLemmas::step_is))]
+    #[tactic(auto, using(crate::proofs::PastLemmas::placed_in_step, crate::proofs::PastLemmas::placed_trail, crate::proofs::StepLemmas::step_is))]
     pub fn place_step(&mut self, class: u32, value: Option<Value>) -> Result<(), AllocError>
         requires may { MayHave self.old.problem class value }
         requires step { 0 < length (earlier self.old) }
@@ -166,17 +193,18 @@ impl State {
         self.add_to_step(class, value)
     }
 
-    /// Gives a student, who may have a list already, the classes of another list, as one step.
+    /// Gives a student the classes of a list in place of those that the student has, as one step.
     fn set_list(&mut self, student: u32, classes: &[u32]) -> Result<(), AllocError>
         requires student { student < length self.old.problem.students }
         requires classes { All (λ class. class < length self.old.problem.classes) classes.now }
-        requires valid { is_enrolment self.old.problem student classes.now ≡ true }
+        requires valid { IsEnrolled self.old.problem student classes.now }
         requires seats { first_without_seat self.old.problem self.old.present.lists student classes.now ≡ None }
-        ensures now { OnOk result (self.new ≡ record { problem = self.old.problem; present = with_list self.old.present student (in_order classes.now); entries = seated_by student (in_order classes.now) (left_by student (list_in self.old.present student) (Entry.Mark (point_count self.old.entries) ∷ self.old.entries)) }) }
+        ensures now { OnOk result (self.new ≡ record { problem = self.old.problem; present = with_list self.old.present student (in_order classes.now); entries = seated_by student (in_order classes.now) (left_by student (list_in self.old.present student) (Entry.Mark (point_count self.old.entries) ∷ self.old.entries)); taken = self.old.taken }) }
+        ensures past { OnOk result (HasPastOf self.old.present (Entry.Mark (point_count self.old.entries) ∷ self.old.entries) self.new.present self.new.entries) }
         ensures err { OnErr result (self.new ≡ self.old) }
     {
-        let count = seat_count(&self.problem, &self.score, student);
-        self.journal.reserve(count + classes.len() as u32 + 1)?;
+        let count = entry_count(&self.problem, &self.score, student, classes);
+        self.journal.reserve(count)?;
         mark_step(&mut self.journal, &mut self.points);
         replace_list(
             &self.problem,
@@ -191,6 +219,7 @@ impl State {
     /// Gives a student the classes of a list in place of those that the student has, as one step.
     /// The list is refused where it is no valid enrolment, or else where some class has no seat for
     /// the student; the answer names the first of these in the order of the list.
+    #[tactic(auto, using(crate::proofs::PastLemmas::step_desk, crate::proofs::PastLemmas::step_trail))]
     pub fn section(&mut self, student: u32, classes: &[u32]) -> Result<(), Refusal>
         requires student { student < length self.old.problem.students }
         requires classes { All (λ class. class < length self.old.problem.classes) classes.now }
@@ -215,19 +244,7 @@ impl State {
     }
 
     /// Takes a student out of each class, as one step.
-    fn clear_list(&mut self, student: u32) -> Result<(), AllocError>
-        requires { student < length self.old.problem.students }
-        ensures now { OnOk result (self.new ≡ record { problem = self.old.problem; present = with_list self.old.present student []; entries = left_by student (list_in self.old.present student) (Entry.Mark (point_count self.old.entries) ∷ self.old.entries) }) }
-        ensures err { OnErr result (self.new ≡ self.old) }
-    {
-        let count = seat_count(&self.problem, &self.score, student);
-        self.journal.reserve(count + 1)?;
-        mark_step(&mut self.journal, &mut self.points);
-        empty_list(&self.problem, &mut self.score, &mut self.journal, student);
-        Ok(())
-    }
-
-    /// Takes a student out of each class, as one step.
+    #[tactic(auto, using(crate::proofs::PastLemmas::step_desk, crate::proofs::PastLemmas::step_trail))]
     pub fn drop_student(&mut self, student: u32) -> Result<(), Refusal>
         requires { student < length self.old.problem.students }
         ensures desk { OnOk result (desk_of self.new ≡ stepped (desk_of self.old) (with_list self.old.present student [])) }
@@ -238,12 +255,65 @@ impl State {
         ensures not_sectioned { (result ≡ Err Refusal.NotSectioned) ↔ (list_in self.old.present student ≡ []) }
         ensures only { IfErr result IsOfDrop }
     {
-        if seat_count(&self.problem, &self.score, student) == 0 {
+        if first_class(&self.score, student).is_none() {
             return Err(Refusal::NotSectioned);
         }
-        match self.clear_list(student) {
+        match self.set_list(student, &[]) {
             Ok(()) => Ok(()),
             Err(_) => Err(Refusal::Memory),
+        }
+    }
+
+    /// Gives a student the classes of a list in place of those that the student has, in the last
+    /// step.
+    #[tactic(auto, using(crate::proofs::TrailLemmas::few_points))]
+    fn set_list_in_step(&mut self, student: u32, classes: &[u32]) -> Result<(), AllocError>
+        requires student { student < length self.old.problem.students }
+        requires classes { All (λ class. class < length self.old.problem.classes) classes.now }
+        requires valid { IsEnrolled self.old.problem student classes.now }
+        requires seats { first_without_seat self.old.problem self.old.present.lists student classes.now ≡ None }
+        requires step { HasStep self.old.entries }
+        ensures now { OnOk result (self.new ≡ record { problem = self.old.problem; present = with_list self.old.present student (in_order classes.now); entries = seated_by student (in_order classes.now) (left_by student (list_in self.old.present student) (Entry.Point ∷ self.old.entries)); taken = self.old.taken }) }
+        ensures past { OnOk result (HasPastOf self.old.present (Entry.Point ∷ self.old.entries) self.new.present self.new.entries) }
+        ensures err { OnErr result (self.new ≡ self.old) }
+    {
+        let count = entry_count(&self.problem, &self.score, student, classes);
+        self.journal.reserve(count)?;
+        mark_point(&mut self.journal, &mut self.points);
+        replace_list(
+            &self.problem,
+            &mut self.score,
+            &mut self.journal,
+            student,
+            classes,
+        );
+        Ok(())
+    }
+
+    /// Gives a student the classes of a list in place of those that the student has, in the last
+    /// step; an empty list empties the student's own. The list is refused as by `section`.
+    #[tactic(auto, using(crate::proofs::PastLemmas::moved_desk, crate::proofs::PastLemmas::moved_trail, crate::proofs::StepLemmas::step_is))]
+    pub fn section_step(&mut self, student: u32, classes: &[u32]) -> Result<(), Refusal>
+        requires student { student < length self.old.problem.students }
+        requires classes { All (λ class. class < length self.old.problem.classes) classes.now }
+        requires step { 0 < length (earlier self.old) }
+        ensures desk { OnOk result (desk_of self.new ≡ moved_to (desk_of self.old) (with_list self.old.present student (in_order classes.now))) }
+        ensures trail { OnOk result (trail self.new ≡ trail self.old ++ self.new.present ∷ []) }
+        ensures entries { OnOk result (self.new.entries ≡ seated_by student (in_order classes.now) (left_by student (list_in self.old.present student) (Entry.Point ∷ self.old.entries))) }
+        ensures err { OnErr result (self.new ≡ self.old) }
+
+        ensures bad_section { (result ≡ Err Refusal.BadSection) ↔ (may_have self.old.problem student classes.now ≡ false) }
+        ensures no_seat { (class : ℕ) → (result ≡ Err (Refusal.NoSeat class))
+            ↔ ((may_have self.old.problem student classes.now ≡ true) × (first_without_seat self.old.problem self.old.present.lists student classes.now ≡ Some class)) }
+        ensures only { IfErr result IsOfSection }
+    {
+        match list_fault(&self.problem, &self.score, student, classes) {
+            Some(SectionFault::Invalid) => Err(Refusal::BadSection),
+            Some(SectionFault::Full { class }) => Err(Refusal::NoSeat { class }),
+            None => match self.set_list_in_step(student, classes) {
+                Ok(()) => Ok(()),
+                Err(_) => Err(Refusal::Memory),
+            },
         }
     }
 
@@ -264,6 +334,7 @@ impl State {
             &self.problem,
             &mut self.score,
             &mut self.journal,
+            &mut self.statistics,
             &mut self.points,
         );
         Ok(())
@@ -292,6 +363,7 @@ impl State {
             &self.problem,
             &mut self.score,
             &mut self.journal,
+            &mut self.statistics,
             &mut self.points,
             to,
         );
@@ -309,6 +381,14 @@ impl State {
         ensures { result ≡ is_ready self.now.problem self.now.present }
     {
         has_no_faults(self.totals())
+    }
+
+    /// How often a class at a value has pushed out another from its own (conflict-based statistics,
+    /// Müller 2005).
+    pub fn statistics(&self) -> &Cbs
+        ensures { result.now ≡ self.now.present.statistics }
+    {
+        &self.statistics
     }
 
     /// What holds of the present snapshot, the earlier ones, and those of the trail.

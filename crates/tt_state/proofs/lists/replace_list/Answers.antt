@@ -1,15 +1,18 @@
 use Rattle.std.proofs.Common.{◌∙◌, [], ap}
-use Rattle.tt_state.specs.Snapshots.{in_order, with_list}
-use Rattle.tt_state.specs.Kept.{snapshot_of}
-use Rattle.tt_state.proofs.SeatLemmas.{list_twice}
-use Rattle.tt_state.proofs.StateLemmas.{same_snapshot}
+use Rattle.std.specs.Prelude.{slice_set}
+use Rattle.std.proofs.lemmas.List.{set-set}
+use Rattle.tt_score.specs.Kept.{seats_of}
+use Rattle.tt_state.specs.Snapshots.{in_order}
+use Rattle.tt_state.proofs.OrderLemmas.{enrolled_few, enrolled_once}
 use Rattle.tt_state.proofs.lists.replace_list.Goals as goal
 
-pub returns-clause-now : goal.returns-clause-now
-returns-clause-now c =
-    let first = snapshot_of c.args.score.now in
-    let middle = snapshot_of c.empty_list.new.score in
+pub returns-clause-lists : goal.returns-clause-lists
+returns-clause-lists c =
     let list = in_order c.args.classes.now in
-    same_snapshot (snapshot_of c.fill_list.new.score) (with_list middle c.args.student list) c.fill_list.ensures.plan c.fill_list.ensures.lists
-    ∙ ap (λ x. with_list x c.args.student list) c.empty_list.ensures.now
-    ∙ list_twice first c.args.student [] list
+    c.fill_list.ensures.lists ∙ ap (λ l. slice_set l c.args.student list) c.empty_list.ensures.lists ∙ set-set (seats_of c.args.score.now) c.args.student [] list
+
+pub fill_list-requires-clause-no_repeat : goal.fill_list-requires-clause-no_repeat
+fill_list-requires-clause-no_repeat c = enrolled_once c.args.problem.now c.args.student c.args.classes.now c.requires.valid
+
+pub fill_list-requires-clause-few : goal.fill_list-requires-clause-few
+fill_list-requires-clause-few c = enrolled_few c.args.problem.now c.args.student c.args.classes.now c.requires.fits.kept.valid c.requires.valid

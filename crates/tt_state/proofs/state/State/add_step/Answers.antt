@@ -3,16 +3,17 @@ use Rattle.std.specs.Prelude.{slice_index_or}
 use Rattle.tt_journal.specs.declared.Entry.TheVariants.{Mark, Placed}
 use Rattle.tt_score.specs.Kept.{plan_of}
 use Rattle.tt_state.specs.History.{Held}
-use Rattle.tt_state.specs.Kept.{MayHave}
-use Rattle.tt_state.proofs.StateLemmas.{placed_state}
+use Rattle.tt_state.specs.Values.{MayHave}
+use Rattle.tt_state.proofs.StateLemmas.{on_mark, placed_state}
 use Rattle.tt_state.proofs.state.State.add_step.Goals as goal
 
 pub invariant_of-self-2 : goal.invariant_of-self-2
 invariant_of-self-2 c =
-    let of = c.self.invariant in
-    let had = slice_index_or (plan_of c.self.inside.score) c.args.class None in
-    let may = subst (λ (h : Held). MayHave h.problem c.args.class c.args.to) (sym c.self.view_is) c.requires in
-    placed_state c.self.inside.problem c.self.inside.score c.change.new.score c.mark_step.new.points (Mark c.self.inside.points ∷ c.self.inside.journal.list) c.change.new.journal.list c.args.class c.args.to
-    of.kept.fits of.lists may tt (of.kept.points_is, (record { plan = of.kept.fits.kept.planned; lists = of.lists }, of.kept.entries)) c.mark_step.ensures.points
-    c.change.ensures.fits c.change.ensures.plan c.change.ensures.lists
-    (c.change.ensures.entries ∙ ap (λ l. Placed c.args.class had ∷ l) (c.mark_step.ensures.entries ∙ ap (λ l. Mark c.self.inside.points ∷ l) c.reserve.ensures.list))
+    let i = c.self.inside in
+    let had = slice_index_or (plan_of i.score) c.args.class None in
+    let may = subst (λ (h : Held). MayHave h.problem c.args.class c.args.to) (sym c.self.view_is) c.requires in (
+      placed_state i.problem i.score c.change.new.score i.statistics c.mark_step.new.points (Mark i.points ∷ i.journal.list) c.change.new.journal.list c.args.class c.args.to
+          (on_mark i.problem i.score i.statistics i.points i.journal.list c.self.invariant.0) may c.mark_step.ensures.points c.change.ensures.fits c.change.ensures.plan c.change.ensures.lists
+          (c.change.ensures.entries ∙ ap (λ l. Placed c.args.class had ∷ l) (c.mark_step.ensures.entries ∙ ap (λ l. Mark i.points ∷ l) c.reserve.ensures.list)),
+      c.self.invariant.1,
+    )

@@ -1,52 +1,41 @@
-use Rattle.std.proofs.Common.{◌≡◌, ◌∙◌, ◌∷◌, ◌<◌, None, true, length, ap, sym, subst, arith}
+use Rattle.std.proofs.Common.{◌≡◌, ◌∙◌, ◌∷◌, ◌<◌, None, length, ap, sym, subst}
 use Rattle.std.specs.Prelude.{All}
 use Rattle.tt_journal.specs.declared.Entry.TheVariants.{Mark}
-use Rattle.tt_struct.specs.Enrolments.{is_enrolment}
-use Rattle.tt_state.specs.Snapshots.{in_order, list_in}
+use Rattle.tt_roster.specs.Lists.{list_of}
+use Rattle.tt_score.specs.Kept.{seats_of}
+use Rattle.tt_state.specs.Snapshots.{in_order}
 use Rattle.tt_state.specs.Seats.{first_without_seat}
-use Rattle.tt_state.specs.History.{Held, left_by, seated_by}
+use Rattle.tt_state.specs.Sound.{IsEnrolled}
+use Rattle.tt_state.specs.History.{Held, point_count, left_by, seated_by}
 use Rattle.tt_state.specs.Kept.{snapshot_of}
-use Rattle.tt_state.proofs.OrderLemmas.{enrolment_has_no_repeat, fits_student}
-use Rattle.tt_state.proofs.StateLemmas.{filled_state}
+use Rattle.tt_state.specs.Past.{HasPastOf, LeadsTo}
+use Rattle.tt_state.proofs.StateLemmas.{filled_leads, on_mark, state_after}
 use Rattle.tt_state.proofs.state.State.set_list.Goals as goal
 
-pub overflow_cast-classes : goal.overflow_cast-classes
-overflow_cast-classes c =
-    let valid = subst (λ (h : Held). is_enrolment h.problem c.args.student c.args.classes.now ≡ true) (sym c.self.view_is) c.requires.valid in
-    let fits = fits_student c.self.inside.problem c.args.student c.args.classes.now c.self.invariant.kept.fits.kept.valid valid in
-    omega (arith, fits.few, fits.most)
-
-pub overflow_add-count : goal.overflow_add-count
-overflow_add-count c =
-    let valid = subst (λ (h : Held). is_enrolment h.problem c.args.student c.args.classes.now ≡ true) (sym c.self.view_is) c.requires.valid in
-    let fits = fits_student c.self.inside.problem c.args.student c.args.classes.now c.self.invariant.kept.fits.kept.valid valid in
-    omega (arith, fits.few, fits.most, c.seat_count-count.ensures.few)
-
-pub overflow_add-count-2 : goal.overflow_add-count-2
-overflow_add-count-2 c =
-    let valid = subst (λ (h : Held). is_enrolment h.problem c.args.student c.args.classes.now ≡ true) (sym c.self.view_is) c.requires.valid in
-    let fits = fits_student c.self.inside.problem c.args.student c.args.classes.now c.self.invariant.kept.fits.kept.valid valid in
-    omega (arith, fits.few, fits.most, c.seat_count-count.ensures.few)
-
-pub replace_list-requires-clause-no_repeat : goal.replace_list-requires-clause-no_repeat
-replace_list-requires-clause-no_repeat c = enrolment_has_no_repeat c.args.self.now.problem c.args.student c.args.classes.now c.requires.valid
-
-pub replace_list-requires-clause-few : goal.replace_list-requires-clause-few
-replace_list-requires-clause-few c =
-    let valid = subst (λ (h : Held). is_enrolment h.problem c.args.student c.args.classes.now ≡ true) (sym c.self.view_is) c.requires.valid in
-    let fits = fits_student c.self.inside.problem c.args.student c.args.classes.now c.self.invariant.kept.fits.kept.valid valid in
-    fits.few
-
-pub invariant_of-self-2 : goal.invariant_of-self-2
-invariant_of-self-2 c =
+-- what the list that the student got leads to
+leads : (c : goal.After-replace_list)
+    → LeadsTo c.self.inside.problem (snapshot_of c.self.inside.score c.self.inside.statistics) (Mark c.self.inside.points ∷ c.self.inside.journal.list) (snapshot_of c.replace_list.new.score c.self.inside.statistics) c.replace_list.new.journal.list
+leads c =
+    let i = c.self.inside in
     let student = c.args.student in
     let classes = c.args.classes.now in
     let back = sym c.self.view_is in
     let within = subst (λ (h : Held). student < length h.problem.students) back c.requires.student in
     let all = subst (λ (h : Held). All (λ class. class < length h.problem.classes) classes) back c.requires.classes in
-    let valid = subst (λ (h : Held). is_enrolment h.problem student classes ≡ true) back c.requires.valid in
+    let valid = subst (λ (h : Held). IsEnrolled h.problem student classes) back c.requires.valid in
     let seats = subst (λ (h : Held). first_without_seat h.problem h.present.lists student classes ≡ None) back c.requires.seats in
-    filled_state c.self.inside.problem c.self.inside.score c.replace_list.new.score c.self.inside.points c.mark_step.new.points c.self.inside.journal.list c.replace_list.new.journal.list student classes
-    c.self.invariant within all valid seats c.replace_list.ensures.fits c.replace_list.ensures.now
-    (c.replace_list.ensures.entries
-    ∙ ap (λ l. seated_by student (in_order classes) (left_by student (list_in (snapshot_of c.self.inside.score) student) l)) (c.mark_step.ensures.entries ∙ ap (λ l. Mark c.self.inside.points ∷ l) c.reserve.ensures.list)) c.mark_step.ensures.points
+    let noted = c.replace_list.ensures.entries ∙ ap (λ l. seated_by student (in_order classes) (left_by student (list_of (seats_of i.score) student) l)) (c.mark_step.ensures.entries ∙ ap (λ l. Mark i.points ∷ l) c.reserve.ensures.list) in
+    filled_leads i.problem i.score c.replace_list.new.score i.statistics (Mark i.points ∷ i.journal.list) c.replace_list.new.journal.list student classes
+    (on_mark i.problem i.score i.statistics i.points i.journal.list c.self.invariant.0) c.self.invariant.0.kept.fits within (record { all = all; valid = valid; seats = seats }) c.replace_list.ensures.plan c.replace_list.ensures.lists noted
+
+pub invariant_of-self-2 : goal.invariant_of-self-2
+invariant_of-self-2 c =
+    let i = c.self.inside in
+    (state_after i.problem c.replace_list.new.score i.statistics c.mark_step.new.points (snapshot_of i.score i.statistics) (Mark i.points ∷ i.journal.list) c.replace_list.new.journal.list c.replace_list.ensures.fits (leads c) c.mark_step.ensures.points, c.self.invariant.1)
+
+pub returns-clause-past : goal.returns-clause-past
+returns-clause-past c =
+    let i = c.self.inside in
+    let after = snapshot_of c.replace_list.new.score i.statistics in
+    let counted = subst (λ n. HasPastOf (snapshot_of i.score i.statistics) (Mark n ∷ i.journal.list) after c.replace_list.new.journal.list) c.self.invariant.0.kept.points_is (leads c).past in
+    subst (λ (h : Held). HasPastOf h.present (Mark (point_count h.entries) ∷ h.entries) after c.replace_list.new.journal.list) c.self.view_is counted

@@ -1,0 +1,48 @@
+-- A step of the walk along a domain.
+use Rattle.std.proofs.Common.{◌≡◌, ℕ, ◌+◌, ◌≤◌, length, Bool, true, false, Option, Some, None, List, refl}
+use Rattle.std.specs.Prelude.{slice_get, IfSome}
+use Rattle.tt_bits.specs.declared.times.Value.{Value}
+use Rattle.tt_search.specs.declared.turn.Offer.{Offer}
+use Rattle.tt_search.specs.Least.{comes_before, better}
+use Rattle.tt_search.specs.Numbers.{price_numbers, IsPriced, offered}
+use Rattle.tt_search.specs.Chosen.{IsChosenOn}
+use Rattle.std.proofs.lemmas.List.{drop_all}
+use Rattle.tt_search.proofs.RangeLemmas.{drop_at}
+
+-- the earlier offer stays where the later one would not come before it
+pub stays : (numbers : Value → List ℕ) (best : Offer) (v : Value) → price_numbers best.price ≡ numbers best.value → comes_before (numbers v) (price_numbers best.price) ≡ false
+    → offered (Some best) ≡ Some (better numbers (offered (Some best)) v)
+stays numbers best v priced behind = rw (rw priced at behind) refl
+
+-- the later offer is taken where it comes before
+pub takes : (numbers : Value → List ℕ) (best : Offer) (v : Value) → price_numbers best.price ≡ numbers best.value → comes_before (numbers v) (price_numbers best.price) ≡ true
+    → Some v ≡ Some (better numbers (offered (Some best)) v)
+takes numbers best v priced before = rw (rw priced at before) refl
+
+-- an open value is looked at
+pub look_at : (numbers : Value → List ℕ) (Of : Value → Type 0) (is_open : Value → Bool) (domain : List Value) (all : Option Value) (best next : Option Offer) (k : ℕ) (v : Value)
+    → IsChosenOn numbers Of is_open domain all best k → slice_get domain k ≡ Some v → is_open v ≡ true → IsPriced numbers Of next → offered next ≡ Some (better numbers (offered best) v)
+    → IsChosenOn numbers Of is_open domain all next (k + 1)
+look_at numbers Of is_open domain all best next k v on at opens priced is =
+    record { priced = priced; choice = rw is (rw (drop_at domain k v at, opens) at on.choice) }
+
+-- a blocked value is passed over
+pub pass_value : (numbers : Value → List ℕ) (Of : Value → Type 0) (is_open : Value → Bool) (domain : List Value) (all : Option Value) (best : Option Offer) (k : ℕ) (v : Value)
+    → IsChosenOn numbers Of is_open domain all best k → slice_get domain k ≡ Some v → is_open v ≡ false
+    → IsChosenOn numbers Of is_open domain all best (k + 1)
+pass_value numbers Of is_open domain all best k v on at shut =
+    record { priced = on.priced; choice = rw (drop_at domain k v at, shut) at on.choice }
+
+-- at the end of the domain
+pub at_last : (numbers : Value → List ℕ) (Of : Value → Type 0) (is_open : Value → Bool) (domain : List Value) (all : Option Value) (best : Option Offer) (k : ℕ)
+    → IsChosenOn numbers Of is_open domain all best k → length domain ≤ k → offered best ≡ all
+at_last numbers Of is_open domain all best k on past = rw (drop_all k domain past) at on.choice
+
+-- what is offered is one of the values
+offered_among : (numbers : Value → List ℕ) (Of : Value → Type 0) (best : Option Offer) → IsPriced numbers Of best → IfSome (offered best) Of
+offered_among numbers Of None priced = tt
+offered_among numbers Of (Some o) priced = priced.domain
+
+pub chosen_among : (numbers : Value → List ℕ) (Of : Value → Type 0) (is_open : Value → Bool) (domain : List Value) (all : Option Value) (best : Option Offer) (k : ℕ) (chosen : Option Value)
+    → IsChosenOn numbers Of is_open domain all best k → chosen ≡ offered best → IfSome chosen Of
+chosen_among numbers Of is_open domain all best k chosen on is = rw is (offered_among numbers Of best on.priced)

@@ -1,0 +1,10 @@
+pub mod RangeLemmas
+pub mod ChoiceLemmas
+pub mod HopefulLemmas
+pub mod WayLemmas
+pub mod FullLemmas
+pub mod FirstLemmas
+pub mod StepLemmas
+pub mod ListLemmas
+pub mod ReturnLemmas
+pub mod MovedLemmas

@@ -1,0 +1,106 @@
+use Rattle.std.proofs.Common.{length, ◌≡◌, ◌<◌, ◌≤◌, ◌-◌, ◌+◌, ◌∷◌, ◌++◌, [], Some, None, refl, sym, ap, ◌∙◌, arith}
+use Rattle.std.specs.Option.{option_copied}
+use Rattle.rand_core.specs.Steps.{stream_of, steps_u32}
+use Rattle.rand_pcg.specs.Pcg.{pcg32}
+use Rattle.tt_state.specs.History.{before_step, earlier, trail}
+use Rattle.tt_search.specs.Turns.{turn_of}
+use Rattle.tt_search.specs.Searched.{onward, words_of}
+use Rattle.tt_search.specs.Full.{full_rank, full_best}
+use Rattle.tt_search.specs.MovedNow.{AreMoved}
+use Rattle.tt_search.proofs.MovedLemmas.{moved_is, moved_forced}
+use Rattle.tt_search.proofs.HopefulLemmas.{hopeful_still}
+use Rattle.tt_search.proofs.StepLemmas.{before_forced}
+use Rattle.tt_search.proofs.WayLemmas.{made_turn, mark_of_added, no_turn, no_turn_left, start_way, walk_on, words_from}
+use Rattle.tt_search.proofs.seeking.walk.Goals as goal
+
+pub loop-made-init : goal.loop-made-init
+unfolding full_best
+loop-made-init c =
+    let start = c.args.state.now in
+    let aim = option_copied c.args.published in
+    let whole : c.args.turns - 0 ≡ c.args.turns = omega arith in
+    let words = words_from c.args.seed c.new-words.result c.new-words.ensures in
+    record {
+      problem = refl;
+      earlier = refl;
+      entries = refl;
+      moved = c.requires.moved;
+      way = rw (whole, words) (start_way (full_rank start.problem aim) start.present (trail start) (onward start.problem aim c.args.turns (words_of c.args.seed) start.present) c.moment-best.result c.requires.trail (c.moment-best.ensures.rank aim (moved_is start.problem aim start.present c.args.moved.now c.requires.belongs c.requires.moved)) c.moment-best.ensures.mark);
+    }
+
+pub next_move-requires-clause-hopeful : goal.next_move-requires-clause-hopeful
+next_move-requires-clause-hopeful c =
+    let start = c.args.state.now in
+    rw c.loop-made.invariant.problem (c.requires.hopeful ∙ hopeful_still start.problem start.present c.loop-made.state.present)
+
+pub loop-made-preserved : goal.loop-made-preserved
+loop-made-preserved c =
+    let start = c.args.state.now in
+    let aim = option_copied c.args.published in
+    let before = c.loop-made.state in
+    let moved = c.next_move.new.state in
+    let after = c.force_step.new.self in
+    let same_problem = c.next_move.ensures.problem in
+    let same_present = c.next_move.ensures.present in
+    let same_entries = c.next_move.ensures.entries in
+    let desk = c.in-Ok.ensures.desk in
+    let problem : after.problem ≡ start.problem = ap (λ d. d.problem) desk ∙ same_problem ∙ c.loop-made.invariant.problem in
+    let present = ap (λ d. d.present) desk in
+    let still : earlier moved ≡ earlier before = rw (same_present, same_entries) refl in
+    let earlier_is : earlier after ≡ earlier start = ap (λ d. d.earlier) desk ∙ still ∙ c.loop-made.invariant.earlier in
+    let entries : before_step after.entries ≡ before_step start.entries =
+    ap before_step c.in-Ok.ensures.entries
+    ∙ before_forced moved.problem moved.present c.in-Some.next.class c.in-Some.next.value _
+    ∙ ap before_step same_entries
+    ∙ c.loop-made.invariant.entries in
+    let turn : turn_of start.problem aim c.next_u32.result before.present ≡ Some after.present =
+    rw (← c.loop-made.invariant.problem) (c.in-Some.ensures.turn ∙ ap Some (sym (rw (same_problem, same_present) at present))) in
+    let below : c.loop-made.made < c.args.turns = omega arith in
+    let onward_is = made_turn start.problem aim c.args.turns c.loop-made.made (stream_of (steps_u32 pcg32) c.loop-made.words) (stream_of (steps_u32 pcg32) c.next_u32.new.self) c.next_u32.result before.present after.present below c.next_u32.ensures turn in
+    let same_trail : trail moved ≡ trail before = rw (same_present, same_entries) refl in
+    let trail_is : trail after ≡ trail before ++ after.present ∷ [] = rw (← same_trail) c.in-Ok.ensures.trail in
+    let mark : c.moment.result.mark ≡ length (trail before) = mark_of_added (trail before) (trail after) after.present c.moment.result.mark trail_is c.moment.ensures.mark in
+    let moved_now : AreMoved start.problem aim after.present.plan c.follow.new.self [] = rw problem at c.follow.ensures in
+    let rank = rw problem at (c.moment.ensures.rank aim) in
+    let ranked = rank (moved_is start.problem aim after.present c.follow.new.self c.requires.belongs moved_now) in
+    record {
+      problem = problem;
+      earlier = earlier_is;
+      entries = entries;
+      moved = moved_now;
+      way = rw (trail_is, c.better-best.ensures) (walk_on _ _ _ after.present c.loop-made.best c.moment.result c.loop-made.made _ _ (rw onward_is at c.loop-made.invariant.way) ranked mark);
+    }
+
+pub follow-requires-clause-late : goal.follow-requires-clause-late
+follow-requires-clause-late c =
+    let start = c.args.state.now in
+    let aim = option_copied c.args.published in
+    let before = c.loop-made.state in
+    let moved = c.next_move.new.state in
+    let after = c.force_step.new.self in
+    let desk = c.in-Ok.ensures.desk in
+    let problem : after.problem ≡ start.problem = ap (λ d. d.problem) desk ∙ c.next_move.ensures.problem ∙ c.loop-made.invariant.problem in
+    let present = rw (c.next_move.ensures.problem, c.next_move.ensures.present, c.loop-made.invariant.problem) at (ap (λ d. d.present) desk) in
+    let taken = rw (c.next_move.ensures.problem, c.next_move.ensures.present, c.loop-made.invariant.problem) at c.in-Ok.ensures.taken in
+    rw (problem, present, taken) (moved_forced start.problem aim before.present c.in-Some.next.class c.in-Some.next.value c.loop-made.moved c.loop-made.invariant.moved)
+
+pub returns-in_default-clause-way : goal.returns-in_default-clause-way
+returns-in_default-clause-way c =
+    let start = c.args.state.now in
+    let aim = option_copied c.args.published in
+    let before = c.loop-made.state in
+    let moved = c.next_move.new.state in
+    let turn : turn_of start.problem aim c.next_u32.result before.present ≡ None = rw (← c.loop-made.invariant.problem) c.in_default.ensures.turn in
+    let onward_is = no_turn start.problem aim (c.args.turns - c.loop-made.made) (stream_of (steps_u32 pcg32) c.loop-made.words) (stream_of (steps_u32 pcg32) c.next_u32.new.self) c.next_u32.result before.present c.next_u32.ensures turn in
+    let same_trail : trail moved ≡ trail before = rw (c.next_move.ensures.present, c.next_move.ensures.entries) refl in
+    rw same_trail (rw onward_is at c.loop-made.invariant.way)
+
+pub returns-clause-way : goal.returns-clause-way
+returns-clause-way c =
+    let start = c.args.state.now in
+    let aim = option_copied c.args.published in
+    let all : c.args.turns ≤ c.loop-made.made = omega arith in
+    let onward_is = no_turn_left start.problem aim c.args.turns c.loop-made.made (stream_of (steps_u32 pcg32) c.loop-made.words) c.loop-made.state.present all in
+    let way = rw onward_is at c.loop-made.invariant.way in
+    let made : c.args.turns ≡ c.loop-made.made = omega arith in
+    record { ranked = way.ranked; ends = way.ends; counts = ap (λ n. n + 0) made ∙ way.counts }

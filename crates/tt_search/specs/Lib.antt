@@ -1,0 +1,10 @@
+pub mod Least
+pub mod Turns
+pub mod Searched
+pub mod Recalled
+pub mod Full
+pub mod Numbers
+pub mod Chosen
+pub mod UnderWay
+pub mod Changed
+pub mod MovedNow

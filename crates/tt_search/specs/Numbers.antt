@@ -1,0 +1,40 @@
+-- Proofs alone need it. The numbers of prices and ranks, in the order in which they are compared.
+use Rattle.std.specs.Prelude.{ℕ, ◌≡◌, Bool, List, [], ◌∷◌, Option, Some, None, slice_index_or, if◌then◌else◌}
+use Rattle.std.specs.Option.{is_none}
+use Rattle.tt_bits.specs.declared.times.Value.{Value}
+use Rattle.tt_problem.specs.declared.parts.Parts.{Parts}
+use Rattle.tt_search.specs.declared.price.Price.{Price}
+use Rattle.tt_search.specs.declared.price.Rank.{Rank}
+use Rattle.tt_search.specs.declared.turn.Offer.{Offer}
+use Rattle.tt_search.specs.declared.turn.Move.{Move}
+use Rattle.tt_state.specs.Forced.{forced}
+use Rattle.tt_state.specs.Snapshots.{Snapshot}
+
+abbrev pub price_numbers : Price → List ℕ
+price_numbers r = r.weight ∷ (if r.strays then 1 else 0) ∷ r.total ∷ []
+
+abbrev pub rank_numbers : Rank → List ℕ
+rank_numbers r = r.unplaced ∷ r.hard ∷ r.moved ∷ r.total ∷ []
+
+-- an offer has the price of its value, and the value is one of these
+pub record IsOffer (numbers : Value → List ℕ) (Of : Value → Type 0) (o : Offer) : Type 0 where
+  pub price : price_numbers o.price ≡ numbers o.value
+  pub domain : Of o.value
+
+-- the same of an offer, if there is one
+abbrev pub IsPriced : (Value → List ℕ) → (Value → Type 0) → Option Offer → Type 0
+IsPriced numbers Of None = Unit {0}
+IsPriced numbers Of (Some o) = IsOffer numbers Of o
+
+-- the value that is offered
+abbrev pub offered : Option Offer → Option Value
+offered None = None
+offered (Some o) = Some o.value
+
+-- a snapshot after a move
+abbrev pub forced_by : Parts → Snapshot → Move → Snapshot
+forced_by p s m = forced p s m.class m.value
+
+-- the class has no value in a plan
+abbrev pub is_free : List (Option Value) → (class : ℕ) → Bool
+is_free plan class = is_none (slice_index_or plan class None)

@@ -1,0 +1,205 @@
+ghost use Rattle.std.specs.Prelude.{◌≡◌, ◌<◌, ◌≤◌, length, IfOk, OnOk, All};
+ghost use Rattle.tt_problem.specs.Valid.{class_ids, student_ids};
+ghost use Rattle.tt_fields.specs.Answer.{Reads, Gives, part_of};
+ghost use Rattle.tt_fields.specs.Kinds.{a_reference, each, list_of};
+ghost use Rattle.tt_fields.specs.List.{items_of, known_of, IsFew, IsAmong};
+ghost use Rattle.tt_solution.specs.Tables.{meeting_in, entry_of, listed_in, unknown as unknown_of, known as known_of_problem};
+ghost use Rattle.tt_solution.specs.Entries.{context_of, listed_read, IsContext, AreEntries, AreEntriesOf};
+
+use crate::meeting::Meeting;
+use indexmap::IndexSet;
+use std::alloc::{AllocError, Global};
+use tt_base::Row;
+use tt_fields::{
+    Fault, Items, Known, Part, ProblemFault, add_id, as_object, days, item_reference, known_id,
+    list, list_or_none, number, optional_number, weeks,
+};
+use tt_problem::Problem;
+
+/// What the tables are read with: the size of the term, and the ids among which classes and students
+/// are looked up.
+#[derive(Clone, Copy)]
+pub struct Context<'a> {
+    pub nr_days: u8,
+    pub nr_weeks: u8,
+    pub classes: Known<'a>,
+    pub students: Known<'a>,
+}
+
+/// A listed class: its place, when and where it meets, and the places of the students that it names.
+#[derive(Drop)]
+pub struct Entry {
+    pub class: u32,
+    pub meeting: Meeting,
+    pub students: Row<u32>,
+}
+
+/// The classes that have been read, and their ids.
+#[derive(Drop)]
+pub struct Listed {
+    pub ids: IndexSet<u32>,
+    pub entries: Vec<Entry>,
+}
+
+/// When and where a class meets.
+#[tactic(auto, unfolding(crate::specs::Tables::meeting_in))]
+fn meeting<'a>(context: &Context<'_>, object: &'a Part<'a>) -> Result<Meeting, Fault<'a>>
+    requires { IsContext context.now }
+    ensures { Reads (λ m. m) result (meeting_in (context_of context.now) (part_of object.now)) }
+{
+    let days = days(object, "days", context.nr_days)?;
+    let start = number(object, "start", 0, 65535)? as u16;
+    let weeks = weeks(object, "weeks", context.nr_weeks)?;
+    let room = optional_number(object, "room", 0, u32::MAX)?;
+    Ok(Meeting {
+        days,
+        weeks,
+        start,
+        room,
+    })
+}
+
+/// The places of the students that a list names.
+#[tactic(auto, using(tt_fields::proofs::Walk::collects_more, tt_fields::proofs::Walk::collects_fault, tt_fields::proofs::Walk::collects_all, tt_fields::proofs::Walk::passed_on))]
+fn students(alloc: Global, known: &Known<'_>, items: &Items<'_>) -> Result<Row<u32>, ProblemFault>
+    requires { IsFew known.now }
+    ensures reads { Gives (λ students. students) result (list_of (a_reference (known_of known.now)) (items_of items.now)) }
+    ensures among { IfOk result (λ students. All (IsAmong known.now) students) }
+{
+    let mut students = Vec::new(alloc);
+    for (i, value) in items.values.iter().enumerate() {
+        let item = (&*items).item(i, value);
+        let student = item_reference(known, &item)?;
+        students.push(student)?;
+    }
+    Ok(Row::from_vec(students))
+}
+
+/// A listed class, after those that have been read.
+#[tactic(auto, using(crate::proofs::EntryLemmas::entries_push), unfolding(crate::specs::Tables::entry_of))]
+fn add_entry(
+    alloc: Global,
+    context: &Context<'_>,
+    object: &Part<'_>,
+    listed: &mut Listed,
+) -> Result<(), ProblemFault>
+    requires context { IsContext context.now }
+    requires valid { AreEntries context.now listed.old.entries.items }
+    ensures reads { Gives (λ _. listed_read listed.new) result
+        (entry_of (context_of context.now) (part_of object.now) (listed_read listed.old)) }
+    ensures valid { OnOk result (AreEntries context.now listed.new.entries.items) }
+{
+    as_object(object)?;
+    let id = number(&*object, "id", 0, u32::MAX)?;
+    add_id(object, id, &mut listed.ids)?;
+    let class = known_id(&context.classes, &*object, "id")?;
+    let meeting = meeting(context, &*object)?;
+    let items = list_or_none(&*object, "students", 100_000)?;
+    let students = students(alloc, &context.students, &items)?;
+    listed.entries.push(Entry {
+        class,
+        meeting,
+        students,
+    })?;
+    Ok(())
+}
+
+/// All classes of a list.
+#[tactic(auto, using(tt_fields::proofs::Walk::threads_more, tt_fields::proofs::Walk::threads_fault, tt_fields::proofs::Walk::threads_all))]
+fn each_entry(
+    alloc: Global,
+    context: &Context<'_>,
+    items: &Items<'_>,
+    listed: &mut Listed,
+) -> Result<(), ProblemFault>
+    requires context { IsContext context.now }
+    requires valid { AreEntries context.now listed.old.entries.items }
+    ensures reads { Gives (λ _. listed_read listed.new) result
+        (each (entry_of (context_of context.now)) (items_of items.now) (listed_read listed.old)) }
+    ensures valid { OnOk result (AreEntries context.now listed.new.entries.items) }
+{
+    for (i, value) in items.values.iter().enumerate() {
+        let item = (&*items).item(i, value);
+        add_entry(alloc, context, &item, listed)?;
+    }
+    Ok(())
+}
+
+/// All classes of the whole value.
+#[tactic(auto, unfolding(crate::specs::Tables::listed_in))]
+fn read_listed(
+    alloc: Global,
+    context: &Context<'_>,
+    object: &Part<'_>,
+) -> Result<Listed, ProblemFault>
+    requires { IsContext context.now }
+    ensures reads { Gives listed_read result (listed_in (context_of context.now) (part_of object.now)) }
+    ensures valid { IfOk result (λ l. AreEntries context.now l.entries.items) }
+{
+    as_object(object)?;
+    let items = list(&*object, "classes", 0, 20_000)?;
+    let mut listed = Listed {
+        ids: IndexSet::new(alloc),
+        entries: Vec::new(alloc),
+    };
+    each_entry(alloc, context, &items, &mut listed)?;
+    Ok(listed)
+}
+
+/// The first pass: the shape of all, with nothing looked up.
+pub fn first_pass(
+    alloc: Global,
+    problem: &Problem,
+    object: &Part<'_>,
+) -> Result<Listed, ProblemFault>
+    ensures { Gives listed_read result (listed_in (unknown_of problem.now) (part_of object.now)) }
+{
+    let context = Context {
+        nr_days: problem.nr_days(),
+        nr_weeks: problem.nr_weeks(),
+        classes: Known::none(),
+        students: Known::none(),
+    };
+    read_listed(alloc, &context, object)
+}
+
+/// The ids of the classes, in order.
+#[tactic(auto, using(tt_problem::proofs::IdLemmas::insert_all_distinct))]
+fn ids_of_classes(alloc: Global, problem: &Problem) -> Result<IndexSet<u32>, AllocError>
+    ensures { IfOk result (λ ids. ids.keys ≡ class_ids problem.now) }
+{
+    problem.validity();
+    let classes = problem.parts().classes.as_slice();
+    classes.iter().map(|class| class.id).collect(alloc)
+}
+
+/// The ids of the students, in order.
+#[tactic(auto, using(tt_problem::proofs::IdLemmas::insert_all_distinct))]
+fn ids_of_students(alloc: Global, problem: &Problem) -> Result<IndexSet<u32>, AllocError>
+    ensures { IfOk result (λ ids. ids.keys ≡ student_ids problem.now) }
+{
+    problem.validity();
+    let students = problem.parts().students.as_slice();
+    students.iter().map(|student| student.id).collect(alloc)
+}
+
+/// The second pass: all of it again, with classes and students looked up.
+pub fn second_pass(
+    alloc: Global,
+    problem: &Problem,
+    object: &Part<'_>,
+) -> Result<Listed, ProblemFault>
+    ensures reads { Gives listed_read result (listed_in (known_of_problem problem.now) (part_of object.now)) }
+    ensures valid { IfOk result (λ l. AreEntriesOf problem.now (listed_read l).entries) }
+{
+    problem.validity();
+    let class_ids = ids_of_classes(alloc, problem)?;
+    let student_ids = ids_of_students(alloc, problem)?;
+    let context = Context {
+        nr_days: problem.nr_days(),
+        nr_weeks: problem.nr_weeks(),
+        classes: Known::among(&class_ids),
+        students: Known::among(&student_ids),
+    };
+    read_listed(alloc, &context, object)
+}

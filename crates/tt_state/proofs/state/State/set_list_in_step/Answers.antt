@@ -1,0 +1,40 @@
+use Rattle.std.proofs.Common.{◌≡◌, ◌∙◌, ◌∷◌, ◌<◌, ◌+◌, None, length, ap, sym, subst}
+use Rattle.std.specs.Prelude.{All}
+use Rattle.tt_journal.specs.declared.Entry.TheVariants.{Point}
+use Rattle.tt_roster.specs.Lists.{list_of}
+use Rattle.tt_score.specs.Kept.{seats_of}
+use Rattle.tt_state.specs.Snapshots.{in_order}
+use Rattle.tt_state.specs.Seats.{first_without_seat}
+use Rattle.tt_state.specs.Sound.{IsEnrolled}
+use Rattle.tt_state.specs.History.{Held, HasStep, left_by, seated_by}
+use Rattle.tt_state.specs.Kept.{snapshot_of}
+use Rattle.tt_state.specs.Past.{HasPastOf, LeadsTo}
+use Rattle.tt_state.proofs.StateLemmas.{filled_leads, on_point, state_after}
+use Rattle.tt_state.proofs.state.State.set_list_in_step.Goals as goal
+
+-- what the list that the student got leads to
+leads : (c : goal.After-replace_list)
+    → LeadsTo c.self.inside.problem (snapshot_of c.self.inside.score c.self.inside.statistics) (Point ∷ c.self.inside.journal.list) (snapshot_of c.replace_list.new.score c.self.inside.statistics) c.replace_list.new.journal.list
+leads c =
+    let i = c.self.inside in
+    let student = c.args.student in
+    let classes = c.args.classes.now in
+    let back = sym c.self.view_is in
+    let within = subst (λ (h : Held). student < length h.problem.students) back c.requires.student in
+    let all = subst (λ (h : Held). All (λ class. class < length h.problem.classes) classes) back c.requires.classes in
+    let valid = subst (λ (h : Held). IsEnrolled h.problem student classes) back c.requires.valid in
+    let seats = subst (λ (h : Held). first_without_seat h.problem h.present.lists student classes ≡ None) back c.requires.seats in
+    let step = subst (λ (h : Held). HasStep h.entries) back c.requires.step in
+    let noted = c.replace_list.ensures.entries ∙ ap (λ l. seated_by student (in_order classes) (left_by student (list_of (seats_of i.score) student) l)) (c.mark_point.ensures.entries ∙ ap (λ l. Point ∷ l) c.reserve.ensures.list) in
+    filled_leads i.problem i.score c.replace_list.new.score i.statistics (Point ∷ i.journal.list) c.replace_list.new.journal.list student classes
+    (on_point i.problem i.score i.statistics i.points i.journal.list c.self.invariant.0 step) c.self.invariant.0.kept.fits within (record { all = all; valid = valid; seats = seats }) c.replace_list.ensures.plan c.replace_list.ensures.lists noted
+
+pub invariant_of-self-2 : goal.invariant_of-self-2
+invariant_of-self-2 c =
+    let i = c.self.inside in
+    (state_after i.problem c.replace_list.new.score i.statistics c.mark_point.new.points (snapshot_of i.score i.statistics) (Point ∷ i.journal.list) c.replace_list.new.journal.list c.replace_list.ensures.fits (leads c) (c.mark_point.ensures.points ∙ ap (λ n. n + 1) c.self.invariant.0.kept.points_is), c.self.invariant.1)
+
+pub returns-clause-past : goal.returns-clause-past
+returns-clause-past c =
+    let after = snapshot_of c.replace_list.new.score c.self.inside.statistics in
+    subst (λ (h : Held). HasPastOf h.present (Point ∷ h.entries) after c.replace_list.new.journal.list) c.self.view_is (leads c).past
