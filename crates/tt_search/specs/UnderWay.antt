@@ -1,5 +1,5 @@
 -- Proofs alone need it. How far a search has come.
-use Rattle.std.specs.Prelude.{ℕ, ◌≡◌, ◌+◌, List, ◌∷◌, Option, Some, None, length, slice_get}
+use Rattle.std.specs.Prelude.{ℕ, ◌≡◌, ◌+◌, List, Option, Some, None, length, slice_get}
 use Rattle.tt_state.specs.Snapshots.{Snapshot}
 use Rattle.tt_search.specs.declared.seeking.Best.{Best}
 use Rattle.tt_search.specs.Least.{least_after}

@@ -1,4 +1,4 @@
--- What the code has read so far of a published file.
+-- Proofs alone need it. What the code has read so far of a published file.
 use Rattle.std.specs.Prelude.{◌<◌, ◌≤◌, List, All, length, map}
 use Rattle.tt_problem.specs.declared.parts.Parts.{Parts}
 use Rattle.tt_fields.specs.List.{known_of, IsFew, IsAmong}

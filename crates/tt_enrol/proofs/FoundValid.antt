@@ -1,0 +1,190 @@
+-- The classes found for a student, course after course, are a valid enrolment with seats.
+use Rattle.std.proofs.Common.{◌≡◌, ℕ, zero, suc, ◌+◌, ◌<◌, Bool, true, false, List, [], ◌∷◌, ◌++◌, Option, Some, None, map, length, arith, refl, sym, ap, ◌∙◌, append_assoc, append-nil, nat_eq}
+use Rattle.std.specs.Prelude.{◌&&◌, ◌||◌, ◌==◌, IfSome, slice_get, fold}
+use Rattle.std.specs.List.{list_all, AllByRecursion, IsDistinct}
+use Rattle.std.specs.Option.{option_map, option_map_or}
+use Rattle.std.proofs.lemmas.Bool.{and_parts}
+use Rattle.std.proofs.lemmas.Bool.Decides.{nat_tests}
+use Rattle.std.proofs.lemmas.List.Elements.{recursion_from_All, All-from_recursion}
+use Rattle.std.proofs.lemmas.List.Folds.{list_all-append, list_any-append}
+use Rattle.std.proofs.lemmas.Map.Keys.{IsDistinct-head, IsDistinct-tail}
+use Rattle.std.proofs.lemmas.Option.{none-some}
+use Rattle.tt_problem.specs.declared.parts.Span.{Span}
+use Rattle.tt_problem.specs.declared.parts.ClassPart.{ClassPart}
+use Rattle.tt_problem.specs.declared.parts.StudentPart.{StudentPart}
+use Rattle.tt_problem.specs.declared.parts.Parts.{Parts}
+use Rattle.tt_problem.specs.Places.{course_of}
+use Rattle.tt_problem.specs.Valid.{IsValid, IsValidStudent}
+use Rattle.tt_struct.specs.Enrolments.{lists, count_in, takes, is_of_courses, has_parent_of, has_parent, is_enrolment_of}
+use Rattle.tt_state.specs.Seats.{has_seat, first_without_seat}
+use Rattle.tt_state.specs.Snapshots.{Snapshot}
+use Rattle.tt_enrol.specs.Choices.{choices_at}
+use Rattle.tt_enrol.specs.Least.{Situation, is_one_of, is_allowed, least_choice}
+use Rattle.tt_enrol.specs.Students.{parent_in, situation_of, with_course, taken_in, classes_found}
+use Rattle.tt_enrol.specs.Steps.{IsFoundFor}
+use Rattle.tt_enrol.proofs.CountLemmas.{count_of-append, one_of-lists}
+use Rattle.tt_enrol.proofs.ValidLemmas.{IsChoice, IsAllowed, IsTaken, are_choices, least_is, takes_at, same_takes, listed_of, takes_more, of_more, of_last, once_more}
+
+both : (x y : Bool) → x ≡ true → y ≡ true → (x && y) ≡ true
+both x y h k = rw (h, k) refl
+
+-- parents that are there stay there
+parents_kept : (p : Parts) (taken choice list : List ℕ) → list_all (has_parent p taken) list ≡ true → list_all (has_parent p (taken ++ choice)) list ≡ true
+unfolding has_parent has_parent_of
+parents_kept p taken choice [] h = refl
+parents_kept p taken choice (c ∷ list) h =
+    let parts = and_parts (has_parent p taken c) (list_all (has_parent p taken) list) h in
+    both (has_parent p (taken ++ choice) c) (list_all (has_parent p (taken ++ choice)) list) (of_class (slice_get p.classes c) parts.0) (parents_kept p taken choice list parts.1)
+  where
+    of_parent : (o : Option ℕ) → option_map_or (lists taken) o true ≡ true → option_map_or (lists (taken ++ choice)) o true ≡ true
+    of_parent None e = e
+    of_parent (Some q) e = list_any-append (λ (other : ℕ). other == q) taken choice ∙ ap (λ (b : Bool). b || lists choice q) e
+
+    of_class : (o : Option ClassPart) → option_map_or (has_parent_of taken) o false ≡ true → option_map_or (has_parent_of (taken ++ choice)) o false ≡ true
+    of_class None e = e
+    of_class (Some part) e = of_parent part.parent e
+
+slice_some : (parts : List ClassPart) (c : ℕ) → c < length parts → slice_get parts c ≡ None → ⊥
+slice_some [] c lt none = omega arith
+slice_some (x ∷ parts) zero lt none = none-some x (sym none)
+slice_some (x ∷ parts) (suc c) lt none = slice_some parts c (omega arith) none
+
+either_way : (a b : Bool) → (b || a) ≡ true → (a || b) ≡ true
+either_way true b e = refl
+either_way false true e = refl
+either_way false false e = e
+
+-- the parents of an allowed choice are in it or taken, and its classes have seats
+parent_there : (taken choice : List ℕ) (o : Option ℕ) → option_map_or (λ q. is_one_of choice q || is_one_of taken q) o true ≡ true → option_map_or (lists (taken ++ choice)) o true ≡ true
+parent_there taken choice None e = e
+parent_there taken choice (Some q) e =
+    let words : (is_one_of choice q || is_one_of taken q) ≡ (lists choice q || lists taken q) = rw (one_of-lists choice q, one_of-lists taken q) refl in
+    list_any-append (λ (other : ℕ). other == q) taken choice ∙ either_way (lists taken q) (lists choice q) (sym words ∙ e)
+
+class_there : (p : Parts) (taken choice : List ℕ) (c : ℕ) → c < length p.classes → option_map_or (λ q. is_one_of choice q || is_one_of taken q) (parent_in p c) true ≡ true → has_parent p (taken ++ choice) c ≡ true
+unfolding has_parent has_parent_of
+class_there p taken choice c below e = of_class (slice_get p.classes c) refl e
+  where
+    of_class : (o : Option ClassPart) → slice_get p.classes c ≡ o → option_map_or (λ q. is_one_of choice q || is_one_of taken q) (option_map_or (λ part. part.parent) o None) true ≡ true
+        → option_map_or (has_parent_of (taken ++ choice)) o false ≡ true
+    of_class None none h = absurd (slice_some p.classes c below none)
+    of_class (Some part) some h = parent_there taken choice part.parent h
+
+-- so each class of an allowed choice has its parent and its seat
+module _ (p : Parts) (has : ℕ → Bool) (taken choice : List ℕ) where
+  allowed_parents : (list : List ℕ) → AllByRecursion (λ c. c < length p.classes) list → list_all (λ c. has c && option_map_or (λ q. is_one_of choice q || is_one_of taken q) (parent_in p c) true) list ≡ true
+      → list_all (has_parent p (taken ++ choice)) list ≡ true
+  allowed_parents [] below h = refl
+  allowed_parents (c ∷ list) below h =
+      let test : ℕ → Bool = λ d. has d && option_map_or (λ q. is_one_of choice q || is_one_of taken q) (parent_in p d) true in
+      let parts = and_parts (test c) (list_all test list) h in
+      let own = and_parts (has c) (option_map_or (λ q. is_one_of choice q || is_one_of taken q) (parent_in p c) true) parts.0 in
+      both (has_parent p (taken ++ choice) c) (list_all (has_parent p (taken ++ choice)) list) (class_there p taken choice c below.0 own.1) (allowed_parents list below.1 parts.1)
+
+  allowed_seats : (list : List ℕ) → list_all (λ c. has c && option_map_or (λ q. is_one_of choice q || is_one_of taken q) (parent_in p c) true) list ≡ true → list_all has list ≡ true
+  allowed_seats [] h = refl
+  allowed_seats (c ∷ list) h =
+      let test : ℕ → Bool = λ d. has d && option_map_or (λ q. is_one_of choice q || is_one_of taken q) (parent_in p d) true in
+      let parts = and_parts (test c) (list_all test list) h in
+      let own = and_parts (has c) (option_map_or (λ q. is_one_of choice q || is_one_of taken q) (parent_in p c) true) parts.0 in
+      both (has c) (list_all has list) own.0 (allowed_seats list parts.1)
+
+-- none of the courses to come is done, and none stands twice
+abbrev AreNew : (done rest : List ℕ) → Type 0
+AreNew done [] = Unit {0}
+AreNew done (k ∷ rest) = (lists done k ≡ false) × AreNew (done ++ k ∷ []) rest
+
+new_more : (done : List ℕ) (k : ℕ) (rest : List ℕ) → AllByRecursion (λ j. lists done j ≡ false) rest → AllByRecursion (λ j. nat_eq k j ≡ false) rest → AllByRecursion (λ j. lists (done ++ k ∷ []) j ≡ false) rest
+new_more done k [] h d = tt
+new_more done k (j ∷ rest) h d = (list_any-append (λ (other : ℕ). other == j) done (k ∷ []) ∙ none (lists done j) h.0 d.0, new_more done k rest h.1 d.1)
+  where
+    none : (b : Bool) → b ≡ false → nat_eq k j ≡ false → (b || ((k == j) || false)) ≡ false
+    none b e f = grind (arith, nat_tests)
+
+are_new : (done rest : List ℕ) → AllByRecursion (λ j. lists done j ≡ false) rest → IsDistinct nat_eq rest → AreNew done rest
+are_new done [] h d = tt
+are_new done (k ∷ rest) h d = (h.0, are_new (done ++ k ∷ []) rest (new_more done k rest h.1 (IsDistinct-head nat_eq k rest d)) (IsDistinct-tail nat_eq k rest d))
+
+-- one course more
+module _ (p : Parts) (valid : IsValid p) (at : List ℕ → Situation) (has : ℕ → Bool)
+    (judged : (taken choice : List ℕ) → is_allowed (at taken) choice ≡ list_all (λ c. has c && option_map_or (λ q. is_one_of choice q || is_one_of taken q) (parent_in p c) true) choice) where
+  taken_more : (done taken choice : List ℕ) (place : ℕ) → place < length p.courses → AllByRecursion (λ k. k < length p.courses) done → lists done place ≡ false
+      → IsTaken p has done taken → IsAllowed (IsChoice p place) (at taken) choice → IsTaken p has (done ++ place ∷ []) (taken ++ choice)
+  taken_more done taken choice place within before new h one =
+      let tests : list_all (λ c. has c && option_map_or (λ q. is_one_of choice q || is_one_of taken q) (parent_in p c) true) choice ≡ true = sym (judged taken choice) ∙ one.allowed in
+      let is = one.is in
+      let here = takes_at p (taken ++ choice) place within in
+      let sum : (t : Span) → count_in (taken ++ choice) t ≡ count_in choice t + count_in taken t = λ t. omega (arith, count_of-append taken choice t) in
+      let own = same_takes p valid (taken ++ choice) choice taken place within sum (listed_of p done taken place h.of new) in
+      let last : takes p (taken ++ choice) place ≡ true = here ∙ own ∙ is.takes in
+      record {
+        below = all_joined (λ c. c < length p.classes) taken choice h.below is.below;
+        of = all_joined (λ c. option_map_or (lists (done ++ place ∷ [])) (course_of p c) false ≡ true) taken choice (of_more p done place taken h.of) (of_last p done place choice is.of);
+        takes = list_all-append (takes p (taken ++ choice)) done (place ∷ []) ∙ both (list_all (takes p (taken ++ choice)) done) (takes p (taken ++ choice) place && true)
+            (takes_more p valid taken choice place is.of done before new h.takes) (both (takes p (taken ++ choice) place) true last refl);
+        once = once_more p done place taken choice h.of new is.of h.once is.once;
+        parents = list_all-append (has_parent p (taken ++ choice)) taken choice ∙ both (list_all (has_parent p (taken ++ choice)) taken) (list_all (has_parent p (taken ++ choice)) choice)
+            (parents_kept p taken choice taken h.parents) (allowed_parents p has taken choice choice is.below tests);
+        seats = list_all-append has taken choice ∙ both (list_all has taken) (list_all has choice) h.seats (allowed_seats p has taken choice choice tests);
+      }
+    where
+      all_joined : (P : ℕ → Type 0) (xs ys : List ℕ) → AllByRecursion P xs → AllByRecursion P ys → AllByRecursion P (xs ++ ys)
+      all_joined P [] ys h k = k
+      all_joined P (x ∷ xs) ys h k = (h.0, all_joined P xs ys h.1 k)
+
+  stays : (rest : List ℕ) → fold (with_course at) None (map (choices_at p) rest) ≡ None
+  stays [] = refl
+  stays (k ∷ rest) = stays rest
+
+  within_more : (done : List ℕ) (k : ℕ) → AllByRecursion (λ k. k < length p.courses) done → k < length p.courses → AllByRecursion (λ k. k < length p.courses) (done ++ k ∷ [])
+  within_more [] k h lt = (lt, tt)
+  within_more (j ∷ done) k h lt = (h.0, within_more done k h.1 lt)
+
+  taken_all : (done rest taken list : List ℕ) → AllByRecursion (λ k. k < length p.courses) done → AllByRecursion (λ k. k < length p.courses) rest → AreNew done rest → IsTaken p has done taken
+      → Some list ≡ fold (with_course at) (Some taken) (map (choices_at p) rest) → IsTaken p has (done ++ rest) list
+  taken_all done [] taken list before within new h e = let same : list ≡ taken = cc e in rw (same, append-nil done) h
+  taken_all done (k ∷ rest) taken list before within new h e =
+      step (least_choice (at taken) (choices_at p k)) refl (least_is (IsChoice p k) (at taken) (choices_at p k) (are_choices p k valid within.0))
+      (λ choice one more. rw (append_assoc done (k ∷ []) rest) at (taken_all (done ++ k ∷ []) rest (taken ++ choice) list (within_more done k before within.0) within.1 new.1 (taken_more done taken choice k within.0 before new.0 h one) more))
+      e
+    where
+      step : (o : Option (List ℕ)) → least_choice (at taken) (choices_at p k) ≡ o → IfSome o (IsAllowed (IsChoice p k) (at taken))
+          → ((choice : List ℕ) → IsAllowed (IsChoice p k) (at taken) choice → Some list ≡ fold (with_course at) (Some (taken ++ choice)) (map (choices_at p) rest) → IsTaken p has (done ++ k ∷ rest) list)
+          → Some list ≡ fold (with_course at) (option_map (λ choice. taken ++ choice) o) (map (choices_at p) rest) → IsTaken p has (done ++ k ∷ rest) list
+      step None is one go e = absurd (none-some list (sym (e ∙ stays rest)))
+      step (Some choice) is one go e = go choice one e
+
+all_new : (rest : List ℕ) → AllByRecursion (λ j. lists [] j ≡ false) rest
+all_new [] = tt
+all_new (j ∷ rest) = (refl, all_new rest)
+
+all_of : (f : ℕ → Bool) (list : List ℕ) → AllByRecursion (λ c. f c ≡ true) list → list_all f list ≡ true
+all_of f [] h = refl
+all_of f (c ∷ list) h = both (f c) (list_all f list) h.0 (all_of f list h.1)
+
+all_seats : (p : Parts) (now : List (List ℕ)) (student : ℕ) (list : List ℕ) → list_all (has_seat p now student) list ≡ true → first_without_seat p now student list ≡ None
+all_seats p now student [] h = refl
+all_seats p now student (c ∷ list) h =
+    let parts = and_parts (has_seat p now student c) (list_all (has_seat p now student) list) h in
+    rw parts.0 (all_seats p now student list parts.1)
+
+is_enrolment_is : (p : Parts) (part : StudentPart) (has : ℕ → Bool) (list : List ℕ) → IsTaken p has part.courses list → is_enrolment_of p part list ≡ true
+unfolding is_enrolment_of is_of_courses
+is_enrolment_is p part has list h =
+    rw (h.once, all_of (λ c. option_map_or (lists part.courses) (course_of p c) false) list h.of, h.takes, h.parents) refl
+
+pub found_valid : (p : Parts) (s : Snapshot) (student : ℕ) (part : StudentPart) (list : List ℕ) → IsValid p → slice_get p.students student ≡ Some part → IsValidStudent p part → classes_found p s student ≡ Some list
+    → IsFoundFor p s.lists student list
+unfolding classes_found
+found_valid p s student part list valid is student_valid e =
+    let at = situation_of p s student in
+    let has = has_seat p s.lists student in
+    let courses : Some list ≡ fold (with_course at) (Some []) (map (choices_at p) part.courses) = sym e ∙ ap (λ (o : Option StudentPart). taken_in at (map (choices_at p) (option_map_or (λ x. x.courses) o []))) is in
+    let within = recursion_from_All (λ place. place < length p.courses) part.courses student_valid.courses in
+    let none : IsTaken p has [] [] = record { below = tt; of = tt; takes = refl; once = refl; parents = refl; seats = refl } in
+    let all = taken_all p valid at has (λ taken choice. refl) [] part.courses [] list tt within (are_new [] part.courses (all_new part.courses) student_valid.distinct) none courses in
+    record {
+      below = All-from_recursion (λ c. c < length p.classes) list all.below;
+      enrolment = ap (λ (o : Option StudentPart). option_map_or (λ x. is_enrolment_of p x list) o false) is ∙ is_enrolment_is p part has list all;
+      seats = all_seats p s.lists student list all.seats;
+    }

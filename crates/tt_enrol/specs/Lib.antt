@@ -1,0 +1,13 @@
+pub mod Least
+pub mod Passed
+pub mod Choices
+pub mod Students
+pub mod Enrolled
+pub mod Refusals
+pub mod Steps
+pub mod Standings
+pub mod Found
+pub mod Ahead
+pub mod Tables
+pub mod Seats
+pub mod Ready

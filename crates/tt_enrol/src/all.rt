@@ -1,0 +1,207 @@
+ghost use Rattle.std.specs.Prelude.{◌≡◌, ◌+◌, ◌<◌, ◌≤◌, ◌∷◌, [], None, Some, IfOk, OnOk, OnErr, cond, false, length};
+ghost use Rattle.tt_state.specs.History.{before_step, desk_of, earlier, stepped, moved_to, with_taken};
+ghost use Rattle.tt_state.specs.Snapshots.{in_order, list_in, with_list};
+ghost use Rattle.tt_enrol.specs.Enrolled.{enrolled, lacks_classes, all_enrolled, with_student};
+ghost use Rattle.tt_enrol.specs.Ready.{HasRoom, IsKnown};
+ghost use Rattle.tt_enrol.specs.Steps.{IsFoundFor, IsWithinStep, with_counts};
+
+use crate::enrolling::{Buffers, Known, find};
+use std::alloc::{AllocError, Global};
+use tt_state::{Refusal, State};
+
+/// How many students got an enrolment, and how many were left as they were.
+#[derive(Clone, Copy, Debug, PartialEq, Eq)]
+pub struct Enrolled {
+    pub enrolled: u32,
+    pub left: u32,
+}
+
+/// Whether a student has a course and no class.
+#[tactic(auto, unfolding(crate::specs::Enrolled::lacks_classes))]
+fn lacks_classes(state: &State, student: u32) -> bool
+    requires { student < length state.now.problem.students }
+    ensures { result ≡ lacks_classes state.now.problem state.now.present student }
+{
+    if state.problem().student(student).courses.is_empty() {
+        return false;
+    }
+    state.soundness();
+    match state.score().roster().classes(student).next() {
+        None => true,
+        Some(_) => false,
+    }
+}
+
+/// Gives a student the classes that were found, in the last step.
+fn seat(state: &mut State, student: u32, classes: &[u32]) -> Result<(), AllocError>
+    requires student { student < length state.old.problem.students }
+    requires found { IsFoundFor state.old.problem state.old.present.lists student classes.now }
+    requires step { 0 < length (earlier state.old) }
+    ensures now { OnOk result (state.new.present ≡ with_list state.old.present student (in_order classes.now)) }
+    ensures step { IsWithinStep state.old state.new }
+    ensures err { OnErr result (state.new ≡ state.old) }
+{
+    match state.section_step(student, classes) {
+        Ok(()) => Ok(()),
+        Err(refusal) => match refusal {
+            Refusal::Memory => Err(AllocError),
+            _ => unreachable!(),
+        },
+    }
+}
+
+/// The same, and counts the student among those who have the classes.
+fn seat_and_count(
+    state: &mut State,
+    known: &mut Known,
+    student: u32,
+    classes: &[u32],
+) -> Result<(), AllocError>
+    requires student { student < length state.old.problem.students }
+    requires found { IsFoundFor state.old.problem state.old.present.lists student classes.now }
+    requires step { 0 < length (earlier state.old) }
+    requires known { IsKnown state.old.problem state.old.present.plan state.old.present.lists known.old }
+    requires free { list_in state.old.present student ≡ [] }
+    ensures now { OnOk result (state.new.present ≡ with_list state.old.present student (in_order classes.now)) }
+    ensures known { OnOk result (IsKnown state.new.problem state.new.present.plan state.new.present.lists known.new) }
+    ensures step { IsWithinStep state.old state.new }
+    ensures err { OnErr result (state.new ≡ state.old) }
+{
+    state.soundness();
+    match seat(state, student, classes) {
+        Err(error) => Err(error),
+        Ok(()) => {
+            known.count(state.score().roster(), student);
+            Ok(())
+        }
+    }
+}
+
+/// Enrols a student who has no class, in the last step, where there is an enrolment; whether there
+/// is one.
+fn enrol_one(
+    state: &mut State,
+    known: &mut Known,
+    buffers: &mut Buffers,
+    student: u32,
+) -> Result<bool, AllocError>
+    requires student { student < length state.old.problem.students }
+    requires step { 0 < length (earlier state.old) }
+    requires known { IsKnown state.old.problem state.old.present.plan state.old.present.lists known.old }
+    requires room { HasRoom state.old.problem buffers.old }
+    requires free { list_in state.old.present student ≡ [] }
+    ensures now { IfOk result (λ found. enrolled state.old.problem state.old.present student ≡ cond found (Some state.new.present) None) }
+    ensures same { IfOk result (λ found. found ≡ false → state.new.present ≡ state.old.present) }
+    ensures known { OnOk result (IsKnown state.new.problem state.new.present.plan state.new.present.lists known.new) }
+    ensures room { HasRoom state.old.problem buffers.new }
+    ensures step { IsWithinStep state.old state.new }
+    ensures err { OnErr result (state.new ≡ state.old) }
+{
+    state.problem().validity();
+    match find(state.problem(), known, student, buffers) {
+        None => Ok(false),
+        Some(count) => {
+            let classes = &buffers.taken.as_slice()[..count];
+            match seat_and_count(state, known, student, classes) {
+                Err(error) => Err(error),
+                Ok(()) => Ok(true),
+            }
+        }
+    }
+}
+
+/// Enrols the student at a place, in the last step, where the student has a course and no class and
+/// there is an enrolment. `so_far` has how many of the students before got one.
+fn enrol_next(
+    state: &mut State,
+    known: &mut Known,
+    buffers: &mut Buffers,
+    student: u32,
+    so_far: Enrolled,
+) -> Result<Enrolled, AllocError>
+    requires student { student < length state.old.problem.students }
+    requires step { 0 < length (earlier state.old) }
+    requires known { IsKnown state.old.problem state.old.present.plan state.old.present.lists known.old }
+    requires room { HasRoom state.old.problem buffers.old }
+    requires few { so_far.enrolled + so_far.left ≤ student }
+    ensures next { IfOk result (λ n. with_counts state.new.present n.enrolled n.left
+        ≡ with_student state.old.problem (with_counts state.old.present so_far.enrolled so_far.left) student) }
+    ensures few { IfOk result (λ n. n.enrolled + n.left ≤ student + 1) }
+    ensures known { OnOk result (IsKnown state.new.problem state.new.present.plan state.new.present.lists known.new) }
+    ensures room { HasRoom state.old.problem buffers.new }
+    ensures step { IsWithinStep state.old state.new }
+{
+    state.problem().validity();
+    if !lacks_classes(state, student) {
+        return Ok(so_far);
+    }
+    match enrol_one(state, known, buffers, student) {
+        Err(error) => Err(error),
+        Ok(true) => Ok(Enrolled {
+            enrolled: so_far.enrolled + 1,
+            left: so_far.left,
+        }),
+        Ok(false) => Ok(Enrolled {
+            enrolled: so_far.enrolled,
+            left: so_far.left + 1,
+        }),
+    }
+}
+
+/// Enrols each student who has a course and no class, in the last step, where there is an enrolment.
+fn enrol_each(
+    state: &mut State,
+    known: &mut Known,
+    buffers: &mut Buffers,
+) -> Result<Enrolled, AllocError>
+    requires step { 0 < length (earlier state.old) }
+    requires known { IsKnown state.old.problem state.old.present.plan state.old.present.lists known.old }
+    requires room { HasRoom state.old.problem buffers.old }
+    ensures all { IfOk result (λ n. with_counts state.new.present n.enrolled n.left ≡ all_enrolled state.old.problem state.old.present) }
+    ensures step { IsWithinStep state.old state.new }
+{
+    let mut so_far = Enrolled {
+        enrolled: 0,
+        left: 0,
+    };
+    for student in 0..state.problem().student_count() {
+        match enrol_next(state, known, buffers, student, so_far) {
+            Err(error) => return Err(error),
+            Ok(more) => so_far = more,
+        }
+    }
+    Ok(so_far)
+}
+
+/// Goes back by a step, where there is one.
+fn go_back(state: &mut State)
+    requires { 0 < length (earlier state.old) }
+    ensures back { earlier state.old ≡ state.new.present ∷ earlier state.new }
+    ensures problem { state.new.problem ≡ state.old.problem }
+    ensures entries { state.new.entries ≡ before_step state.old.entries }
+{
+    match state.undo() {
+        Ok(()) => {}
+        Err(_) => unreachable!(),
+    }
+}
+
+/// Gives each student who has a course and no class the least enrolment, in the problem's order and
+/// all as one step. A student for whom there is none is left without.
+pub fn enrol_all(alloc: Global, state: &mut State) -> Result<Enrolled, AllocError>
+    ensures desk { OnOk result (desk_of state.new ≡ stepped (desk_of state.old) (all_enrolled state.old.problem state.old.present).snapshot) }
+    ensures enrolled { IfOk result (λ n. n.enrolled ≡ (all_enrolled state.old.problem state.old.present).enrolled) }
+    ensures left { IfOk result (λ n. n.left ≡ (all_enrolled state.old.problem state.old.present).left) }
+    ensures err { OnErr result (with_taken state.new [] ≡ with_taken state.old []) }
+{
+    let mut known = Known::new(alloc, state.problem(), state.score(), None)?;
+    let mut buffers = Buffers::new(alloc, state.problem())?;
+    state.begin()?;
+    match enrol_each(state, &mut known, &mut buffers) {
+        Ok(counts) => Ok(counts),
+        Err(error) => {
+            go_back(state);
+            Err(error)
+        }
+    }
+}
