@@ -1,0 +1,216 @@
+-- The checks of commands.
+use Rattle.std.proofs.Common.{◌≡◌, ◌∙◌, ℕ, zero, suc, ◌+◌, ◌<◌, List, [], ◌∷◌, ◌++◌, Option, None, Some, Result, Ok, Err, refl, sym, ap, append_assoc, subst, arith, rules, take, drop, set, length, get_or}
+use Rattle.std.proofs.lemmas.Grind.{common_steps}
+use Rattle.std.proofs.lemmas.List.{append-nil, take_more_set, drop-set-lt}
+use Rattle.std.proofs.lemmas.List.Elements.{All-append, All-head, All-nil, All-tail}
+use Rattle.std.proofs.Math.Seq.{drop-cons, drop-length, take-length, take-append_seam}
+use Rattle.std.specs.Prelude.{All}
+use Rattle.tt_problem.specs.declared.parts.Parts.{Parts}
+use Rattle.tt_problem.specs.Places.{class_of}
+use Rattle.std.specs.Prelude.{◌↔◌, true, false, Bool, if◌then◌else◌}
+use Rattle.tt_problem.specs.Places.{student_of}
+use Rattle.tt_struct.specs.Enrolments.{is_enrolment}
+use Rattle.tt_state.specs.declared.state.Refusal.{Refusal as StateRefusal}
+use Rattle.tt_state.specs.declared.state.Refusal.TheVariants.{NotPlaced, Blocked as StateBlocked, BadSection, NoSeat as StateNoSeat, NotSectioned, NothingToUndo, Memory}
+use Rattle.tt_state.specs.Seats.{first_without_seat, has_seat}
+use Rattle.tt_state.specs.Snapshots.{with_list, in_order}
+use Rattle.tt_state.specs.History.{Desk, Held, desk_of, with_taken}
+use Rattle.tt_script.specs.declared.command.Command.TheVariants.{Section, Publish, Force}
+use Rattle.tt_desk.specs.declared.refusal.Outcome.TheVariants.{Accepted, Refused}
+use Rattle.tt_desk.specs.declared.refusal.Refusal.{Refusal}
+use Rattle.tt_desk.specs.declared.refusal.Refusal.TheVariants.{NoSuchClass, NoSeat, Blocked}
+use Rattle.std.specs.Prelude.{codes}
+use Rattle.tt_score.specs.declared.totals.Totals.{Totals}
+use Rattle.tt_score.specs.Totals.{totals_of}
+use Rattle.tt_state.specs.Sound.{is_ready, no_faults}
+use Rattle.tt_solution.specs.Published.{timetable_of}
+use Rattle.tt_solution.specs.Text.{published_text}
+use Rattle.std.proofs.lemmas.Bool.{eqb-true}
+use Rattle.std.specs.Prelude.{◌&&◌, is_some}
+use Rattle.std.specs.Option.{option_map_or}
+use Rattle.tt_bits.specs.declared.times.Spot.{Spot}
+use Rattle.tt_bits.specs.declared.times.Value.{Value}
+use Rattle.tt_bits.specs.Spots.{spot_at}
+use Rattle.tt_plan.specs.Domain.{spot_at_value, spots_from, spots_of}
+use Rattle.tt_plan.specs.Named.{find_value}
+use Rattle.tt_clash.specs.declared.Block.{Block}
+use Rattle.tt_clash.specs.Amounts.{rule_amounts}
+use Rattle.tt_clash.specs.ConflictSet.{conflict_set}
+use Rattle.tt_clash.specs.Forced.{IsOther}
+use Rattle.tt_state.specs.Snapshots.{Snapshot}
+use Rattle.tt_state.specs.Values.{blocked_of, conflicts_of}
+use Rattle.tt_state.specs.Forced.{forced}
+use Rattle.tt_solution.specs.Timetable.{Timetable}
+use Rattle.tt_desk.specs.Desk.{Session, Answer, carried_out, class_id, known_classes, step_from, with_step, with_published, not_ready, out_lines}
+use Rattle.tt_desk.specs.Chain.{◌>>=◌}
+use Rattle.tt_desk.specs.Causes.{block_of}
+use Rattle.std.specs.Prelude.{OnErr, IsOk}
+
+-- places that were found before those of some ids
+abbrev pub known_after : Parts → List ℕ → List ℕ → Result (List ℕ) Refusal
+known_after p found ids = known_classes p ids >>= λ places. Ok (found ++ places)
+
+-- one more id
+pub known_after-more : (p : Parts) (found : List ℕ) (id place : ℕ) (ids : List ℕ) → class_of p id ≡ Some place → known_after p found (id ∷ ids) ≡ known_after p (found ++ place ∷ []) ids
+known_after-more p found id place ids is = rw is (joined (known_classes p ids))
+  where
+    joined : (r : Result (List ℕ) Refusal) → ((r >>= λ places. Ok (place ∷ places)) >>= λ places. Ok (found ++ places)) ≡ (r >>= λ places. Ok ((found ++ place ∷ []) ++ places))
+    joined (Ok places) = ap Ok (sym (append_assoc found (place ∷ []) places))
+    joined (Err e) = refl
+
+-- an id that is unknown
+pub known_after-none : (p : Parts) (found : List ℕ) (id : ℕ) (ids : List ℕ) → class_of p id ≡ None → known_after p found (id ∷ ids) ≡ Err NoSuchClass
+known_after-none p found id ids is = rw is refl
+
+-- none is found yet
+pub known_first : (p : Parts) (ids items : List ℕ) → items ≡ ids → known_classes p ids ≡ known_after p (take 0 items) (drop 0 items)
+known_first p ids items is = rw is (nothing (known_classes p ids))
+  where
+    nothing : (r : Result (List ℕ) Refusal) → r ≡ (r >>= λ places. Ok ([] ++ places))
+    nothing (Ok places) = refl
+    nothing (Err e) = refl
+
+-- the id at this place is unknown
+pub known_at_none : (p : Parts) (items : List ℕ) (i id : ℕ) → i < length items → id ≡ get_or items i 0 → class_of p id ≡ None → known_after p (take i items) (drop i items) ≡ Err NoSuchClass
+known_at_none p items i id within is none = rw (drop-cons items i 0, ← is) (known_after-none p (take i items) id (drop (suc i) items) none)
+
+-- the id at this place has a place, which is put there
+pub known_at_more : (p : Parts) (items : List ℕ) (i id place : ℕ) → i < length items → id ≡ get_or items i 0 → class_of p id ≡ Some place → known_after p (take i items) (drop i items) ≡ known_after p (take (i + 1) (set items i place)) (drop (i + 1) (set items i place))
+known_at_more p items i id place within is some =
+    let lt : i < i + 1 = omega arith in
+    let one : i + 1 ≡ suc i = omega arith in
+    rw (take_more_set items i place within, drop-set-lt (i + 1) items i place lt, one, drop-cons items i 0, ← is) (known_after-more p (take i items) id place (drop (suc i) items) some)
+
+pub in_range_more : (n : ℕ) (items : List ℕ) (i place : ℕ) → i < length items → All (λ x. x < n) (take i items) → place < n → All (λ x. x < n) (take (i + 1) (set items i place))
+in_range_more n items i place within all less = rw (take_more_set items i place within) (All-append (λ x. x < n) (take i items) (place ∷ []) all (All-one place less))
+  where
+    All-one : (x : ℕ) → x < n → All (λ y. y < n) (x ∷ [])
+    All-one x less = search (rules, common_steps)
+
+-- all are found
+pub known_all : (p : Parts) (items : List ℕ) (i : ℕ) → i ≡ length items → known_after p (take i items) (drop i items) ≡ Ok items
+known_all p items i is = rw (is, take-length items, drop-length items) (ap Ok (append-nil items))
+
+-- what a vector holds after a loop over all of its items
+pub all_written : (now items : List ℕ) (n : ℕ) → length now ≡ n → take n (now ++ drop (length now) items) ≡ now
+all_written now items n is = rw (← is) (take-append_seam now (drop (length now) items))
+
+pub in_range_all : (n k : ℕ) (items : List ℕ) → k ≡ length items → All (λ x. x < n) (take k items) → All (λ x. x < n) items
+in_range_all n k items is all = subst (λ (xs : List ℕ). All (λ x. x < n) xs) (rw is (take-length items)) all
+
+-- ---- a command and what becomes of it
+
+-- a session by its desk
+abbrev pub with_desk_of : Option Timetable → Desk → Session
+with_desk_of t d = record { desk = d; published = t }
+
+pub accepted : (s : Session) (to : Answer) (now : Session) (lines : List ℕ) (r : Result Answer Refusal) → r ≡ Ok to → now ≡ to.session → lines ≡ to.lines → step_from s r ≡ record { session = now; outcome = Accepted; lines = lines }
+accepted s to now lines r is same own = rw (is, same, own) refl
+
+pub refused : (s now : Session) (r : Result Answer Refusal) (why : Refusal) → r ≡ Err why → now ≡ s → step_from s r ≡ record { session = now; outcome = Refused why; lines = [] }
+refused s now r why is same = rw (is, same) refl
+
+-- ---- `section`
+
+-- the state's answer says whether the list is valid, and which class has no seat
+pub valid_by : (r : Result (Unit {0}) StateRefusal) (valid : Bool) → ((r ≡ Err BadSection) ↔ (valid ≡ false)) → (r ≡ Err BadSection → ⊥) → valid ≡ true
+valid_by r true iff ne = refl
+valid_by r false iff ne = absurd (ne (iff.1 refl))
+
+pub free_by : (r : Result (Unit {0}) StateRefusal) (valid : Bool) (full : Option ℕ) → ((class : ℕ) → (r ≡ Err (StateNoSeat class)) ↔ ((valid ≡ true) × (full ≡ Some class))) → valid ≡ true → ((class : ℕ) → r ≡ Err (StateNoSeat class) → ⊥) → full ≡ None
+free_by r valid None iff is ne = refl
+free_by r valid (Some class) iff is ne = absurd (ne class ((iff class).1 (is, refl)))
+
+module _ (s : Session) (student : ℕ) (classes list : List ℕ) (i : ℕ) (known : known_classes s.desk.problem classes ≡ Ok list) (is : student_of s.desk.problem student ≡ Some i) (valid : is_enrolment s.desk.problem i list ≡ true) where
+  pub section_free : first_without_seat s.desk.problem s.desk.present.lists i list ≡ None → carried_out s (Section student classes) ≡ Ok (with_step s (with_list s.desk.present i (in_order list)) [])
+  section_free free = rw (known, is, valid, free) refl
+
+  pub section_full : (class : ℕ) → first_without_seat s.desk.problem s.desk.present.lists i list ≡ Some class → carried_out s (Section student classes) ≡ Err (NoSeat (class_id s.desk.problem class))
+  section_full class full = rw (known, is, valid, full) refl
+
+-- the class without a seat is one of the list
+pub full_in_range : (p : Parts) (lists : List (List ℕ)) (s n : ℕ) (list : List ℕ) (class : ℕ) → first_without_seat p lists s list ≡ Some class → All (λ x. x < n) list → class < n
+full_in_range p lists s n [] class is all = absurd (cc)
+full_in_range p lists s n (x ∷ list) class is all = by_seat (has_seat p lists s x) is (λ later. full_in_range p lists s n list class later (All-tail (λ x. x < n) x list all))
+  where
+    by_seat : (free : Bool) → (if free then first_without_seat p lists s list else Some x) ≡ Some class → (first_without_seat p lists s list ≡ Some class → class < n) → class < n
+    by_seat true is rest = rest is
+    by_seat false is rest = let same : x ≡ class = cc in subst (λ (y : ℕ). y < n) same (All-head (λ x. x < n) x list all)
+
+-- ---- `publish`
+
+module _ (s : Session) where
+  pub not_published : is_ready s.desk.problem s.desk.present ≡ false → carried_out s Publish ≡ Err (not_ready (totals_of s.desk.problem s.desk.present.plan s.desk.present.lists))
+  not_published is = rw is refl
+
+  pub published : is_ready s.desk.problem s.desk.present ≡ true → carried_out s Publish ≡ Ok (with_published s (timetable_of s.desk.problem s.desk.present.plan s.desk.present.lists) (published_text s.desk.problem s.desk.present.plan s.desk.present.lists ++ codes "\n"))
+  published is = rw is refl
+
+-- a timetable that is ready has no unplaced class
+pub none_unplaced : (t : Totals) → no_faults t ≡ true → t.unplaced ≡ 0
+unfolding no_faults
+none_unplaced t is = eqb-true _ _ (first_of _ _ (first_of _ _ is))
+  where
+    first_of : (a : Bool) (b : Bool) → (a && b) ≡ true → a ≡ true
+    first_of true b is = refl
+    first_of false b is = is
+
+-- ---- `force`
+
+-- a placed class is one of the plan
+placed_within : (p : Parts) (i : ℕ) (plan : List (Option Value)) (d : ℕ) → is_some (spot_at (spots_from p i plan) d) ≡ true → d < length plan
+placed_within p i [] d is = let no : false ≡ true = is in absurd (cc)
+placed_within p i (v ∷ plan) zero is = omega arith
+placed_within p i (v ∷ plan) (suc d) is = let later : d < length plan = placed_within p (i + 1) plan d is in omega arith
+
+-- the classes of a conflict set are those of the problem
+pub taken_in_range : (p : Parts) (s : Snapshot) (class : ℕ) (v : Value) → ((p : Parts) (amounts : ℕ → List (Option Spot) → ℕ) (spots : List (Option Spot)) (class : ℕ) (x : Spot) → All (IsOther spots class) (conflict_set p amounts spots class x)) → length s.plan ≡ length p.classes → All (λ d. d < length p.classes) (conflicts_of p s class v)
+unfolding conflicts_of
+taken_in_range p s class v others whole = by_spot (spot_at_value p class v)
+  where
+    below : (x : Spot) (k d : ℕ) → k < length (conflict_set p (rule_amounts p) (spots_of p s.plan) class x) → get_or (conflict_set p (rule_amounts p) (spots_of p s.plan) class x) k d < length p.classes
+    below x k d within = let less = placed_within p 0 s.plan _ (others p (rule_amounts p) (spots_of p s.plan) class x k d within).placed in rw (← whole) less
+
+    by_spot : (x : Option Spot) → All (λ d. d < length p.classes) (option_map_or (conflict_set p (rule_amounts p) (spots_of p s.plan) class) x [])
+    by_spot None = All-nil (λ d. d < length p.classes)
+    by_spot (Some x) = λ k d within. below x k d within
+
+module _ (s : Session) (class time : ℕ) (room : Option ℕ) (c : ℕ) (v : Value) (known : class_of s.desk.problem class ≡ Some c) (named : find_value s.desk.problem c time room ≡ Ok v) where
+  pub force_open : blocked_of s.desk.problem c v ≡ None → carried_out s (Force class time room) ≡ Ok (with_step s (forced s.desk.problem s.desk.present c v) (out_lines s.desk.problem (conflicts_of s.desk.problem s.desk.present c v)))
+  force_open free = rw (known, named, free) refl
+
+  pub force_blocked : (reason : Block) → blocked_of s.desk.problem c v ≡ Some reason → carried_out s (Force class time room) ≡ Err (Blocked reason)
+  force_blocked reason is = rw (known, named, is) refl
+
+-- the state's answer says whether the value is blocked
+pub open_if_forced : (r : Result (Unit {0}) StateRefusal) (b : Option Block) → ((reason : Block) → (r ≡ Err (StateBlocked reason)) ↔ (b ≡ Some reason)) → ((reason : Block) → r ≡ Err (StateBlocked reason) → ⊥) → b ≡ None
+open_if_forced r None iff ne = refl
+open_if_forced r (Some reason) iff ne = absurd (ne reason ((iff reason).1 refl))
+
+pub is_blocked : (e : StateRefusal) (reason : Block) → block_of e ≡ Some reason → e ≡ StateBlocked reason
+is_blocked NotPlaced reason is = absurd (cc)
+is_blocked (StateBlocked why) reason is = let same : why ≡ reason = cc in ap StateBlocked same
+is_blocked BadSection reason is = absurd (cc)
+is_blocked (StateNoSeat class) reason is = absurd (cc)
+is_blocked NotSectioned reason is = absurd (cc)
+is_blocked NothingToUndo reason is = absurd (cc)
+is_blocked Memory reason is = absurd (cc)
+
+pub not_blocked : (e : StateRefusal) (reason : Block) → block_of e ≡ None → e ≡ StateBlocked reason → ⊥
+not_blocked e reason none is = let some : block_of e ≡ Some reason = ap block_of is in let both : None ≡ Some reason = sym none ∙ some in cc
+
+-- whatever the answer is, the fact stands
+pub on_err : {T E P : Type 0} (r : Result T E) → P → OnErr r P
+on_err (Ok x) p = tt
+on_err (Err e) p = p
+
+-- a session is its desk and what is published
+pub by_parts : (a b : Session) → a.desk ≡ b.desk → a.published ≡ b.published → a ≡ b
+by_parts a b desk published = rw (← desk, ← published) refl
+
+-- states that differ in the conflict set found last alone are the same desk
+pub same_but_taken : (t : Option Timetable) (now before : Held) → with_taken now [] ≡ with_taken before [] → with_desk_of t (desk_of now) ≡ with_desk_of t (desk_of before)
+same_but_taken t now before same = ap (λ h. with_desk_of t (desk_of h)) same
+
+pub is_ok_of : {T E : Type 0} (r : Result T E) (x : T) → r ≡ Ok x → IsOk r
+is_ok_of r x is = rw is refl

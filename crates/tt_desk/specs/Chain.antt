@@ -1,0 +1,8 @@
+-- Checks, one after another.
+use Rattle.std.specs.Prelude.{Result, Ok, Err}
+
+infixl 10 ◌>>=◌
+-- what f gives for what was given first; the first error counts
+abbrev pub ◌>>=◌ : {A B E : Type 0} → Result A E → (A → Result B E) → Result B E
+(Ok x) >>= f = f x
+(Err e) >>= f = Err e

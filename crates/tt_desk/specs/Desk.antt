@@ -1,0 +1,272 @@
+-- What each command does on a plain desk, which keeps whole snapshots.
+use Rattle.std.specs.Prelude.{ℕ, List, [], ◌∷◌, ◌++◌, Option, None, Some, Result, Ok, Err, codes, slice_get, unwrap_or, if◌then◌else◌}
+use Rattle.std.specs.Option.{option_map_or}
+use Rattle.tt_bits.specs.declared.times.Value.{Value}
+use Rattle.tt_problem.specs.declared.parts.Parts.{Parts}
+use Rattle.tt_problem.specs.Places.{class_of, student_of}
+use Rattle.tt_plan.specs.declared.named.NoValue.{NoValue}
+use Rattle.tt_plan.specs.declared.named.NoValue.TheVariants as no_value
+use Rattle.tt_plan.specs.Named.{find_value}
+use Rattle.tt_struct.specs.Enrolments.{is_enrolment}
+use Rattle.tt_clash.specs.declared.Block.{Block}
+use Rattle.tt_score.specs.declared.totals.Totals as totals
+use Rattle.tt_score.specs.Totals.{totals_of}
+use Rattle.tt_state.specs.Snapshots.{Snapshot, opening_snapshot, value_in, with_value, list_in, with_list, in_order}
+use Rattle.tt_state.specs.Seats.{first_without_seat}
+use Rattle.tt_state.specs.Values.{blocked_of, conflicts_of}
+use Rattle.tt_state.specs.Forced.{forced}
+use Rattle.tt_state.specs.Sound.{is_ready}
+use Rattle.tt_state.specs.History.{Desk, stepped}
+use Rattle.tt_solution.specs.Timetable.{Timetable}
+use Rattle.tt_solution.specs.Published.{timetable_of}
+use Rattle.tt_solution.specs.Text.{published_text}
+use Rattle.tt_enrol.specs.Enrolled.{AllEnrolled, enrolled, all_enrolled}
+use Rattle.tt_search.specs.Recalled.{recalled}
+use Rattle.tt_search.specs.Searched.{searched, repaired}
+use Rattle.tt_explain.specs.Explain.{explain_lines}
+use Rattle.tt_explain.specs.Why.{why_lines}
+use Rattle.tt_explain.specs.Stats.{stats_lines}
+use Rattle.tt_script.specs.declared.command.Command.{Command}
+use Rattle.tt_script.specs.declared.command.Command.TheVariants.{Assign, Unassign, Force, Section, Drop, Enrol, EnrolAll, Search, Repair, Recall, Undo, Publish, Totals, Explain, Why, Stats, Quit}
+use Rattle.tt_desk.specs.Fields.{field}
+use Rattle.tt_desk.specs.declared.refusal.Refusal.{Refusal}
+use Rattle.tt_desk.specs.declared.refusal.Refusal.TheVariants.{BadLine, NoSuchClass, NoSuchStudent, NoSuchTime, RoomNotListed, NotPlaced, Blocked, NoEnrolment, NoSeat, NotSectioned, NothingToUndo, NotReady, NothingPublished}
+use Rattle.tt_desk.specs.declared.refusal.Outcome.{Outcome}
+use Rattle.tt_desk.specs.declared.refusal.Outcome.TheVariants.{Skipped, Accepted, Refused, Ended}
+use Rattle.tt_desk.specs.declared.script.Line.{Line}
+use Rattle.tt_desk.specs.declared.script.Line.TheVariants.{Empty, Bad, Good}
+use Rattle.tt_desk.specs.Chain.{◌>>=◌}
+use Rattle.tt_desk.specs.Script.{line_of}
+
+-- a desk, and the published timetable if there is one
+pub record Session : Type 0 where
+  pub desk : Desk
+  pub published : Option Timetable
+
+-- nothing is placed, no student has a class, and there is no earlier snapshot
+abbrev pub opening_desk : Parts → Desk
+opening_desk p = record { problem = p; present = opening_snapshot p; earlier = [] }
+
+-- ---- the checks of a command, each of which gives what the next ones need, or its refusal
+
+-- the place that an id has, or this refusal
+abbrev pub known : Refusal → Option ℕ → Result ℕ Refusal
+known r None = Err r
+known r (Some place) = Ok place
+
+-- the place of the class with this id
+abbrev pub known_class : Parts → ℕ → Result ℕ Refusal
+known_class p id = known NoSuchClass (class_of p id)
+
+-- the place of the student with this id
+abbrev pub known_student : Parts → ℕ → Result ℕ Refusal
+known_student p id = known NoSuchStudent (student_of p id)
+
+-- the places of the classes with these ids
+abbrev pub known_classes : Parts → List ℕ → Result (List ℕ) Refusal
+known_classes p [] = Ok []
+known_classes p (id ∷ ids) = do
+  place ← known_class p id
+  places ← known_classes p ids
+  Ok (place ∷ places)
+
+-- why there is no such value
+abbrev pub value_refusal : NoValue → Refusal
+value_refusal no_value.Time = NoSuchTime
+value_refusal no_value.Room = RoomNotListed
+
+abbrev pub or_no_value : Result Value NoValue → Result Value Refusal
+or_no_value (Ok v) = Ok v
+or_no_value (Err e) = Err (value_refusal e)
+
+-- the value of a class that the number of a time and the id of a room name
+abbrev pub known_value : Parts → ℕ → ℕ → Option ℕ → Result Value Refusal
+known_value p class time room = or_no_value (find_value p class time room)
+
+-- the value that a class has
+abbrev pub or_not_placed : Option Value → Result Value Refusal
+or_not_placed None = Err NotPlaced
+or_not_placed (Some v) = Ok v
+
+abbrev pub placed : Desk → ℕ → Result Value Refusal
+placed d class = or_not_placed (value_in d.present class)
+
+-- the value of a class, which isn't blocked
+abbrev pub or_blocked : Value → Option Block → Result Value Refusal
+or_blocked v None = Ok v
+or_blocked v (Some reason) = Err (Blocked reason)
+
+abbrev pub open_value : Parts → ℕ → Value → Result Value Refusal
+open_value p class v = or_blocked v (blocked_of p class v)
+
+-- the list is a valid enrolment of the student
+abbrev pub valid_list : Desk → ℕ → List ℕ → Result (List ℕ) Refusal
+valid_list d student classes = if is_enrolment d.problem student classes then Ok classes else Err NoEnrolment
+
+-- the id of the class at a place
+abbrev pub class_id : Parts → ℕ → ℕ
+class_id p place = option_map_or (λ c. c.id) (slice_get p.classes place) 0
+
+abbrev pub or_no_seat : Parts → Option ℕ → List ℕ → Result (List ℕ) Refusal
+or_no_seat p None classes = Ok classes
+or_no_seat p (Some full) classes = Err (NoSeat (class_id p full))
+
+-- each class of the list has a seat for the student
+abbrev pub seated : Desk → ℕ → List ℕ → Result (List ℕ) Refusal
+seated d student classes = or_no_seat d.problem (first_without_seat d.problem d.present.lists student classes) classes
+
+-- the classes that a student has, of which there is one at least
+abbrev pub or_not_sectioned : List ℕ → Result (List ℕ) Refusal
+or_not_sectioned [] = Err NotSectioned
+or_not_sectioned (class ∷ classes) = Ok (class ∷ classes)
+
+abbrev pub sectioned : Desk → ℕ → Result (List ℕ) Refusal
+sectioned d student = or_not_sectioned (list_in d.present student)
+
+-- the snapshot in which a student is enrolled anew
+abbrev pub or_no_enrolment : Option Snapshot → Result Snapshot Refusal
+or_no_enrolment None = Err NoEnrolment
+or_no_enrolment (Some now) = Ok now
+
+abbrev pub enrolment : Desk → ℕ → Result Snapshot Refusal
+enrolment d student = or_no_enrolment (enrolled d.problem d.present student)
+
+-- the desk before its last step
+abbrev pub or_nothing : Parts → List Snapshot → Result Desk Refusal
+or_nothing p [] = Err NothingToUndo
+or_nothing p (s ∷ ss) = Ok (record { problem = p; present = s; earlier = ss })
+
+abbrev pub undone : Desk → Result Desk Refusal
+undone d = or_nothing d.problem d.earlier
+
+-- the present snapshot, in which all classes are placed, all students are sectioned, and nothing is in conflict
+abbrev pub not_ready : totals.Totals → Refusal
+not_ready t = NotReady t.unplaced t.unsectioned t.hard
+
+abbrev pub ready : Desk → Result Snapshot Refusal
+ready d = if is_ready d.problem d.present then Ok d.present else Err (not_ready (totals_of d.problem d.present.plan d.present.lists))
+
+-- the timetable that is published
+abbrev pub published : Option Timetable → Result Timetable Refusal
+published None = Err NothingPublished
+published (Some t) = Ok t
+
+-- ---- what accepted commands leave
+
+-- a session, and the command's own lines
+pub record Answer : Type 0 where
+  pub session : Session
+  pub lines : List ℕ
+
+-- nothing is changed
+abbrev pub same : Session → List ℕ → Answer
+same s lines = record { session = s; lines = lines }
+
+-- the session has this desk
+abbrev pub with_desk : Session → Desk → List ℕ → Answer
+with_desk s d lines = record { session = record { desk = d; published = s.published }; lines = lines }
+
+-- one more step leads to this snapshot
+abbrev pub with_step : Session → Snapshot → List ℕ → Answer
+with_step s now lines = with_desk s (stepped s.desk now) lines
+
+-- this timetable is published
+abbrev pub with_published : Session → Timetable → List ℕ → Answer
+with_published s t lines = record { session = record { desk = s.desk; published = Some t }; lines = lines }
+
+-- one more step leads to where a search ended, after so many turns. A search has an end always
+abbrev pub with_search : Session → Option Snapshot × ℕ → Answer
+with_search s (end, turns) = with_step s (unwrap_or end s.desk.present) (field (codes "turns ") turns ++ codes "\n")
+
+-- one more step leads to where all students are enrolled that could be
+abbrev pub with_all_enrolled : Session → AllEnrolled → Answer
+with_all_enrolled s all = with_step s all.snapshot (field (codes "enrolled ") all.enrolled ++ field (codes " left ") all.left ++ codes "\n")
+
+-- a line for each class that is taken out, by its id
+abbrev pub out_lines : Parts → List ℕ → List ℕ
+out_lines p [] = []
+out_lines p (class ∷ classes) = field (codes "out ") (class_id p class) ++ codes "\n" ++ out_lines p classes
+
+-- ---- the commands
+
+-- what a command leaves and its own lines, or the first refusal that applies, one check a line
+abbrev pub carried_out : Session → Command → Result Answer Refusal
+carried_out s (Assign class time room) = do
+  c ← known_class s.desk.problem class
+  v ← known_value s.desk.problem c time room
+  Ok (with_step s (with_value s.desk.present c (Some v)) [])
+carried_out s (Unassign class) = do
+  c ← known_class s.desk.problem class
+  v ← placed s.desk c
+  Ok (with_step s (with_value s.desk.present c None) [])
+carried_out s (Force class time room) = do
+  c ← known_class s.desk.problem class
+  v ← known_value s.desk.problem c time room
+  free ← open_value s.desk.problem c v
+  Ok (with_step s (forced s.desk.problem s.desk.present c v) (out_lines s.desk.problem (conflicts_of s.desk.problem s.desk.present c v)))
+carried_out s (Section student classes) = do
+  list ← known_classes s.desk.problem classes
+  i ← known_student s.desk.problem student
+  valid ← valid_list s.desk i list
+  free ← seated s.desk i list
+  Ok (with_step s (with_list s.desk.present i (in_order list)) [])
+carried_out s (Drop student) = do
+  i ← known_student s.desk.problem student
+  had ← sectioned s.desk i
+  Ok (with_step s (with_list s.desk.present i []) [])
+carried_out s (Enrol student) = do
+  i ← known_student s.desk.problem student
+  now ← enrolment s.desk i
+  Ok (with_step s now [])
+carried_out s EnrolAll = Ok (with_all_enrolled s (all_enrolled s.desk.problem s.desk.present))
+carried_out s (Search turns seed) = Ok (with_search s (searched s.desk.problem turns seed s.desk.present))
+carried_out s (Repair turns seed) = do
+  t ← published s.published
+  Ok (with_search s (repaired s.desk.problem t turns seed s.desk.present))
+carried_out s Recall = do
+  t ← published s.published
+  Ok (with_step s (recalled s.desk.problem t s.desk.present) [])
+carried_out s Undo = do
+  d ← undone s.desk
+  Ok (with_desk s d [])
+carried_out s Publish = do
+  now ← ready s.desk
+  Ok (with_published s (timetable_of s.desk.problem now.plan now.lists) (published_text s.desk.problem now.plan now.lists ++ codes "\n"))
+carried_out s Totals = Ok (same s [])
+carried_out s (Explain class) = do
+  c ← known_class s.desk.problem class
+  Ok (same s (explain_lines s.desk.problem s.desk.present c))
+carried_out s (Why class time room) = do
+  c ← known_class s.desk.problem class
+  v ← known_value s.desk.problem c time room
+  Ok (same s (why_lines s.desk.problem s.desk.present c v))
+carried_out s (Stats class) = do
+  c ← known_class s.desk.problem class
+  Ok (same s (stats_lines s.desk.problem s.desk.present c))
+carried_out s Quit = Ok (same s [])
+
+-- what a line leaves, what became of it, and the command's own lines
+pub record Step : Type 0 where
+  pub session : Session
+  pub outcome : Outcome
+  pub lines : List ℕ
+
+-- a refused command changes nothing
+abbrev pub step_from : Session → Result Answer Refusal → Step
+step_from s (Ok a) = record { session = a.session; outcome = Accepted; lines = a.lines }
+step_from s (Err r) = record { session = s; outcome = Refused r; lines = [] }
+
+-- what a command does; `quit` ends the script
+abbrev pub command_step : Session → Command → Step
+command_step s Quit = record { session = s; outcome = Ended; lines = [] }
+command_step s command = step_from s (carried_out s command)
+
+-- what a line does
+abbrev pub step_of : Session → Line → Step
+step_of s Empty = record { session = s; outcome = Skipped; lines = [] }
+step_of s Bad = record { session = s; outcome = Refused BadLine; lines = [] }
+step_of s (Good command) = command_step s command
+
+-- what the line of these bytes does
+unfoldable pub line_step : Session → List ℕ → Step
+line_step s line = step_of s (line_of line)

@@ -1,0 +1,85 @@
+-- The replies to the lines of a script.
+use Rattle.std.specs.Prelude.{ℕ, Bool, true, false, List, [], ◌∷◌, ◌++◌, map, if◌then◌else◌, None, Some, Option, option_map, codes, decimal}
+use Rattle.std.specs.List.{list_any}
+use Rattle.tt_score.specs.declared.totals.Totals.{Totals}
+use Rattle.tt_score.specs.Totals.{totals_of}
+use Rattle.tt_solution.specs.Published.{moved_of}
+use Rattle.tt_desk.specs.Fields.{field}
+use Rattle.tt_desk.specs.declared.refusal.Outcome.{Outcome}
+use Rattle.tt_desk.specs.declared.refusal.Outcome.TheVariants.{Skipped, Accepted, Refused, Ended}
+use Rattle.tt_desk.specs.Refusals.{refusal_line}
+use Rattle.tt_desk.specs.Desk.{Session, Step, line_step}
+
+-- how many published classes moved; '-' while nothing is published
+abbrev pub moved_text : Option ℕ → List ℕ
+moved_text None = codes "-"
+moved_text (Some moved) = decimal moved
+
+-- the sums and their weighted total
+abbrev pub sums_text : Totals → List ℕ
+sums_text t =
+    field (codes "ok time ") t.time
+    ++ field (codes " room ") t.room
+    ++ field (codes " distribution ") t.distribution
+    ++ field (codes " student ") t.student
+    ++ field (codes " total ") t.total
+
+-- the counts of what is amiss
+abbrev pub counts_text : Totals → List ℕ
+counts_text t =
+    field (codes " hard ") t.hard
+    ++ field (codes " unplaced ") t.unplaced
+    ++ field (codes " unsectioned ") t.unsectioned
+
+-- the line of totals
+abbrev pub totals_line : Totals → Option ℕ → List ℕ
+totals_line t moved = sums_text t ++ counts_text t ++ codes " moved " ++ moved_text moved ++ codes "\n"
+
+-- the totals of the present snapshot
+unfoldable pub present_totals : Session → Totals
+present_totals s = totals_of s.desk.problem s.desk.present.plan s.desk.present.lists
+
+-- how many published classes moved in the present snapshot
+unfoldable pub present_moved : Session → Option ℕ
+present_moved s = option_map (moved_of s.desk.problem s.desk.present.plan) s.published
+
+-- an accepted command writes its own lines and the line of totals, a refused one why it is refused; a skipped line and `quit`
+-- write nothing
+abbrev pub reply_to : Session → List ℕ → Outcome → List ℕ
+reply_to s lines Skipped = []
+reply_to s lines Accepted = lines ++ totals_line (present_totals s) (present_moved s)
+reply_to s lines (Refused r) = refusal_line r
+reply_to s lines Ended = []
+
+-- the reply to a line
+abbrev pub reply_of : Step → List ℕ
+reply_of step = reply_to step.session step.lines step.outcome
+
+abbrev pub is_refused : Outcome → Bool
+is_refused Skipped = false
+is_refused Accepted = false
+is_refused (Refused r) = true
+is_refused Ended = false
+
+abbrev pub is_end : Outcome → Bool
+is_end Skipped = false
+is_end Accepted = false
+is_end (Refused r) = false
+is_end Ended = true
+
+-- a step and those after it, which are none where it ends the script
+abbrev pub with_later : Step → List Step → List Step
+with_later step later = step ∷ (if is_end step.outcome then [] else later)
+
+-- what the lines do, one after another, up to `quit` or the last one
+abbrev pub steps_of : Session → List (List ℕ) → List Step
+steps_of s [] = []
+steps_of s (line ∷ lines) = with_later (line_step s line) (steps_of (line_step s line).session lines)
+
+-- a reply for each of these lines
+abbrev pub replies_to : Session → List (List ℕ) → List (List ℕ)
+replies_to s lines = map reply_of (steps_of s lines)
+
+-- whether one of these lines is refused
+abbrev pub refuses : Session → List (List ℕ) → Bool
+refuses s lines = list_any (λ step. is_refused step.outcome) (steps_of s lines)

@@ -1,0 +1,166 @@
+//! The commands by which the office changes one class or one student, and `undo`.
+
+ghost use Rattle.std.specs.Prelude.{◌≡◌, ◌<◌, [], All, Ok, Err, IfOk, IfSome, MatchOption, OnErr, length};
+ghost use Rattle.tt_desk.specs.Desk.{command_step, known_classes, value_refusal};
+ghost use Rattle.tt_desk.specs.Causes.{MayTake, block_of};
+
+use crate::refusal::{Outcome, Refusal};
+use crate::reply::{add_out, class_id};
+use crate::session::Session;
+use std::alloc::AllocError;
+use tt_clash::Block;
+use tt_clash::laws::others;
+use tt_plan::{NoValue, find};
+use tt_problem::Problem;
+use tt_script::{Command, Ids};
+use tt_state::Refusal as StateRefusal;
+use tt_text::Reply;
+
+/// Why no value of a class is named.
+pub(crate) fn value_refusal(fault: NoValue) -> Refusal
+    ensures { result ≡ value_refusal fault }
+{
+    match fault {
+        NoValue::Time => Refusal::NoSuchTime,
+        NoValue::Room => Refusal::RoomNotListed,
+    }
+}
+
+// The places of classes, by their ids, if all of these are known.
+fn class_places(problem: &Problem, ids: Ids) -> Option<Vec<u32>>
+    ensures places { MatchOption result (known_classes problem.now ids ≡ Err Refusal.NoSuchClass) (λ places. known_classes problem.now ids ≡ Ok places.items) }
+    ensures in_range { IfSome result (λ places. All (λ place. place < length problem.now.classes) places.items) }
+{
+    let mut places = ids.into_vec();
+    for place in places.iter_mut() {
+        *place = problem.class_of(*place)?;
+    }
+    Some(places)
+}
+
+// Why a value is blocked, if that is why a class wasn't forced to it.
+fn block_of(refusal: StateRefusal) -> Option<Block>
+    ensures { result ≡ block_of refusal }
+{
+    match refusal {
+        StateRefusal::Blocked { reason } => Some(reason),
+        _ => None,
+    }
+}
+
+impl Session {
+    /// Gives a class a value, by ids and the number of a time.
+    pub(crate) fn assign(
+        &mut self,
+        class: u32,
+        time: u32,
+        room: Option<u32>,
+    ) -> Result<Outcome, AllocError>
+        ensures ok { IfOk result (λ outcome. command_step self.old (Command.Assign class time room) ≡ record { session = self.new; outcome = outcome; lines = [] }) }
+        ensures memory { OnErr result (MayTake self.old (Command.Assign class time room)) }
+    {
+        let Some(class) = self.state.problem().class_of(class) else {
+            return Ok(Outcome::Refused(Refusal::NoSuchClass));
+        };
+        match find(self.state.problem(), class, time, room) {
+            Err(fault) => Ok(Outcome::Refused(value_refusal(fault))),
+            Ok(value) => {
+                self.state.assign(class, value)?;
+                Ok(Outcome::Accepted)
+            }
+        }
+    }
+
+    /// Takes its value from a class, by its id.
+    pub(crate) fn unassign(&mut self, class: u32) -> Result<Outcome, AllocError>
+        ensures ok { IfOk result (λ outcome. command_step self.old (Command.Unassign class) ≡ record { session = self.new; outcome = outcome; lines = [] }) }
+        ensures memory { OnErr result (MayTake self.old (Command.Unassign class)) }
+    {
+        let Some(class) = self.state.problem().class_of(class) else {
+            return Ok(Outcome::Refused(Refusal::NoSuchClass));
+        };
+        match self.state.unassign(class) {
+            Ok(()) => Ok(Outcome::Accepted),
+            Err(StateRefusal::Memory) => Err(AllocError),
+            Err(_) => Ok(Outcome::Refused(Refusal::NotPlaced)),
+        }
+    }
+
+    /// Gives a student the classes of a list, by ids.
+    pub(crate) fn section(&mut self, student: u32, classes: Ids) -> Result<Outcome, AllocError>
+        ensures ok { IfOk result (λ outcome. command_step self.old (Command.Section student classes) ≡ record { session = self.new; outcome = outcome; lines = [] }) }
+        ensures memory { OnErr result (MayTake self.old (Command.Section student classes)) }
+    {
+        let Some(classes) = class_places(self.state.problem(), classes) else {
+            return Ok(Outcome::Refused(Refusal::NoSuchClass));
+        };
+        let Some(student) = self.state.problem().student_of(student) else {
+            return Ok(Outcome::Refused(Refusal::NoSuchStudent));
+        };
+        match self.state.section(student, &classes) {
+            Ok(()) => Ok(Outcome::Accepted),
+            Err(StateRefusal::Memory) => Err(AllocError),
+            Err(StateRefusal::NoSeat { class }) => Ok(Outcome::Refused(Refusal::NoSeat {
+                class: class_id(self.state.problem(), class),
+            })),
+            Err(_) => Ok(Outcome::Refused(Refusal::NoEnrolment)),
+        }
+    }
+
+    /// Takes all classes from a student, by the student's id.
+    pub(crate) fn drop_student(&mut self, student: u32) -> Result<Outcome, AllocError>
+        ensures ok { IfOk result (λ outcome. command_step self.old (Command.Drop student) ≡ record { session = self.new; outcome = outcome; lines = [] }) }
+        ensures memory { OnErr result (MayTake self.old (Command.Drop student)) }
+    {
+        let Some(student) = self.state.problem().student_of(student) else {
+            return Ok(Outcome::Refused(Refusal::NoSuchStudent));
+        };
+        match self.state.drop_student(student) {
+            Ok(()) => Ok(Outcome::Accepted),
+            Err(StateRefusal::Memory) => Err(AllocError),
+            Err(_) => Ok(Outcome::Refused(Refusal::NotSectioned)),
+        }
+    }
+
+    /// Goes back by a step.
+    pub(crate) fn undo(&mut self) -> Outcome
+        ensures { command_step self.old Command.Undo ≡ record { session = self.new; outcome = result; lines = [] } }
+    {
+        match self.state.undo() {
+            Ok(()) => Outcome::Accepted,
+            Err(_) => Outcome::Refused(Refusal::NothingToUndo),
+        }
+    }
+
+    /// Forces a class to a value, by ids and the number of a time, with a line for each class that is
+    /// taken out.
+    pub(crate) fn force(
+        &mut self,
+        class: u32,
+        time: u32,
+        room: Option<u32>,
+        reply: &mut Reply,
+    ) -> Result<Outcome, AllocError>
+        requires { reply.old ≡ [] }
+        ensures ok { IfOk result (λ outcome. command_step self.old (Command.Force class time room) ≡ record { session = self.new; outcome = outcome; lines = reply.new }) }
+        ensures memory { OnErr result (MayTake self.old (Command.Force class time room)) }
+    {
+        let Some(class) = self.state.problem().class_of(class) else {
+            return Ok(Outcome::Refused(Refusal::NoSuchClass));
+        };
+        let value = match find(self.state.problem(), class, time, room) {
+            Ok(value) => value,
+            Err(fault) => return Ok(Outcome::Refused(value_refusal(fault))),
+        };
+        self.state.soundness();
+        others();
+        if let Err(refusal) = self.state.force(class, value) {
+            let Some(reason) = block_of(refusal) else {
+                return Err(AllocError);
+            };
+            return Ok(Outcome::Refused(Refusal::Blocked { reason }));
+        }
+        add_out(reply, self.state.problem(), self.state.taken())?;
+        Ok(Outcome::Accepted)
+    }
+}

@@ -1,0 +1,64 @@
+ghost use Rattle.std.specs.Prelude.{◌≡◌, [], IfOk, OnErr};
+ghost use Rattle.tt_desk.specs.Desk.{command_step, line_step};
+ghost use Rattle.tt_desk.specs.Causes.{IsMemoryCause, MayTake};
+
+use crate::refusal::{Outcome, Refusal};
+use crate::script::{Line, read_line};
+use crate::session::Session;
+use std::alloc::{AllocError, Global};
+use tt_script::Command;
+use tt_text::Reply;
+
+impl Session {
+    // Carries a command out, or says why it is refused. Its own lines are put into an empty reply.
+    fn carry_out(
+        &mut self,
+        alloc: Global,
+        command: Command,
+        reply: &mut Reply,
+    ) -> Result<Outcome, AllocError>
+        requires { reply.old ≡ [] }
+        ensures ok { IfOk result (λ outcome. command_step self.old command ≡ record { session = self.new; outcome = outcome; lines = reply.new }) }
+        ensures memory { OnErr result (MayTake self.old command) }
+    {
+        match command {
+            Command::Assign { class, time, room } => self.assign(class, time, room),
+            Command::Unassign { class } => self.unassign(class),
+            Command::Force { class, time, room } => self.force(class, time, room, reply),
+            Command::Section { student, classes } => self.section(student, classes),
+            Command::Drop { student } => self.drop_student(student),
+            Command::Enrol { student } => self.enrol(alloc, student),
+            Command::EnrolAll => self.enrol_all(alloc, reply),
+            Command::Search { turns, seed } => self.search(alloc, turns, seed, reply),
+            Command::Repair { turns, seed } => self.repair(alloc, turns, seed, reply),
+            Command::Recall => self.recall(alloc),
+            Command::Undo => Ok(self.undo()),
+            Command::Publish => self.publish(alloc, reply),
+            Command::Totals => Ok(Outcome::Accepted),
+            Command::Explain { class } => self.explain(class, reply),
+            Command::Why { class, time, room } => self.why(class, time, room, reply),
+            Command::Stats { class } => self.stats(class, reply),
+            Command::Quit => Ok(Outcome::Ended),
+        }
+    }
+
+    /// Does what a line asks for, or says why it is refused. The reply, whatever it held, has the
+    /// command's own lines then, which `finish_reply` makes whole.
+    #[tactic(auto, unfolding(crate::specs::Desk::line_step, crate::specs::Causes::IsMemoryCause))]
+    pub fn answer(
+        &mut self,
+        alloc: Global,
+        line: &[u8],
+        reply: &mut Reply,
+    ) -> Result<Outcome, AllocError>
+        ensures ok { IfOk result (λ outcome. line_step self.old line.now ≡ record { session = self.new; outcome = outcome; lines = reply.new }) }
+        ensures memory { OnErr result (IsMemoryCause self.old line.now) }
+    {
+        reply.clear();
+        match read_line(alloc, line)? {
+            Line::Empty => Ok(Outcome::Skipped),
+            Line::Bad => Ok(Outcome::Refused(Refusal::BadLine)),
+            Line::Good(command) => self.carry_out(alloc, command, reply),
+        }
+    }
+}

@@ -1,0 +1,195 @@
+ghost use Rattle.std.specs.Prelude.{◌≡◌, ◌<◌, ◌++◌, [], All, OnOk, codes, length};
+ghost use Rattle.tt_desk.specs.Fields.{field};
+ghost use Rattle.tt_desk.specs.Desk.{class_id, out_lines};
+ghost use Rattle.tt_desk.specs.Refusals.{block_text, refusal_number, refusal_text, refusal_line};
+ghost use Rattle.tt_desk.specs.Replies.{counts_text, moved_text, reply_to, sums_text, totals_line};
+
+use crate::refusal::{Outcome, Refusal};
+use crate::session::Session;
+use std::alloc::AllocError;
+use tt_clash::Block;
+use tt_problem::Problem;
+use tt_score::Totals;
+use tt_text::Reply;
+
+/// Appends a word and a number.
+#[tactic(auto, unfolding(crate::specs::Fields::field))]
+pub fn add_field(reply: &mut Reply, word: &str, number: u128) -> Result<(), AllocError>
+    ensures { OnOk result (reply.new ≡ reply.old ++ field word.now number) }
+{
+    reply.text(word)?;
+    reply.number(number)
+}
+
+// Appends a number, or a dash where there is none.
+fn add_number_or_dash(reply: &mut Reply, moved: Option<u32>) -> Result<(), AllocError>
+    ensures { OnOk result (reply.new ≡ reply.old ++ moved_text moved) }
+{
+    match moved {
+        None => reply.text("-"),
+        Some(moved) => reply.number(u128::from(moved)),
+    }
+}
+
+// Appends the sums of a line of totals.
+fn add_sums(reply: &mut Reply, totals: &Totals) -> Result<(), AllocError>
+    ensures { OnOk result (reply.new ≡ reply.old ++ sums_text totals.now) }
+{
+    add_field(reply, "ok time ", u128::from(totals.time))?;
+    add_field(reply, " room ", u128::from(totals.room))?;
+    add_field(reply, " distribution ", totals.distribution)?;
+    add_field(reply, " student ", u128::from(totals.student))?;
+    add_field(reply, " total ", totals.total)
+}
+
+// Appends the counts of a line of totals.
+fn add_counts(reply: &mut Reply, totals: &Totals) -> Result<(), AllocError>
+    ensures { OnOk result (reply.new ≡ reply.old ++ counts_text totals.now) }
+{
+    add_field(reply, " hard ", u128::from(totals.hard))?;
+    add_field(reply, " unplaced ", u128::from(totals.unplaced))?;
+    add_field(reply, " unsectioned ", u128::from(totals.unsectioned))
+}
+
+// Appends the end of a line of totals: how many published classes moved.
+fn add_moved(reply: &mut Reply, moved: Option<u32>) -> Result<(), AllocError>
+    ensures { OnOk result (reply.new ≡ reply.old ++ codes " moved " ++ moved_text moved ++ codes "\n") }
+{
+    reply.text(" moved ")?;
+    add_number_or_dash(reply, moved)?;
+    reply.text("\n")
+}
+
+// Appends the line of totals.
+fn add_totals(reply: &mut Reply, totals: &Totals, moved: Option<u32>) -> Result<(), AllocError>
+    ensures { OnOk result (reply.new ≡ reply.old ++ totals_line totals.now moved) }
+{
+    add_sums(reply, totals)?;
+    add_counts(reply, totals)?;
+    add_moved(reply, moved)
+}
+
+fn number_of(refusal: Refusal) -> u8
+    ensures { result ≡ refusal_number refusal }
+{
+    match refusal {
+        Refusal::BadLine => 10,
+        Refusal::NoSuchClass => 11,
+        Refusal::NoSuchStudent => 12,
+        Refusal::NoSuchTime => 13,
+        Refusal::RoomNotListed => 14,
+        Refusal::NotPlaced => 16,
+        Refusal::Blocked { .. } => 17,
+        Refusal::NoEnrolment => 18,
+        Refusal::NoSeat { .. } => 19,
+        Refusal::NotSectioned => 20,
+        Refusal::NothingToUndo => 21,
+        Refusal::NotReady { .. } => 22,
+        Refusal::NothingPublished => 23,
+    }
+}
+
+// Appends why a value is blocked. Rules are counted from 1.
+fn add_block(reply: &mut Reply, reason: Block) -> Result<(), AllocError>
+    ensures { OnOk result (reply.new ≡ reply.old ++ block_text reason) }
+{
+    match reason {
+        Block::Closed => reply.text("blocked closed"),
+        Block::Rule(place) => add_field(reply, "blocked rule ", u128::from(place) + 1),
+    }
+}
+
+// Appends how much isn't ready.
+fn add_not_ready(
+    reply: &mut Reply,
+    unplaced: u32,
+    unsectioned: u32,
+    hard: u64,
+) -> Result<(), AllocError>
+    ensures { OnOk result (reply.new ≡ reply.old ++ refusal_text (Refusal.NotReady unplaced unsectioned hard)) }
+{
+    add_field(reply, "not ready ", u128::from(unplaced))?;
+    add_field(reply, " ", u128::from(unsectioned))?;
+    add_field(reply, " ", u128::from(hard))
+}
+
+// Appends the words of a refusal.
+#[tactic(auto, using(std::proofs::Common::append_assoc))]
+fn add_words(reply: &mut Reply, refusal: Refusal) -> Result<(), AllocError>
+    ensures { OnOk result (reply.new ≡ reply.old ++ refusal_text refusal) }
+{
+    match refusal {
+        Refusal::BadLine => reply.text("bad line"),
+        Refusal::NoSuchClass => reply.text("no such class"),
+        Refusal::NoSuchStudent => reply.text("no such student"),
+        Refusal::NoSuchTime => reply.text("no such time"),
+        Refusal::RoomNotListed => reply.text("room not in the list"),
+        Refusal::NotPlaced => reply.text("not placed"),
+        Refusal::Blocked { reason } => add_block(reply, reason),
+        Refusal::NoEnrolment => reply.text("no valid enrolment"),
+        Refusal::NoSeat { class } => add_field(reply, "no seat in class ", u128::from(class)),
+        Refusal::NotSectioned => reply.text("not sectioned"),
+        Refusal::NothingToUndo => reply.text("nothing to undo"),
+        Refusal::NotReady {
+            unplaced,
+            unsectioned,
+            hard,
+        } => add_not_ready(reply, unplaced, unsectioned, hard),
+        Refusal::NothingPublished => reply.text("nothing published"),
+    }
+}
+
+// The line of a refusal, in an empty reply.
+fn put_refusal(reply: &mut Reply, refusal: Refusal) -> Result<(), AllocError>
+    requires { reply.old ≡ [] }
+    ensures { OnOk result (reply.new ≡ refusal_line refusal) }
+{
+    add_field(reply, "refused ", u128::from(number_of(refusal)))?;
+    reply.text(" ")?;
+    add_words(reply, refusal)?;
+    reply.text("\n")
+}
+
+/// The id of the class at a place.
+pub(crate) fn class_id(problem: &Problem, place: u32) -> u32
+    requires { place < length problem.now.classes }
+    ensures { result ≡ class_id problem.now place }
+{
+    problem.class(place).id
+}
+
+/// Appends a line for each class that was taken out.
+pub(crate) fn add_out(
+    reply: &mut Reply,
+    problem: &Problem,
+    classes: &[u32],
+) -> Result<(), AllocError>
+    requires { All (λ class. class < length problem.now.classes) classes.now }
+    ensures { OnOk result (reply.new ≡ reply.old ++ out_lines problem.now classes.now) }
+{
+    for class in classes {
+        add_field(reply, "out ", u128::from(class_id(problem, *class)))?;
+        reply.text("\n")?;
+    }
+    Ok(())
+}
+
+impl Session {
+    /// Makes the reply to a line, by what became of it. For an accepted command the reply has the
+    /// command's own lines before.
+    pub fn finish_reply(&self, reply: &mut Reply, outcome: Outcome) -> Result<(), AllocError>
+        ensures { OnOk result (reply.new ≡ reply_to self.now reply.old outcome) }
+    {
+        match outcome {
+            Outcome::Accepted => add_totals(reply, &self.totals(), self.moved()),
+            Outcome::Skipped | Outcome::Ended => {
+                reply.clear();
+                Ok(())
+            }
+            Outcome::Refused(refusal) => {
+                reply.clear();
+                put_refusal(reply, refusal)
+            }
+        }
+    }
+}
