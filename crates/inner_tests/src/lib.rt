@@ -23,6 +23,8 @@ mod score_tests;
 #[cfg(test)]
 mod search_tests;
 #[cfg(test)]
+mod session_tests;
+#[cfg(test)]
 mod solution_tests;
 #[cfg(test)]
 mod state_tests;
