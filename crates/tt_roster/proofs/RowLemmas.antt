@@ -1,5 +1,5 @@
 -- Rows of classes: reading one, changing one, walking over all.
-use Rattle.std.proofs.Common.{◌≡◌, ◌∙◌, ℕ, ◌+◌, ◌<◌, true, false, cond, List, [], ◌∷◌, ◌++◌, Option, length, get_or, map, take, drop, sum_by, count_by, replicate, refl, sym, ap, zero, suc, arith}
+use Rattle.std.proofs.Common.{◌≡◌, ◌∙◌, ℕ, ◌+◌, ◌<◌, true, false, cond, List, [], ◌∷◌, ◌++◌, Option, length, get_or, map, take, drop, sum_by, replicate, refl, sym, ap, zero, suc, arith}
 use Rattle.std.specs.Prelude.{slice_set, All}
 use Rattle.std.proofs.lemmas.List.{length-map, get_or-map, map-set, map-append, set-get_or, take_more, replicate_more, drop_all}
 use Rattle.std.proofs.lemmas.List.Sums.{sum_by_more}
@@ -39,12 +39,6 @@ pub lengths_more : (rows : List ListedClasses) (i : ℕ) (row : ListedClasses) �
     → sum_by length (take (i + 1) (map classes_in rows)) ≡ sum_by length (take i (map classes_in rows)) + length row.classes
 lengths_more rows i row lt is =
     sum_by_more length (map classes_in rows) i [] (omega (arith, length-map rows classes_in)) ∙ ap (λ list. sum_by length (take i (map classes_in rows)) + length list) (row_list_is rows i row lt is)
-
-pub having_more : (class : ℕ) (rows : List ListedClasses) (i : ℕ) (row : ListedClasses) → i < length rows → row ≡ get_or rows i row
-    → count_by (has_class class) (take (i + 1) (map classes_in rows)) ≡ count_by (has_class class) (take i (map classes_in rows)) + cond (has_class class row.classes) 1 0
-having_more class rows i row lt is =
-    let f : List ℕ → ℕ = λ list. cond (has_class class list) 1 0 in
-    sum_by_more f (map classes_in rows) i [] (omega (arith, length-map rows classes_in)) ∙ ap (λ list. count_by (has_class class) (take i (map classes_in rows)) + f list) (row_list_is rows i row lt is)
 
 -- one row more, that is made
 pub seats_more : (rows rows' : List ListedClasses) (n : ℕ) (row : ListedClasses) → rows' ≡ rows ++ row ∷ [] → row.classes ≡ [] → map classes_in rows ≡ replicate n [] → map classes_in rows' ≡ replicate (n + 1) []

@@ -8,7 +8,7 @@ ghost use Rattle.tt_roster.specs.Kept.{IsRosterOf};
 use crate::conflicts::{class_conflicts, conflicts_now};
 use crate::items::Items;
 use crate::making::new_rows;
-use crate::rows::{ClassRow, count_having};
+use crate::rows::ClassRow;
 use std::alloc::{AllocError, Global};
 use std::marker::Model;
 use tt_bits::Spot;
@@ -20,6 +20,8 @@ use tt_problem::Problem;
 pub struct Roster {
     rows: Vec<ClassRow>,
     spots: Vec<Option<Spot>>,
+    /// How many students have each class.
+    counts: Vec<u32>,
     conflicts: u64,
 }
 
@@ -28,11 +30,11 @@ impl Model for Roster {
 
     ghost Value = { Rostered };
 
-    ghost use Rattle.tt_roster.specs.Kept.{rostered, AreFew};
+    ghost use Rattle.tt_roster.specs.Kept.{rostered, IsCountedUp};
 
     ghost view = { rostered };
 
-    ghost invariant = { AreFew };
+    ghost invariant = { IsCountedUp };
 }
 
 impl Roster {
@@ -45,9 +47,11 @@ impl Roster {
         problem.validity();
         let rows = new_rows(alloc, problem)?;
         let spots = vec![in alloc; None; problem.class_count() as usize]?;
+        let counts = vec![in alloc; 0; problem.class_count() as usize]?;
         Ok(Roster {
             rows,
             spots,
+            counts,
             conflicts: 0,
         })
     }
@@ -74,6 +78,7 @@ impl Roster {
         );
         row.insert(class);
         self.conflicts += more;
+        self.counts[class as usize] += 1;
     }
 
     /// Takes a class from a student.
@@ -97,6 +102,7 @@ impl Roster {
         );
         row.remove(class);
         self.conflicts -= less;
+        self.counts[class as usize] -= 1;
     }
 
     /// Gives a class that isn't placed its spot.
@@ -137,7 +143,7 @@ impl Roster {
     pub fn count(&self, class: u32) -> u32
         ensures { result ≡ count_by (has_class class) self.now.seats }
     {
-        count_having(self.rows.as_slice(), class)
+        self.counts.get(class as usize).copied().unwrap_or(0)
     }
 
     /// The classes of a student, in the problem's order.
