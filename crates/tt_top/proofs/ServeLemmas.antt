@@ -8,11 +8,10 @@ use Rattle.std.proofs.Math.Seq.{take-append_seam}
 use Rattle.tt_io.specs.Causes.{Writes}
 use Rattle.tt_io.specs.Whole.{WritesFront}
 use Rattle.tt_io.proofs.WrittenLemmas.{Writes-append, WritesFront-after, WritesFront-first, nothing_written}
-use Rattle.tt_state.specs.History.{Desk}
+use Rattle.tt_desk.specs.declared.refusal.Outcome.{Outcome}
+use Rattle.tt_desk.specs.Desk.{Session, line_step}
+use Rattle.tt_desk.specs.Replies.{is_end, is_refused, steps_of, reply_of, replies_to, refuses}
 use Rattle.tt_top.specs.declared.end.End.{End}
-use Rattle.tt_top.specs.declared.refusal.Outcome.{Outcome}
-use Rattle.tt_top.specs.Desk.{line_step}
-use Rattle.tt_top.specs.Transcript.{is_end, is_refused, steps_of, reply_of, replies_to, refuses}
 use Rattle.tt_top.specs.Run.{WritesFirst}
 
 -- ---- pieces
@@ -53,21 +52,21 @@ HasSent-same before mid now pieces left had same = rw same had
 
 -- ---- replies
 
-module _ (d now : Desk) (lines : List (List ℕ)) (line : List ℕ) (rest : List (List ℕ)) (outcome : Outcome) (cut : lines ≡ line ∷ rest) (step : line_step d line ≡ record { desk = now; outcome = outcome }) where
+module _ (d now : Session) (lines : List (List ℕ)) (line : List ℕ) (rest : List (List ℕ)) (outcome : Outcome) (cut : lines ≡ line ∷ rest) (leaves : (line_step d line).session ≡ now) (becomes : (line_step d line).outcome ≡ outcome) where
   -- a line that doesn't end the script
   pub replies-next : is_end outcome ≡ false → replies_to d lines ≡ reply_of (line_step d line) ∷ replies_to now rest
-  replies-next goes = rw (cut, step, goes) refl
+  replies-next goes = rw (cut, becomes, goes, leaves) refl
 
   -- a line that ends it
   pub replies-last : is_end outcome ≡ true → replies_to d lines ≡ reply_of (line_step d line) ∷ []
-  replies-last ends = rw (cut, step, ends) refl
+  replies-last ends = rw (cut, becomes, ends) refl
 
   pub refuses-next : is_end outcome ≡ false → refuses d lines ≡ (is_refused outcome || refuses now rest)
-  refuses-next goes = rw (cut, step, goes) refl
+  refuses-next goes = rw (cut, becomes, goes, leaves) refl
 
 -- the reply to the first line is the next piece, whatever becomes of the line
-pub reply_is_next : (d : Desk) (lines : List (List ℕ)) (line : List ℕ) (rest : List (List ℕ)) → lines ≡ line ∷ rest → (left : List (List ℕ)) × (replies_to d lines ≡ reply_of (line_step d line) ∷ left)
-reply_is_next d lines line rest cut = (map reply_of (if is_end (line_step d line).outcome then [] else steps_of (line_step d line).desk rest), rw cut refl)
+pub reply_is_next : (d : Session) (lines : List (List ℕ)) (line : List ℕ) (rest : List (List ℕ)) → lines ≡ line ∷ rest → (left : List (List ℕ)) × (replies_to d lines ≡ reply_of (line_step d line) ∷ left)
+reply_is_next d lines line rest cut = (map reply_of (if is_end (line_step d line).outcome then [] else steps_of (line_step d line).session rest), rw cut refl)
 
 -- what was refused so far, and what is refused from here on
 pub refused_more : (so_far : Bool) (one : Bool) (later later' all : Bool) → (so_far || later) ≡ all → later ≡ (one || later') → ((so_far || one) || later') ≡ all

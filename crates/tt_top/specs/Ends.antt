@@ -1,39 +1,44 @@
--- How the phases of a run end. This serves the proof of the top call alone: no clause of it cites these words.
-use Rattle.std.specs.Prelude.{◌≡◌, ◌<◌, ◌≤◌, ℕ, Bool, List, length, ◌⊎◌, Option, Result, Ok, Err, IsOk, if◌then◌else◌}
+-- Proofs alone need it. How the phases of a run end, and what each of them leaves.
+use Rattle.std.specs.Prelude.{◌≡◌, ◌≢◌, ◌≤◌, ◌<◌, ◌⊎◌, ℕ, Bool, true, false, ⊤, IsTrue, IsSome, List, [], length, take, codes, None, Option, unwrap_or, Result, Ok, Err, if◌then◌else◌}
 use Rattle.std.specs.List.{concat}
 use Rattle.tt_io.specs.Causes.{Writes, one_more}
 use Rattle.tt_io.specs.Whole.{WritesFront}
-use Rattle.tt_script.specs.Forms.{IsSectionLine}
 use Rattle.tt_problem.specs.declared.parts.Parts.{Parts}
-use Rattle.tt_state.specs.History.{Desk, desk_of}
-use Rattle.tt_fields.specs.Answer.{Fault}
-use Rattle.tt_read.specs.Tables.{problem_of}
+use Rattle.tt_desk.specs.Chain.{◌>>=◌}
+use Rattle.tt_desk.specs.Script.{lines_of}
+use Rattle.tt_desk.specs.Desk.{Session, opening_desk}
+use Rattle.tt_desk.specs.Replies.{replies_to, refuses}
 use Rattle.tt_top.specs.declared.end.End.{End}
 use Rattle.tt_top.specs.declared.end.End.TheVariants.{Files, Sink, Memory, TooLong}
 use Rattle.tt_top.specs.declared.end.Done.{Done}
-use Rattle.tt_top.specs.declared.end.Done.TheVariants.{Served, Fault as ProblemFault}
-use Rattle.tt_top.specs.declared.script.Line.{Line}
-use Rattle.tt_top.specs.declared.script.Line.TheVariants.{Empty, Bad, Good}
-use Rattle.tt_top.specs.declared.top.Loaded.{Loaded}
-use Rattle.tt_top.specs.declared.top.Loaded.TheVariants as loads
-use Rattle.tt_top.specs.declared.top.Opened.{Opened}
-use Rattle.tt_top.specs.declared.top.Opened.TheVariants as opens
-use Rattle.tt_top.specs.Script.{lines_of, line_of, line_words}
-use Rattle.tt_top.specs.Desk.{carried_out, opening_desk}
-use Rattle.tt_top.specs.Transcript.{first_line, replies_to, refuses}
-use Rattle.tt_top.specs.Run.{WritesFirst}
+use Rattle.tt_top.specs.declared.end.Done.TheVariants.{Served, Refused, Made}
+use Rattle.tt_top.specs.declared.end.Input.{Input}
+use Rattle.tt_top.specs.declared.end.Input.TheVariants.{Problem, Published}
+use Rattle.tt_top.specs.declared.end.InputFault.{InputFault}
+use Rattle.tt_top.specs.Words.{FileWords, first_words}
+use Rattle.tt_top.specs.Transcript.{Bytes, RefusedFile, Transcript, fault_line, published_in, opened, first_line, text_of}
+use Rattle.tt_top.specs.Run.{WritesFirst, AsksAll, TellFirst, is_long, opens_published, opens_script, due_status}
 
--- ---- lines
+-- ---- files that are refused
 
--- the command isn't refused
-abbrev pub IsAccepted : Desk → Line → Type 0
-IsAccepted d Empty = ⊥
-IsAccepted d Bad = ⊥
-IsAccepted d (Good command) = IsOk (carried_out d command)
+-- the name of a file in the line on its fault
+abbrev pub input_name : Input → List ℕ
+input_name Problem = codes "problem"
+input_name Published = codes "published"
 
--- A line takes memory only to read the classes of a `section` line, or where it isn't refused.
-unfoldable pub IsMemoryCause : Desk → List ℕ → Type 0
-IsMemoryCause d line = IsSectionLine (line_words line) ⊎ IsAccepted d (line_of line)
+-- the status of a run whose file is refused
+abbrev pub input_status : Input → ℕ
+input_status Problem = 3
+input_status Published = 4
+
+-- the line and the status of a fault
+abbrev pub refused_file : InputFault → RefusedFile
+refused_file f = record { line = fault_line (input_name f.input) (record { number = f.number; path = f.path }); status = input_status f.input }
+
+-- what a file gives, or its line and status
+abbrev pub seen : {A : Type 0} → Result A InputFault → Result A RefusedFile
+seen (Ok x) = Ok x
+seen (Err f) = Err (refused_file f)
 
 -- ---- statuses
 
@@ -45,7 +50,8 @@ end_status TooLong = 8
 
 abbrev pub done_status : Done → ℕ
 done_status (Served refused) = if refused then 1 else 0
-done_status ProblemFault = 3
+done_status (Refused input) = input_status input
+done_status Made = 0
 
 -- the status of a run, by how it ended
 abbrev pub status_of : Result Done End → ℕ
@@ -61,30 +67,90 @@ pub record HasEndCause {T : Type 0} (which : End) (before now : ℕ) (result : R
 
 -- ---- what each phase leaves
 
--- the problem that was loaded, or its fault
-abbrev pub loaded : Loaded → Result Parts Fault
-loaded (loads.Problem parts) = Ok parts
-loaded (loads.Fault number path) = Err (record { number = number; path = path })
+-- the words of the files before the script
+abbrev pub front_words : List ℕ → Option (List ℕ) → FileWords
+front_words problem published = record { problem = problem; published = published; script = None }
 
--- the desk is open where the problem has no fault
-abbrev pub IsOpened : Result Parts Fault → Opened → Type 0
-IsOpened (Ok parts) (opens.Desk state) = desk_of state ≡ opening_desk parts
-IsOpened (Ok parts) opens.Fault = ⊥
-IsOpened (Err fault) (opens.Desk state) = ⊥
-IsOpened (Err fault) opens.Fault = Unit {0}
+-- the session of this problem, with what the published file gives
+abbrev pub rest_of : Parts → Option (List ℕ) → Result Session RefusedFile
+rest_of p o = do
+  t ← published_in p o
+  Ok (record { desk = opening_desk p; published = t })
 
--- What reading the problem and writing the first line leave, for these bytes of the problem.
-abbrev pub Opens : ℕ → Option (List ℕ) → Option (List ℕ) → List ℕ → Result Opened End → Type 0
-Opens limit before now p (Ok opened) = (length p ≤ limit) × IsOpened (problem_of p) opened × Writes before now (first_line (problem_of p))
-Opens limit before now p (Err Files) = now ≡ before
-Opens limit before now p (Err Sink) = (length p ≤ limit) × WritesFront before now (first_line (problem_of p))
-Opens limit before now p (Err Memory) = now ≡ before
-Opens limit before now p (Err TooLong) = (limit < length p) × (now ≡ before)
+-- The script can be opened where there is a session; else the run ends with the status of the fault.
+abbrev pub IsFit : ℕ → Bytes → Result Session InputFault → Type 0
+IsFit limit b (Ok s) = opens_script limit b ≡ true
+IsFit limit b (Err f) = due_status limit b ≡ input_status f.input
 
--- What serving a script leaves, for these bytes of it.
-abbrev pub Serves : ℕ → Option (List ℕ) → Option (List ℕ) → Desk → List ℕ → Result Bool End → Type 0
-Serves limit before now d s (Ok refused) = (length s ≤ limit) × (refused ≡ refuses d (lines_of s)) × Writes before now (concat (replies_to d (lines_of s)))
+-- What reading the files before the script gives, for these bytes of them.
+abbrev pub Begins : ℕ → Bytes → Result (Result Session InputFault) End → Type 0
+Begins limit b (Ok l) = (opened b.problem b.published ≡ seen l) × IsFit limit b l
+Begins limit b (Err Files) = ⊤
+Begins limit b (Err Sink) = ⊥
+Begins limit b (Err Memory) = ⊤
+Begins limit b (Err TooLong) = due_status limit b ≡ 8
+
+-- What reading them and writing the first line leave.
+abbrev pub Opens : ℕ → Option (List ℕ) → Option (List ℕ) → Bytes → Result (Result Session InputFault) End → Type 0
+Opens limit before now b (Ok l) = (opened b.problem b.published ≡ seen l) × IsFit limit b l × Writes before now (first_line (seen l))
+Opens limit before now b (Err Files) = now ≡ before
+Opens limit before now b (Err Sink) = WritesFront before now (first_line (opened b.problem b.published))
+Opens limit before now b (Err Memory) = now ≡ before
+Opens limit before now b (Err TooLong) = (due_status limit b ≡ 8) × (now ≡ before)
+
+-- how many of the words of these files were asked for
+abbrev pub IsRefusedAt : FileWords → ℕ → Input → Type 0
+IsRefusedAt words count Problem = count ≡ 1
+IsRefusedAt words count Published = IsSome words.published × (count ≡ 2)
+
+abbrev pub IsAsked : FileWords → ℕ → Result (Result Session InputFault) End → Type 0
+IsAsked words count (Ok (Ok s)) = count ≡ length (first_words words)
+IsAsked words count (Ok (Err f)) = IsRefusedAt words count f.input
+IsAsked words count (Err end) = ⊤
+
+-- The names asked for before the script are the first of these words.
+pub record AsksFirst (words : FileWords) (limit : ℕ) (holds : List ℕ → Option (List ℕ)) (before now : Option (List (List ℕ))) (result : Result (Result Session InputFault) End) : Type 0 where
+  pub count : ℕ
+  pub asked : AsksAll before now (take count (first_words words))
+  pub few : count ≤ length (first_words words)
+  pub some : 1 ≤ count
+  pub later : (b : Bytes) → TellFirst holds words limit b → 1 < count → IsTrue (opens_published limit b)
+  pub each : IsAsked words count result
+
+-- What serving a script leaves, for these bytes of it, or none.
+abbrev pub Serves : ℕ → Option (List ℕ) → Option (List ℕ) → Session → Option (List ℕ) → Result Bool End → Type 0
+Serves limit before now d s (Ok refused) = (is_long limit s ≡ false) × (refused ≡ refuses d (lines_of (unwrap_or s []))) × Writes before now (concat (replies_to d (lines_of (unwrap_or s []))))
 Serves limit before now d s (Err Files) = now ≡ before
-Serves limit before now d s (Err Sink) = WritesFront before now (concat (replies_to d (lines_of s)))
-Serves limit before now d s (Err Memory) = WritesFirst before now (replies_to d (lines_of s))
-Serves limit before now d s (Err TooLong) = (limit < length s) × (now ≡ before)
+Serves limit before now d s (Err Sink) = WritesFront before now (concat (replies_to d (lines_of (unwrap_or s []))))
+Serves limit before now d s (Err Memory) = WritesFirst before now (replies_to d (lines_of (unwrap_or s [])))
+Serves limit before now d s (Err TooLong) = (is_long limit s ≡ true) × (now ≡ before)
+
+-- What making a problem and writing its first line leave, where the text gives this.
+abbrev pub OpensMade : Option (List ℕ) → Option (List ℕ) → Result Session RefusedFile → Result (Result Session InputFault) End → Type 0
+OpensMade before now o (Ok l) = (o ≡ seen l) × Writes before now (first_line (seen l))
+OpensMade before now o (Err Files) = ⊥
+OpensMade before now o (Err Sink) = WritesFront before now (first_line o)
+OpensMade before now o (Err Memory) = now ≡ before
+OpensMade before now o (Err TooLong) = ⊥
+
+-- What serving the lines of a text leaves.
+abbrev pub ServesLines : Option (List ℕ) → Option (List ℕ) → Session → List ℕ → Result Bool End → Type 0
+ServesLines before now d text (Ok refused) = (refused ≡ refuses d (lines_of text)) × Writes before now (concat (replies_to d (lines_of text)))
+ServesLines before now d text (Err Files) = ⊥
+ServesLines before now d text (Err Sink) = WritesFront before now (concat (replies_to d (lines_of text)))
+ServesLines before now d text (Err Memory) = WritesFirst before now (replies_to d (lines_of text))
+ServesLines before now d text (Err TooLong) = ⊥
+
+-- What a run writes that asks for no file, where this is its transcript.
+pub record WritesPlain (t : Transcript) (before now : Option (List ℕ)) (status : ℕ) : Type 0 where
+  pub whole : status ≤ 4 → Writes before now (text_of t)
+  pub pieces : status ≢ 6 → WritesFirst before now t.pieces
+  pub front : WritesFront before now (text_of t)
+  pub statuses : (status ≡ t.status) ⊎ ((status ≡ 6) ⊎ (status ≡ 7))
+  pub no_files : status ≢ 5
+
+-- The same, with the count of failed calls on the output.
+pub record EndsPlain (t : Transcript) (before now : Option (List ℕ)) (faults faults_now : ℕ) (status : ℕ) : Type 0 where
+  pub writes : WritesPlain t before now status
+  pub rose : status ≡ 6 → faults_now ≡ one_more faults
+  pub same : status ≢ 6 → faults_now ≡ faults

@@ -1,6 +1,5 @@
-pub mod Script
-pub mod Refusals
-pub mod Desk
+pub mod Words
 pub mod Transcript
 pub mod Run
 pub mod Ends
+pub mod Asked

@@ -1,10 +1,11 @@
 -- The clauses of the top call.
-use Rattle.std.specs.Prelude.{◌≡◌, ◌≢◌, ◌≤◌, ◌&&◌, ℕ, Bool, List, [], ◌++◌, ◌⊎◌, ⊤, IsTrue, take, length, nat_lt, nat_le, is_ok, if◌then◌else◌, None, Some, Option}
+use Rattle.std.specs.Prelude.{◌≡◌, ◌≢◌, ◌≤◌, ◌<◌, ◌&&◌, ℕ, Bool, false, List, [], ◌∷◌, ◌++◌, ◌⊎◌, ⊤, IsTrue, IsSome, take, length, nat_lt, is_ok, if◌then◌else◌, None, Some, Option, not}
 use Rattle.std.specs.List.{concat}
 use Rattle.tt_io.specs.Causes.{Writes, one_more}
 use Rattle.tt_io.specs.Whole.{WritesFront, WritesPast}
 use Rattle.tt_read.specs.Tables.{problem_of}
-use Rattle.tt_top.specs.Transcript.{Form, file_words, transcript, text_of, first_line, usage_line}
+use Rattle.tt_top.specs.Words.{FileWords, Form, Files, Demo, Make, first_words, file_words, usage_line}
+use Rattle.tt_top.specs.Transcript.{Bytes, Transcript, opened, transcript, demo_transcript, make_transcript, text_of, first_line}
 
 -- the most bytes of a file
 abbrev pub file_limit : ℕ
@@ -24,46 +25,69 @@ pub record Outside : Type 0 where
   pub before : Moment
   pub now : Moment
 
--- The script is opened only where the problem is within the limit and has no fault.
-abbrev pub opens_script : ℕ → List ℕ → Bool
-opens_script limit problem = nat_le (length problem) limit && is_ok (problem_of problem)
+-- ---- what is told
 
--- The script is told, and it is empty where the form has none.
-abbrev pub IsScript : (List ℕ → Option (List ℕ)) → Option (List ℕ) → List ℕ → Type 0
-IsScript holds None script = script ≡ []
-IsScript holds (Some name) script = holds name ≡ Some script
+-- there is a file, and it has more bytes than the limit
+abbrev pub is_long : ℕ → Option (List ℕ) → Bool
+is_long limit None = false
+is_long limit (Some bytes) = nat_lt limit (length bytes)
 
--- The files tell these bytes: the problem, and the script where it is opened at all.
-pub record Told (holds : List ℕ → Option (List ℕ)) (form : Form) (limit : ℕ) (problem script : List ℕ) : Type 0 where
-  pub problem_bytes : holds form.problem ≡ Some problem
-  pub script_bytes : IsTrue (opens_script limit problem) → IsScript holds form.script script
+-- The published file is opened only where the problem is within the limit and has no fault.
+abbrev pub opens_published : ℕ → Bytes → Bool
+opens_published limit b = not (is_long limit (Some b.problem)) && is_ok (problem_of b.problem)
+
+-- The script is opened only where the same holds of the published file too, if there is one.
+abbrev pub opens_script : ℕ → Bytes → Bool
+opens_script limit b = opens_published limit b && not (is_long limit b.published) && is_ok (opened b.problem b.published)
+
+-- A word names a file that is told to hold these bytes; without the word there are none.
+abbrev pub IsTold : (List ℕ → Option (List ℕ)) → (word bytes : Option (List ℕ)) → Type 0
+IsTold holds None None = ⊤
+IsTold holds None (Some bytes) = ⊥
+IsTold holds (Some word) None = ⊥
+IsTold holds (Some word) (Some bytes) = holds word ≡ Some bytes
+
+-- The files tell the bytes that the first line depends on: the problem, and the published timetable where it is opened at all.
+pub record TellFirst (holds : List ℕ → Option (List ℕ)) (words : FileWords) (limit : ℕ) (b : Bytes) : Type 0 where
+  pub problem : holds words.problem ≡ Some b.problem
+  pub published : IsTrue (opens_published limit b) → IsTold holds words.published b.published
+
+-- The files tell these bytes: those, and the script where it is opened at all.
+pub record Tell (holds : List ℕ → Option (List ℕ)) (words : FileWords) (limit : ℕ) (b : Bytes) : Type 0 where
+  pub begins : TellFirst holds words limit b
+  pub script : IsTrue (opens_script limit b) → IsTold holds words.script b.script
+
+-- ---- the clauses of a run with files
 
 -- the status of a run that neither a failed call nor want of memory ends
-abbrev pub due_status : ℕ → List ℕ → List ℕ → ℕ
-due_status limit problem script =
-    if nat_lt limit (length problem) then 8
-    else (if opens_script limit problem && nat_lt limit (length script) then 8 else (transcript problem script).status)
+abbrev pub due_status : ℕ → Bytes → ℕ
+due_status limit b =
+    if is_long limit (Some b.problem) then 8
+    else if opens_published limit b && is_long limit b.published then 8
+    else if opens_script limit b && is_long limit b.script then 8
+    else (transcript b).status
 
 -- Where the bytes written are told after a call, they were told before, and grew by the first of these pieces, each whole.
 abbrev pub WritesFirst : Option (List ℕ) → Option (List ℕ) → List (List ℕ) → Type 0
 WritesFirst before now pieces = (count : ℕ) × Writes before now (concat (take count pieces))
 
 -- What is written is the transcript, or a front of it.
-pub record IsTranscript (form : Form) (limit : ℕ) (o : Outside) (status : ℕ) : Type 0 where
-  pub whole : (p s : List ℕ) → Told o.holds form limit p s → status ≤ 4 → Writes o.before.written o.now.written (text_of (transcript p s))
+pub record IsTranscript (words : FileWords) (limit : ℕ) (o : Outside) (status : ℕ) : Type 0 where
+  pub whole : (b : Bytes) → Tell o.holds words limit b → status ≤ 4 → Writes o.before.written o.now.written (text_of (transcript b))
   -- but for a failed write, the first line and the replies are each written whole or not at all
-  pub pieces : (p s : List ℕ) → Told o.holds form limit p s → status ≢ 6 → WritesFirst o.before.written o.now.written (transcript p s).pieces
-  pub front : (p s : List ℕ) → Told o.holds form limit p s → WritesFront o.before.written o.now.written (text_of (transcript p s))
+  pub pieces : (b : Bytes) → Tell o.holds words limit b → status ≢ 6 → WritesFirst o.before.written o.now.written (transcript b).pieces
+  pub front : (b : Bytes) → Tell o.holds words limit b → WritesFront o.before.written o.now.written (text_of (transcript b))
   -- the same of the first line, where the script isn't told
-  pub first : (p : List ℕ) → o.holds form.problem ≡ Some p → status ≢ 6 → Writes o.before.written o.now.written [] ⊎ WritesPast o.before.written o.now.written (first_line (problem_of p))
+  pub first : (b : Bytes) → TellFirst o.holds words limit b → status ≢ 6
+      → Writes o.before.written o.now.written [] ⊎ WritesPast o.before.written o.now.written (first_line (opened b.problem b.published))
 
 -- A status of 0 to 4, or 8, is the one that is due.
-pub record IsDue (form : Form) (limit : ℕ) (o : Outside) (status : ℕ) : Type 0 where
-  pub due : (p s : List ℕ) → Told o.holds form limit p s → (status ≤ 4) ⊎ (status ≡ 8) → status ≡ due_status limit p s
+pub record IsDue (words : FileWords) (limit : ℕ) (o : Outside) (status : ℕ) : Type 0 where
+  pub due : (b : Bytes) → Tell o.holds words limit b → (status ≤ 4) ⊎ (status ≡ 8) → status ≡ due_status limit b
 
 -- Where no count rose, the status is the one that is due, or says that memory is wanting.
-pub record IsComplete (form : Form) (limit : ℕ) (o : Outside) (status : ℕ) : Type 0 where
-  pub complete : (p s : List ℕ) → Told o.holds form limit p s → o.now.files ≢ one_more o.before.files → o.now.sink ≢ one_more o.before.sink → (status ≡ due_status limit p s) ⊎ (status ≡ 7)
+pub record IsComplete (words : FileWords) (limit : ℕ) (o : Outside) (status : ℕ) : Type 0 where
+  pub complete : (b : Bytes) → Tell o.holds words limit b → o.now.files ≢ one_more o.before.files → o.now.sink ≢ one_more o.before.sink → (status ≡ due_status limit b) ⊎ (status ≡ 7)
 
 -- The first call that fails ends the run, with 5 or 6, and nothing else ends it so.
 pub record HasCauses (o : Outside) (status : ℕ) : Type 0 where
@@ -72,43 +96,64 @@ pub record HasCauses (o : Outside) (status : ℕ) : Type 0 where
   pub files_same : status ≢ 5 → o.now.files ≡ o.before.files
   pub sink_same : status ≢ 6 → o.now.sink ≡ o.before.sink
 
--- Where the names asked for are told, they were told before, and grew by the first of these.
-abbrev pub AsksFirst : ℕ → Option (List (List ℕ)) → Option (List (List ℕ)) → List (List ℕ) → Type 0
-AsksFirst count before None names = ⊤
-AsksFirst count None (Some now) names = ⊥
-AsksFirst count (Some before) (Some now) names = now ≡ before ++ take count names
+-- Where the names asked for are told, they were told before, and grew by these.
+abbrev pub AsksAll : Option (List (List ℕ)) → Option (List (List ℕ)) → List (List ℕ) → Type 0
+AsksAll before None names = ⊤
+AsksAll None (Some now) names = ⊥
+AsksAll (Some before) (Some now) names = now ≡ before ++ names
 
 -- The names asked for are the first of the file words.
-pub record AsksInOrder (form : Form) (limit : ℕ) (o : Outside) (status : ℕ) : Type 0 where
+pub record AsksInOrder (words : FileWords) (limit : ℕ) (o : Outside) (status : ℕ) : Type 0 where
   pub count : ℕ
-  pub asked : AsksFirst count o.before.asked o.now.asked (file_words form)
-  pub few : count ≤ length (file_words form)
+  pub asked : AsksAll o.before.asked o.now.asked (take count (file_words words))
+  pub few : count ≤ length (file_words words)
   pub some : status ≢ 7 → 1 ≤ count
-  pub all : status ≤ 1 → count ≡ length (file_words form)
-  pub refused : status ≡ 3 → count ≡ 1
-  -- the script is asked for only after the opening line of a problem without a fault
-  pub later : (p : List ℕ) → o.holds form.problem ≡ Some p → count ≡ 2 → IsTrue (opens_script limit p)
-  pub opened : (p : List ℕ) → o.holds form.problem ≡ Some p → count ≡ 2 → WritesPast o.before.written o.now.written (first_line (problem_of p))
+  pub all : status ≤ 1 → count ≡ length (file_words words)
+  pub refused_problem : status ≡ 3 → count ≡ 1
+  pub refused_published : status ≡ 4 → IsSome words.published × (count ≡ 2)
+  -- a name after the first is asked for only where the problem has no fault
+  pub later : (b : Bytes) → TellFirst o.holds words limit b → 1 < count → IsTrue (opens_published limit b)
+  -- the script is asked for only where no file before it has a fault, and after the opening line
+  pub last : (b : Bytes) → TellFirst o.holds words limit b → length (first_words words) < count → IsTrue (opens_script limit b)
+  pub after_line : (b : Bytes) → TellFirst o.holds words limit b → length (first_words words) < count
+      → WritesPast o.before.written o.now.written (first_line (opened b.problem b.published))
 
--- the statuses that words of a form can have
+-- the statuses that a run with files can have
 pub record IsStatus (status : ℕ) : Type 0 where
   pub at_most : status ≤ 8
   pub no_usage : status ≢ 2
-  pub no_published : status ≢ 4
 
--- What a run does whose words have this form, where a file has at most so many bytes.
-pub record IsRun (form : Form) (limit : ℕ) (o : Outside) (status : ℕ) : Type 0 where
-  pub transcript : IsTranscript form limit o status
-  pub due : IsDue form limit o status
-  pub complete : IsComplete form limit o status
+-- What a run with files does, where a file has at most so many bytes.
+pub record IsFileRun (words : FileWords) (limit : ℕ) (o : Outside) (status : ℕ) : Type 0 where
+  pub transcript : IsTranscript words limit o status
+  pub due : IsDue words limit o status
+  pub complete : IsComplete words limit o status
   pub causes : HasCauses o status
-  pub names : AsksInOrder form limit o status
+  pub names : AsksInOrder words limit o status
   pub statuses : IsStatus status
 
--- Words of no form give the usage line, and no file is asked for.
-pub record IsUsage (o : Outside) (status : ℕ) : Type 0 where
-  pub whole : status ≡ 2 → Writes o.before.written o.now.written usage_line
-  pub front : WritesFront o.before.written o.now.written usage_line
-  pub statuses : (status ≡ 2) ⊎ (status ≡ 6)
+-- ---- the clauses of a run without files
+
+-- What a run does that asks for no file, where this is its transcript.
+pub record IsPlainRun (t : Transcript) (o : Outside) (status : ℕ) : Type 0 where
+  pub whole : status ≤ 4 → Writes o.before.written o.now.written (text_of t)
+  pub pieces : status ≢ 6 → WritesFirst o.before.written o.now.written t.pieces
+  pub front : WritesFront o.before.written o.now.written (text_of t)
+  -- the status is that of the transcript, or says that a write failed or memory is wanting
+  pub statuses : (status ≡ t.status) ⊎ ((status ≡ 6) ⊎ (status ≡ 7))
   pub causes : HasCauses o status
   pub asks : o.now.asked ≡ o.before.asked
+
+-- Words of no form give the usage line, for which no memory is wanted.
+pub record IsUsage (o : Outside) (status : ℕ) : Type 0 where
+  pub plain : IsPlainRun (record { pieces = usage_line ∷ []; status = 2 }) o status
+  pub no_memory : status ≢ 7
+
+-- ---- all forms
+
+-- What a run does whose words have this form, or none.
+abbrev pub IsRun : Option Form → ℕ → Outside → ℕ → Type 0
+IsRun (Some (Files words)) limit o status = IsFileRun words limit o status
+IsRun (Some (Demo seed classes turns)) limit o status = IsPlainRun (demo_transcript seed classes turns) o status
+IsRun (Some (Make seed classes)) limit o status = IsPlainRun (make_transcript seed classes) o status
+IsRun None limit o status = IsUsage o status

@@ -1,135 +1,102 @@
 -- The whole text and the status of a run, from the bytes of its files.
-use Rattle.std.specs.Prelude.{ℕ, Bool, true, false, List, [], ◌∷◌, ◌++◌, length, map, if◌then◌else◌, None, Some, Option, option_to_list, Result, Ok, Err, codes, decimal, bytes_eq}
-use Rattle.std.specs.List.{concat, list_any}
+use Rattle.std.specs.Prelude.{ℕ, List, [], ◌∷◌, ◌++◌, length, if◌then◌else◌, None, Some, Option, unwrap_or, Result, Ok, Err, codes}
+use Rattle.std.specs.List.{concat}
 use Rattle.tt_problem.specs.declared.parts.Parts.{Parts}
-use Rattle.tt_score.specs.declared.totals.Totals.{Totals}
-use Rattle.tt_score.specs.Totals.{totals_of}
-use Rattle.tt_state.specs.History.{Desk}
 use Rattle.tt_fields.specs.Answer.{Fault}
 use Rattle.tt_read.specs.Tables.{problem_of}
-use Rattle.tt_top.specs.declared.refusal.Outcome.{Outcome}
-use Rattle.tt_top.specs.declared.refusal.Outcome.TheVariants.{Skipped, Accepted, Refused, Ended}
-use Rattle.tt_top.specs.Refusals.{refusal_line}
-use Rattle.tt_top.specs.Script.{lines_of}
-use Rattle.tt_top.specs.Desk.{Step, line_step, opening_desk}
+use Rattle.tt_solution.specs.Timetable.{Timetable}
+use Rattle.tt_solution.specs.Tables.{published_of}
+use Rattle.tt_make.specs.Text.{make_text}
+use Rattle.tt_desk.specs.Fields.{field}
+use Rattle.tt_desk.specs.Chain.{◌>>=◌}
+use Rattle.tt_desk.specs.Script.{lines_of}
+use Rattle.tt_desk.specs.Desk.{Session, opening_desk}
+use Rattle.tt_desk.specs.Replies.{replies_to, refuses}
 
--- ---- replies
+-- ---- the session that the files open
 
--- the line of totals, while nothing is published
-abbrev pub totals_line : Totals → List ℕ
-totals_line t =
-    codes "ok time " ++ decimal t.time
-    ++ codes " room " ++ decimal t.room
-    ++ codes " distribution " ++ decimal t.distribution
-    ++ codes " student " ++ decimal t.student
-    ++ codes " total " ++ decimal t.total
-    ++ codes " hard " ++ decimal t.hard
-    ++ codes " unplaced " ++ decimal t.unplaced
-    ++ codes " unsectioned " ++ decimal t.unsectioned
-    ++ codes " moved -\n"
+-- what the files of a run hold: the problem, and the published timetable and the script where there are such files
+pub record Bytes : Type 0 where
+  pub problem : List ℕ
+  pub published : Option (List ℕ)
+  pub script : Option (List ℕ)
 
--- the totals of the present snapshot
-abbrev pub present_totals : Desk → Totals
-present_totals d = totals_of d.problem d.present.plan d.present.lists
+-- a file that is refused: the line that says so, and the status of the run
+pub record RefusedFile : Type 0 where
+  pub line : List ℕ
+  pub status : ℕ
 
--- an accepted command writes the line of totals, a refused one why it is refused; a skipped line and `quit` write nothing
-abbrev pub reply_to : Desk → Outcome → List ℕ
-reply_to d Skipped = []
-reply_to d Accepted = totals_line (present_totals d)
-reply_to d (Refused r) = refusal_line r
-reply_to d Ended = []
+-- the line on a fault of a file
+abbrev pub fault_line : List ℕ → Fault → List ℕ
+fault_line file f = file ++ field (codes " refused ") f.number ++ codes " " ++ f.path ++ codes "\n"
 
--- the reply to a line
-abbrev pub reply_of : Step → List ℕ
-reply_of step = reply_to step.desk step.outcome
+-- what the problem file gives
+abbrev pub problem_read : Result Parts Fault → Result Parts RefusedFile
+problem_read (Ok p) = Ok p
+problem_read (Err f) = Err (record { line = fault_line (codes "problem") f; status = 3 })
 
-abbrev pub is_refused : Outcome → Bool
-is_refused Skipped = false
-is_refused Accepted = false
-is_refused (Refused r) = true
-is_refused Ended = false
+-- what the published file gives
+abbrev pub published_read : Result Timetable Fault → Result (Option Timetable) RefusedFile
+published_read (Ok t) = Ok (Some t)
+published_read (Err f) = Err (record { line = fault_line (codes "published") f; status = 4 })
 
-abbrev pub is_end : Outcome → Bool
-is_end Skipped = false
-is_end Accepted = false
-is_end (Refused r) = false
-is_end Ended = true
+-- nothing is published where there is no such file
+abbrev pub published_in : Parts → Option (List ℕ) → Result (Option Timetable) RefusedFile
+published_in p None = Ok None
+published_in p (Some bytes) = published_read (published_of p bytes)
 
--- a step and those after it, which are none where it ends the script
-abbrev pub with_later : Step → List Step → List Step
-with_later step later = step ∷ (if is_end step.outcome then [] else later)
-
--- what the lines do, one after another, up to `quit` or the last one
-abbrev pub steps_of : Desk → List (List ℕ) → List Step
-steps_of d [] = []
-steps_of d (line ∷ lines) = with_later (line_step d line) (steps_of (line_step d line).desk lines)
-
--- a reply for each of these lines
-abbrev pub replies_to : Desk → List (List ℕ) → List (List ℕ)
-replies_to d lines = map reply_of (steps_of d lines)
-
--- whether one of these lines is refused
-abbrev pub refuses : Desk → List (List ℕ) → Bool
-refuses d lines = list_any (λ step. is_refused step.outcome) (steps_of d lines)
+-- the session with which the script begins, or the first file that is refused
+unfoldable pub opened : (problem : List ℕ) → (published : Option (List ℕ)) → Result Session RefusedFile
+opened problem published = do
+  p ← problem_read (problem_of problem)
+  t ← published_in p published
+  Ok (record { desk = opening_desk p; published = t })
 
 -- ---- the transcript
 
 -- the numbers of classes, rooms, distributions and students
 abbrev pub opening_line : Parts → List ℕ
 opening_line p =
-    codes "open " ++ decimal (length p.classes)
-    ++ codes " " ++ decimal (length p.rooms)
-    ++ codes " " ++ decimal (length p.rules)
-    ++ codes " " ++ decimal (length p.students)
+    field (codes "open ") (length p.classes)
+    ++ field (codes " ") (length p.rooms)
+    ++ field (codes " ") (length p.rules)
+    ++ field (codes " ") (length p.students)
     ++ codes "\n"
 
--- the line on a fault of the problem
-abbrev pub problem_line : Fault → List ℕ
-problem_line f = codes "problem refused " ++ decimal f.number ++ codes " " ++ f.path ++ codes "\n"
-
 -- the first line, which is written before the script is opened
-abbrev pub first_line : Result Parts Fault → List ℕ
-first_line (Err f) = problem_line f
-first_line (Ok p) = opening_line p
+abbrev pub first_line : Result Session RefusedFile → List ℕ
+first_line (Err refused) = refused.line
+first_line (Ok s) = opening_line s.desk.problem
 
 -- what is written, piece by piece, and the status
 pub record Transcript : Type 0 where
   pub pieces : List (List ℕ)
   pub status : ℕ
 
--- the first line and the replies; the status is 1 where a reply is a refusal
-abbrev pub transcript_from : Result Parts Fault → List ℕ → Transcript
-transcript_from (Err f) script = record { pieces = problem_line f ∷ []; status = 3 }
-transcript_from (Ok p) script = record {
-  pieces = opening_line p ∷ replies_to (opening_desk p) (lines_of script);
-  status = if refuses (opening_desk p) (lines_of script) then 1 else 0;
+-- the first line and the replies to the script; the status is 1 where a reply is a refusal
+abbrev pub transcript_from : Result Session RefusedFile → (script : List ℕ) → Transcript
+transcript_from (Err refused) script = record { pieces = refused.line ∷ []; status = refused.status }
+transcript_from (Ok s) script = record {
+  pieces = opening_line s.desk.problem ∷ replies_to s (lines_of script);
+  status = if refuses s (lines_of script) then 1 else 0;
 }
 
--- the transcript for these bytes of the problem and the script
-abbrev pub transcript : List ℕ → List ℕ → Transcript
-transcript problem script = transcript_from (problem_of problem) script
+-- the transcript of a run with files of these bytes; without a script there are no replies
+abbrev pub transcript : Bytes → Transcript
+transcript b = transcript_from (opened b.problem b.published) (unwrap_or b.script [])
+
+-- the script of `demo`
+abbrev pub demo_script : (seed turns : ℕ) → List ℕ
+demo_script seed turns = field (codes "enrol all\nsearch ") turns ++ field (codes " ") seed ++ codes "\ntotals\nundo\nundo\n"
+
+-- the transcript of `demo`: the generated text is the problem
+abbrev pub demo_transcript : (seed classes turns : ℕ) → Transcript
+demo_transcript seed classes turns = transcript_from (opened (make_text seed classes) None) (demo_script seed turns)
+
+-- the transcript of `make`: the generated text and a line end
+abbrev pub make_transcript : (seed classes : ℕ) → Transcript
+make_transcript seed classes = record { pieces = (make_text seed classes ++ codes "\n") ∷ []; status = 0 }
 
 -- the whole text
 abbrev pub text_of : Transcript → List ℕ
 text_of t = concat t.pieces
-
--- ---- words
-
--- the file words of a form: the problem, and the script where the form has one
-pub record Form : Type 0 where
-  pub problem : List ℕ
-  pub script : Option (List ℕ)
-
--- the forms `check PROBLEM` and `run PROBLEM SCRIPT`
-abbrev pub form_of : List (List ℕ) → Option Form
-form_of (word ∷ problem ∷ []) = if bytes_eq word (codes "check") then Some (record { problem = problem; script = None }) else None
-form_of (word ∷ problem ∷ script ∷ []) = if bytes_eq word (codes "run") then Some (record { problem = problem; script = Some script }) else None
-form_of words = None
-
--- the file words in order
-abbrev pub file_words : Form → List (List ℕ)
-file_words form = form.problem ∷ option_to_list form.script
-
--- what is written for words in no form
-abbrev pub usage_line : List ℕ
-usage_line = codes "usage: uttab run PROBLEM SCRIPT [PUBLISHED] | check PROBLEM | demo SEED CLASSES TURNS | make SEED CLASSES\n"

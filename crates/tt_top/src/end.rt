@@ -2,6 +2,7 @@ ghost use Rattle.tt_top.specs.declared.end.End.TheVariants.{Memory as end_memory
 ghost use Rattle.std.specs.Prelude.{◌≡◌};
 
 use std::alloc::AllocError;
+use tt_fields::Path;
 
 /// Why a run ends early.
 #[derive(Clone, Copy, Debug, PartialEq, Eq)]
@@ -24,11 +25,33 @@ impl From<AllocError> for End {
     }
 }
 
+/// A file that is read for what it holds.
+#[derive(Clone, Copy, Debug, PartialEq, Eq)]
+pub enum Input {
+    /// The problem.
+    Problem,
+    /// The published timetable.
+    Published,
+}
+
+/// What is wrong with a file, by its number, and the path of the value that has the fault.
+#[derive(Drop)]
+pub struct InputFault {
+    pub input: Input,
+    pub number: u8,
+    pub path: Path,
+}
+
+/// What a file holds, or its fault.
+pub type Loaded<T> = Result<T, InputFault>;
+
 /// How a run is done that doesn't end early.
 #[derive(Clone, Copy, Debug, PartialEq, Eq)]
 pub enum Done {
     /// The script was read to its end or to `quit`; some line may have been refused.
     Served { refused: bool },
-    /// The problem has a fault, which was written.
-    Fault,
+    /// A file has a fault, which was written.
+    Refused(Input),
+    /// The text that was asked for was written.
+    Made,
 }

@@ -1,11 +1,12 @@
-//! The top call: words, files, desk and replies, and the theorem on what is written.
+//! The top call: words, files, the session and its replies, and the theorem on what is written.
 #![tactic(auto)]
 
-mod desk;
 mod end;
-mod refusal;
+mod file_run;
+mod form;
+mod load;
+mod plain_run;
 mod reply;
-mod script;
 mod serve;
 #[cfg(test)]
 mod tests;

@@ -2,31 +2,28 @@ ghost use Rattle.std.specs.Prelude.{◌≡◌, ◌≢◌, IfOk, OnOk, IfErr};
 ghost use Rattle.std.specs.List.{concat};
 ghost use Rattle.tt_io.specs.Causes.{Writes};
 ghost use Rattle.tt_io.specs.Whole.{WritesFront};
-ghost use Rattle.tt_state.specs.History.{desk_of};
-ghost use Rattle.tt_top.specs.Desk.{line_step};
-ghost use Rattle.tt_top.specs.Script.{lines_of};
-ghost use Rattle.tt_top.specs.Transcript.{is_refused, is_end, refuses, replies_to, reply_of};
+ghost use Rattle.tt_desk.specs.Desk.{line_step};
+ghost use Rattle.tt_desk.specs.Script.{lines_of};
+ghost use Rattle.tt_desk.specs.Replies.{is_refused, is_end, refuses, replies_to, reply_of};
+ghost use Rattle.tt_top.specs.Transcript.{first_line};
 ghost use Rattle.tt_top.specs.Run.{WritesFirst};
-ghost use Rattle.tt_top.specs.Ends.{HasEndCause};
+ghost use Rattle.tt_top.specs.Ends.{HasEndCause, seen};
 
-use crate::desk::answer;
-use crate::end::End;
-use crate::refusal::Outcome;
-use crate::reply::put_reply;
-use crate::script::next_line;
+use crate::end::{End, Loaded};
+use crate::reply::put_first;
 use std::alloc::Global;
+use tt_desk::{Outcome, Session, next_line};
 use tt_io::{Sink, write_whole};
-use tt_state::State;
 use tt_text::Reply;
 
 /// Hands a reply to the sink, whole.
-pub fn hand_on<S: Sink>(out: &mut S, reply: &Reply) -> Result<(), End>
+pub fn hand_on<S: Sink>(out: &mut S, reply: &[u8]) -> Result<(), End>
     ensures ok { OnOk result (Writes (S.written out.old) (S.written out.new) reply.now) }
     ensures front { WritesFront (S.written out.old) (S.written out.new) reply.now }
     ensures cause { HasEndCause End.Sink (S.faults out.old) (S.faults out.new) result }
     ensures only { IfErr result (λ end. end ≡ End.Sink) }
 {
-    match write_whole(out, reply.bytes()) {
+    match write_whole(out, reply) {
         Ok(()) => Ok(()),
         Err(_) => Err(End::Sink),
     }
@@ -36,23 +33,23 @@ pub fn hand_on<S: Sink>(out: &mut S, reply: &Reply) -> Result<(), End>
 /// here.
 pub fn serve_line<S: Sink>(
     alloc: Global,
-    state: &mut State,
+    session: &mut Session,
     line: &[u8],
     reply: &mut Reply,
     out: &mut S,
 ) -> Result<Outcome, End>
-    ensures step { IfOk result (λ outcome. line_step (desk_of state.old) line.now ≡ record { desk = desk_of state.new; outcome = outcome }) }
-    ensures written { OnOk result (Writes (S.written out.old) (S.written out.new) (reply_of (line_step (desk_of state.old) line.now))) }
+    ensures session { OnOk result ((line_step session.old line.now).session ≡ session.new) }
+    ensures outcome { IfOk result (λ outcome. (line_step session.old line.now).outcome ≡ outcome) }
+    ensures written { OnOk result (Writes (S.written out.old) (S.written out.new) (reply_of (line_step session.old line.now))) }
     ensures memory { result ≡ Err End.Memory → S.written out.new ≡ S.written out.old }
-    ensures front { result ≡ Err End.Sink → WritesFront (S.written out.old) (S.written out.new) (reply_of (line_step (desk_of state.old) line.now)) }
+    ensures front { result ≡ Err End.Sink → WritesFront (S.written out.old) (S.written out.new) (reply_of (line_step session.old line.now)) }
     ensures cause { HasEndCause End.Sink (S.faults out.old) (S.faults out.new) result }
     ensures no_files { result ≢ Err End.Files }
     ensures no_limit { result ≢ Err End.TooLong }
 {
-    let outcome = answer(alloc, state, line)?;
-    reply.clear();
-    put_reply(reply, state, outcome)?;
-    hand_on(out, reply)?;
+    let outcome = session.answer(alloc, line, reply)?;
+    session.finish_reply(reply, outcome)?;
+    hand_on(out, reply.bytes())?;
     Ok(outcome)
 }
 
@@ -71,14 +68,14 @@ fn is_end(outcome: Outcome) -> bool
 /// Answers the lines of a script up to `quit`, and says whether one of them is refused.
 pub fn serve_all<S: Sink>(
     alloc: Global,
-    state: &mut State,
+    session: &mut Session,
     script: &[u8],
     out: &mut S,
 ) -> Result<bool, End>
-    ensures refused { IfOk result (λ refused. refused ≡ refuses (desk_of state.old) (lines_of script.now)) }
-    ensures written { OnOk result (Writes (S.written out.old) (S.written out.new) (concat (replies_to (desk_of state.old) (lines_of script.now)))) }
-    ensures memory { result ≡ Err End.Memory → WritesFirst (S.written out.old) (S.written out.new) (replies_to (desk_of state.old) (lines_of script.now)) }
-    ensures front { result ≡ Err End.Sink → WritesFront (S.written out.old) (S.written out.new) (concat (replies_to (desk_of state.old) (lines_of script.now))) }
+    ensures refused { IfOk result (λ refused. refused ≡ refuses session.old (lines_of script.now)) }
+    ensures written { OnOk result (Writes (S.written out.old) (S.written out.new) (concat (replies_to session.old (lines_of script.now)))) }
+    ensures memory { result ≡ Err End.Memory → WritesFirst (S.written out.old) (S.written out.new) (replies_to session.old (lines_of script.now)) }
+    ensures front { result ≡ Err End.Sink → WritesFront (S.written out.old) (S.written out.new) (concat (replies_to session.old (lines_of script.now))) }
     ensures cause { HasEndCause End.Sink (S.faults out.old) (S.faults out.new) result }
     ensures no_files { result ≢ Err End.Files }
     ensures no_limit { result ≢ Err End.TooLong }
@@ -87,7 +84,7 @@ pub fn serve_all<S: Sink>(
     let mut refused = false;
     let mut rest = script;
     while let Some((line, after)) = next_line(rest) {
-        let outcome = serve_line(alloc, state, line, &mut reply, out)?;
+        let outcome = serve_line(alloc, session, line, &mut reply, out)?;
         refused |= is_refused(outcome);
         if is_end(outcome) {
             return Ok(refused);
@@ -95,4 +92,18 @@ pub fn serve_all<S: Sink>(
         rest = after;
     }
     Ok(refused)
+}
+
+/// Writes the first line: the opening line, or the line on the fault.
+pub fn write_first<S: Sink>(alloc: Global, loaded: &Loaded<Session>, out: &mut S) -> Result<(), End>
+    ensures written { OnOk result (Writes (S.written out.old) (S.written out.new) (first_line (seen loaded.now))) }
+    ensures memory { result ≡ Err End.Memory → S.written out.new ≡ S.written out.old }
+    ensures front { WritesFront (S.written out.old) (S.written out.new) (first_line (seen loaded.now)) }
+    ensures cause { HasEndCause End.Sink (S.faults out.old) (S.faults out.new) result }
+    ensures no_files { result ≢ Err End.Files }
+    ensures no_limit { result ≢ Err End.TooLong }
+{
+    let mut reply = Reply::new(alloc);
+    put_first(&mut reply, loaded)?;
+    hand_on(out, reply.bytes())
 }

@@ -7,16 +7,19 @@ use tt_io::{MemFiles, MemSink, SureFiles, SureSink};
 const ONE_CLASS: &str =
     "{\"nrDays\":1,\"nrWeeks\":1,\"slotsPerDay\":288,\"optimization\":{\"time\":2,\"room\":1,\"distribution\":1,\"student\":1},\"courses\":[{\"id\":1,\"configs\":[{\"id\":1,\"subparts\":[{\"id\":1,\"classes\":[{\"id\":1,\"room\":false,\"times\":[{\"days\":\"1\",\"start\":10,\"length\":4,\"weeks\":\"1\",\"penalty\":4}]}]}]}]}]}";
 
+const AT_ITS_TIME: &str =
+    "{\"classes\":[{\"days\":\"1\",\"id\":1,\"start\":10,\"students\":[],\"weeks\":\"1\"}]}";
+
 const USAGE: &str =
     "usage: uttab run PROBLEM SCRIPT [PUBLISHED] | check PROBLEM | demo SEED CLASSES TURNS | make SEED CLASSES\n";
 
 const OPENED: &str = "open 1 0 0 0\n";
 
 const PLACED: &str =
-    "open 1 0 0 0\nok time 4 room 0 distribution 0 student 0 total 8 hard 0 unplaced 0 unsectioned 0 moved -\n";
+    "open 1 0 0 0\nok time 4 room 0 distribution 0 student 0 total 8 hard 0 unplaced 0 unsectioned 0 moved 0\n";
 
 const PLACED_AND_UNDONE: &str =
-    "open 1 0 0 0\nok time 4 room 0 distribution 0 student 0 total 8 hard 0 unplaced 0 unsectioned 0 moved -\nok time 0 room 0 distribution 0 student 0 total 0 hard 0 unplaced 1 unsectioned 0 moved -\n";
+    "open 1 0 0 0\nok time 4 room 0 distribution 0 student 0 total 8 hard 0 unplaced 0 unsectioned 0 moved 0\nok time 0 room 0 distribution 0 student 0 total 0 hard 0 unplaced 1 unsectioned 0 moved 1\n";
 
 fn words(alloc: Global, texts: &[&str]) -> Result<Vec<String>, AllocError> {
     let mut words = Vec::new(alloc);
@@ -34,8 +37,12 @@ fn words_of_no_form_give_the_usage_line(rt: HostRuntime) -> Result<(), Fail> {
         &[],
         &["check"],
         &["check", "a", "b"],
-        &["run", "a", "b", "c"],
+        &["run", "a", "b", "c", "d"],
         &["Run", "a", "b"],
+        &["make", "1", "0"],
+        &["make", "1", "20001"],
+        &["demo", "1", "1"],
+        &["demo", "1", "1", "1000001"],
     ] {
         let mut files = SureFiles::new(alloc);
         let mut out = SureSink::new(alloc);
@@ -73,20 +80,21 @@ fn failing_write(write: u64, status: u8, output: &'static str) -> Failing {
     }
 }
 
-// The first call that fails ends the run, and what was written before it stays. Each reply is
-// written before the next line is answered.
+// The first call that fails ends the run, and what was written before it stays. The published file
+// is read before the opening line is written, and the script after. Each reply is written before the
+// next line is answered.
 #[test]
 fn failed_calls_end_the_run(rt: HostRuntime) -> Result<(), Fail> {
     let alloc = rt.alloc();
-    let words = words(alloc, &["run", "problem", "script"])?;
+    let words = words(alloc, &["run", "problem", "script", "published"])?;
     let cases = [
         failing_read(1, 5, ""),
         failing_read(2, 5, ""),
-        failing_read(3, 5, ""),
-        failing_read(4, 5, OPENED),
-        failing_read(5, 5, OPENED),
-        failing_read(6, 5, OPENED),
-        failing_read(7, 0, PLACED_AND_UNDONE),
+        failing_read(4, 5, ""),
+        failing_read(6, 5, ""),
+        failing_read(7, 5, OPENED),
+        failing_read(9, 5, OPENED),
+        failing_read(10, 0, PLACED_AND_UNDONE),
         failing_write(1, 6, ""),
         failing_write(2, 6, OPENED),
         failing_write(3, 6, PLACED),
@@ -96,28 +104,13 @@ fn failed_calls_end_the_run(rt: HostRuntime) -> Result<(), Fail> {
         let mut files = MemFiles::new(alloc);
         let mut out = MemSink::new(alloc);
         files.add("problem", ONE_CLASS.as_bytes())?;
+        files.add("published", AT_ITS_TIME.as_bytes())?;
         files.add("script", b"assign 1 1 -\nundo\n")?;
         files.fail_at(case.read)?;
         out.fail_at(case.write)?;
         let status = run(alloc, &words, &mut files, &mut out);
         assert_eq!(rt; status, case.status, "case {i}");
         assert_eq!(rt; out.bytes(), Some(case.output.as_bytes()), "case {i}");
-    }
-    Ok(())
-}
-
-// A long line is bad, whatever it holds, and one of the greatest length is read.
-#[test]
-fn lines_have_a_limit(rt: HostRuntime) -> Result<(), Fail> {
-    let alloc = rt.alloc();
-    let words = words(alloc, &["run", "problem", "script"])?;
-    for (length, status) in [(65_536, 0), (65_537, 1)] {
-        let script = vec![in alloc; b'#'; length]?;
-        let mut files = SureFiles::new(alloc);
-        let mut out = SureSink::new(alloc);
-        files.add("problem", ONE_CLASS.as_bytes())?;
-        files.add("script", &script)?;
-        assert_eq!(rt; run(alloc, &words, &mut files, &mut out), status);
     }
     Ok(())
 }
@@ -130,12 +123,12 @@ struct Limited {
     output: &'static str,
 }
 
-// A problem, and then a script, of more bytes than the limit ends the run. The script has one byte
-// more than the problem.
+// A problem, and then a published timetable, and then a script, of more bytes than the limit ends the
+// run. Each has one byte more than the one before.
 #[test]
 fn files_have_a_limit(rt: HostRuntime) -> Result<(), Fail> {
     let alloc = rt.alloc();
-    let words = words(alloc, &["run", "problem", "script"])?;
+    let words = words(alloc, &["run", "problem", "script", "published"])?;
     let size = ONE_CLASS.len() as u64;
     let cases = [
         Limited {
@@ -146,19 +139,27 @@ fn files_have_a_limit(rt: HostRuntime) -> Result<(), Fail> {
         Limited {
             limit: size,
             status: 8,
-            output: OPENED,
+            output: "",
         },
         Limited {
             limit: size + 1,
+            status: 8,
+            output: OPENED,
+        },
+        Limited {
+            limit: size + 2,
             status: 0,
             output: OPENED,
         },
     ];
     for case in cases.iter() {
-        let script = vec![in alloc; b'\n'; ONE_CLASS.len() + 1]?;
+        let mut published = vec![in alloc; b' '; ONE_CLASS.len() + 1 - AT_ITS_TIME.len()]?;
+        published.extend_from_slice(AT_ITS_TIME.as_bytes())?;
+        let script = vec![in alloc; b'\n'; ONE_CLASS.len() + 2]?;
         let mut files = SureFiles::new(alloc);
         let mut out = SureSink::new(alloc);
         files.add("problem", ONE_CLASS.as_bytes())?;
+        files.add("published", &published)?;
         files.add("script", &script)?;
         let status = run_within(case.limit, alloc, &words, &mut files, &mut out);
         assert_eq!(rt; status, case.status);
@@ -167,45 +168,63 @@ fn files_have_a_limit(rt: HostRuntime) -> Result<(), Fail> {
     Ok(())
 }
 
-// The one file that is there, and what a run must write.
+// What a run writes in which a file has a fault.
 #[derive(Clone, Copy)]
-struct Alone {
-    name: &'static str,
+struct Faulty {
+    problem: &'static str,
+    status: u8,
     output: &'static str,
 }
 
-// A file that isn't there ends the run where it is asked for.
+// A fault of the problem ends the run before the published timetable is asked for, and a fault of
+// that one before the script is.
 #[test]
-fn absent_files_end_the_run(rt: HostRuntime) -> Result<(), Fail> {
+fn faults_end_the_run(rt: HostRuntime) -> Result<(), Fail> {
     let alloc = rt.alloc();
-    let words = words(alloc, &["run", "problem", "script"])?;
+    let words = words(alloc, &["run", "problem", "script", "published"])?;
     let cases = [
-        Alone {
-            name: "script",
-            output: "",
+        Faulty {
+            problem: "[",
+            status: 3,
+            output: "problem refused 30 /\n",
         },
-        Alone {
-            name: "problem",
-            output: OPENED,
+        Faulty {
+            problem: ONE_CLASS,
+            status: 4,
+            output: "published refused 31 /\n",
         },
     ];
     for case in cases.iter() {
         let mut files = MemFiles::new(alloc);
         let mut out = MemSink::new(alloc);
-        files.add(case.name, ONE_CLASS.as_bytes())?;
-        assert_eq!(rt; run(alloc, &words, &mut files, &mut out), 5);
+        files.add("problem", case.problem.as_bytes())?;
+        if case.status == 4 {
+            files.add("published", b"[]")?;
+        }
+        assert_eq!(rt; run(alloc, &words, &mut files, &mut out), case.status);
         assert_eq!(rt; out.bytes(), Some(case.output.as_bytes()));
     }
     Ok(())
 }
 
-// `check` writes the opening line, and needs no script.
+// `check` writes the opening line, and needs no script; a problem that is made can be checked.
 #[test]
-fn a_check_needs_no_script(rt: HostRuntime) -> Result<(), Fail> {
+fn a_problem_that_is_made_is_accepted(rt: HostRuntime) -> Result<(), Fail> {
     let alloc = rt.alloc();
-    let mut files = MemFiles::new(alloc);
-    let mut out = MemSink::new(alloc);
-    files.add("problem", ONE_CLASS.as_bytes())?;
+    let mut made = SureSink::new(alloc);
+    let mut files = SureFiles::new(alloc);
+    let status = run(
+        alloc,
+        &words(alloc, &["make", "1", "30"])?,
+        &mut files,
+        &mut made,
+    );
+    assert_eq!(rt; status, 0);
+    let Some(text) = made.bytes() else {
+        return Ok(());
+    };
+    files.add("problem", text)?;
+    let mut out = SureSink::new(alloc);
     let status = run(
         alloc,
         &words(alloc, &["check", "problem"])?,
@@ -213,6 +232,26 @@ fn a_check_needs_no_script(rt: HostRuntime) -> Result<(), Fail> {
         &mut out,
     );
     assert_eq!(rt; status, 0);
-    assert_eq!(rt; out.bytes(), Some(OPENED.as_bytes()));
+    Ok(())
+}
+
+// `demo` answers its five lines after the opening line.
+#[test]
+fn a_demo_answers_its_lines(rt: HostRuntime) -> Result<(), Fail> {
+    let alloc = rt.alloc();
+    let mut files = SureFiles::new(alloc);
+    let mut out = SureSink::new(alloc);
+    let status = run(
+        alloc,
+        &words(alloc, &["demo", "1", "30", "10"])?,
+        &mut files,
+        &mut out,
+    );
+    assert_eq!(rt; status, 0);
+    let mut lines = 0;
+    if let Some(text) = out.bytes() {
+        lines = text.iter().filter(|b| **b == b'\n').count();
+    }
+    assert_eq!(rt; lines, 8);
     Ok(())
 }

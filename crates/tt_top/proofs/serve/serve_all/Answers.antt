@@ -17,14 +17,14 @@ pub returns-then-is_end-clause-written : goal.returns-then-is_end-clause-written
 returns-then-is_end-clause-written g c =
     let s = c.in_ok-outcome.ensures in
     let ends = sym c.is_end.ensures ∙ c.if-is_end.true in
-    HasSent-all _ _ _ (HasSent-more _ _ _ _ _ _ _ c.loop-line.invariant.told s.written (replies-last _ _ _ _ _ _ c.in-Some.ensures.cut s.step ends))
+    HasSent-all _ _ _ (HasSent-more _ _ _ _ _ _ _ c.loop-line.invariant.told s.written (replies-last _ _ _ _ _ _ c.in-Some.ensures.cut s.session s.outcome ends))
 
 pub loop-line-preserved : goal.loop-line-preserved
 loop-line-preserved g c =
     let s = c.in_ok-outcome.ensures in
     let goes = sym c.is_end.ensures ∙ c.if-is_end.false in
     record {
-      told = HasSent-more _ _ _ _ _ _ _ c.loop-line.invariant.told s.written (replies-next _ _ _ _ _ _ c.in-Some.ensures.cut s.step goes);
-      refused = rw c.is_refused-refused.ensures (refused_more _ _ _ _ _ c.loop-line.invariant.refused (refuses-next _ _ _ _ _ _ c.in-Some.ensures.cut s.step goes));
+      told = HasSent-more _ _ _ _ _ _ _ c.loop-line.invariant.told s.written (replies-next _ _ _ _ _ _ c.in-Some.ensures.cut s.session s.outcome goes);
+      refused = rw c.is_refused-refused.ensures (refused_more _ _ _ _ _ c.loop-line.invariant.refused (refuses-next _ _ _ _ _ _ c.in-Some.ensures.cut s.session s.outcome goes));
       faults = search rules;
     }

@@ -1,0 +1,135 @@
+-- How the phases of a run without files make its transcript.
+use Rattle.std.proofs.Common.{◌≡◌, ◌≢◌, ◌≤◌, ◌<◌, ℕ, suc, Bool, List, [], ◌∷◌, ◌++◌, None, Some, Option, Result, Ok, Err, refl, sym, ◌∙◌, ap, subst, append_assoc, arith, inl, inr, take}
+use Rattle.std.specs.Prelude.{◌⊎◌, IfOk, OnOk, codes}
+use Rattle.std.specs.List.{concat}
+use Rattle.std.proofs.lemmas.List.{append-nil}
+use Rattle.tt_io.specs.Causes.{Writes, one_more}
+use Rattle.tt_io.specs.Whole.{WritesFront}
+use Rattle.tt_io.proofs.WrittenLemmas.{Writes-append, Writes-front, WritesFront-after, WritesFront-first}
+use Rattle.tt_make.specs.Text.{make_text}
+use Rattle.tt_desk.specs.Fields.{field}
+use Rattle.tt_desk.specs.Script.{lines_of}
+use Rattle.tt_desk.specs.Desk.{Session}
+use Rattle.tt_desk.specs.Replies.{replies_to, refuses}
+use Rattle.tt_top.specs.declared.end.End.{End}
+use Rattle.tt_top.specs.declared.end.End.TheVariants.{Files, Sink, Memory, TooLong}
+use Rattle.tt_top.specs.declared.end.Done.{Done}
+use Rattle.tt_top.specs.declared.end.InputFault.{InputFault}
+use Rattle.tt_top.specs.Words.{usage_line}
+use Rattle.tt_top.specs.Transcript.{RefusedFile, Transcript, transcript_from, make_transcript, text_of, first_line}
+use Rattle.tt_top.specs.Run.{Outside, WritesFirst, HasCauses, IsPlainRun, IsUsage}
+use Rattle.tt_top.specs.Ends.{input_status, refused_file, seen, end_status, status_of, HasEndCause, OpensMade, ServesLines, WritesPlain, EndsPlain}
+use Rattle.tt_top.proofs.FileRunLemmas.{serve_status, at_most_one, at_most_four, none_first, whole_first, first_front, first_line_front, is_six}
+
+-- ---- what is written
+
+pub plain_whole : (t : Transcript) (before now : Option (List ℕ)) (status : ℕ) → status ≡ t.status → status ≤ 4 → Writes before now (text_of t) → WritesPlain t before now status
+plain_whole t before now status is few all = record {
+  whole = λ le. all;
+  pieces = λ ne. whole_first before now t.pieces all;
+  front = Writes-front before now (text_of t) all;
+  statuses = inl is;
+  no_files = λ five. omega arith;
+}
+
+pub plain_failed : (t : Transcript) (before now : Option (List ℕ)) → WritesFront before now (text_of t) → WritesPlain t before now 6
+plain_failed t before now front = record {
+  whole = λ le. absurd (omega arith);
+  pieces = λ ne. absurd (ne refl);
+  front = front;
+  statuses = inr (inl refl);
+  no_files = λ five. omega arith;
+}
+
+pub plain_memory : (t : Transcript) (before now : Option (List ℕ)) → WritesFirst before now t.pieces → WritesPlain t before now 7
+plain_memory t before now some = record {
+  whole = λ le. absurd (omega arith);
+  pieces = λ ne. some;
+  front = first_front before now t.pieces some;
+  statuses = inr (inr refl);
+  no_files = λ five. omega arith;
+}
+
+-- a transcript of one piece
+pub one_whole : (before now : Option (List ℕ)) (piece : List ℕ) (status : ℕ) → status ≤ 4 → Writes before now piece → WritesPlain (record { pieces = piece ∷ []; status = status }) before now status
+one_whole before now piece status few all = plain_whole _ before now status refl few (rw (append-nil piece) all)
+
+pub one_failed : (before now : Option (List ℕ)) (piece : List ℕ) (status : ℕ) → WritesFront before now piece → WritesPlain (record { pieces = piece ∷ []; status = status }) before now 6
+one_failed before now piece status front = plain_failed _ before now (rw (append-nil piece) front)
+
+pub one_memory : (before now : Option (List ℕ)) (piece : List ℕ) (status : ℕ) → now ≡ before → WritesPlain (record { pieces = piece ∷ []; status = status }) before now 7
+one_memory before now piece status same = plain_memory _ before now (none_first before now _ same)
+
+-- ---- a script over a problem that is made
+
+-- two words, each with its number
+pub two_fields : {T E : Type 0} (r : Result T E) (old mid now first second : List ℕ) (n m n_is m_is : ℕ) → n ≡ n_is → m ≡ m_is → mid ≡ old ++ field first n → OnOk r (now ≡ mid ++ field second m) → OnOk r (now ≡ old ++ field first n_is ++ field second m_is)
+two_fields (Ok v) old mid now first second n m n_is m_is n_same m_same one two =
+    two ∙ ap (λ t. t ++ field second m) one ∙ ap (λ k. (old ++ field first k) ++ field second m) n_same ∙ ap (λ k. (old ++ field first n_is) ++ field second k) m_same
+two_fields (Err e) old mid now first second n m n_is m_is n_same m_same one two = tt
+
+pub made_failed : (before now : Option (List ℕ)) (o : Result Session RefusedFile) (s : List ℕ) (e : End) → OpensMade before now o (Err e) → WritesPlain (transcript_from o s) before now (end_status e)
+made_failed before now o s Files opens = absurd opens
+made_failed before now o s Sink opens = plain_failed _ before now (first_line_front before now o s opens)
+made_failed before now o s Memory opens = plain_memory _ before now (none_first before now _ opens)
+made_failed before now o s TooLong opens = absurd opens
+
+pub made_refused : (before now : Option (List ℕ)) (o : Result Session RefusedFile) (s : List ℕ) (f : InputFault) → OpensMade before now o (Ok (Err f)) → WritesPlain (transcript_from o s) before now (input_status f.input)
+made_refused before now o s f opens = rw opens.0 (one_whole before now (refused_file f).line (input_status f.input) (at_most_four f.input) opens.1)
+
+pub made_served : (before mid now : Option (List ℕ)) (o : Result Session RefusedFile) (s : List ℕ) (session : Session) (r : Result Bool End) → OpensMade before mid o (Ok (Ok session)) → ServesLines mid now session s r → WritesPlain (transcript_from o s) before now (serve_status r)
+made_served before mid now o s session (Ok refused) opens serves =
+    let le : serve_status (Ok refused) ≤ 1 = at_most_one refused in
+    let few : serve_status (Ok refused) ≤ 4 = omega arith in
+    rw opens.0 (plain_whole _ before now (serve_status (Ok refused)) (rw (← serves.0) refl) few (Writes-append before mid now _ _ opens.1 serves.1))
+made_served before mid now o s session (Err Files) opens serves = absurd serves
+made_served before mid now o s session (Err Sink) opens serves = rw opens.0 (plain_failed _ before now (WritesFront-after before mid now _ _ opens.1 serves))
+made_served before mid now o s session (Err Memory) opens serves = rw opens.0 (plain_memory _ before now (suc serves.0, Writes-append before mid now _ _ opens.1 serves.1))
+made_served before mid now o s session (Err TooLong) opens serves = absurd serves
+
+-- the first line wasn't written whole
+pub made_unwritten : (before now : Option (List ℕ)) (o : Result Session RefusedFile) (l : Result Session InputFault) (e : End) → o ≡ seen l → (e ≡ Memory → now ≡ before) → WritesFront before now (first_line (seen l)) → e ≢ Files → e ≢ TooLong → OpensMade before now o (Err e)
+made_unwritten before now o l Files is memory front no_files no_limit = absurd (no_files refl)
+made_unwritten before now o l Sink is memory front no_files no_limit = rw is front
+made_unwritten before now o l Memory is memory front no_files no_limit = memory refl
+made_unwritten before now o l TooLong is memory front no_files no_limit = absurd (no_limit refl)
+
+-- no problem was made
+pub not_made : (before now : Option (List ℕ)) (o : Result Session RefusedFile) (e : End) → e ≡ Memory → now ≡ before → OpensMade before now o (Err e)
+not_made before now o e is same = rw is same
+
+-- what serving the lines of a text gives
+pub serves_lines : (before now : Option (List ℕ)) (d : Session) (text s : List ℕ) (r : Result Bool End) → text ≡ s → IfOk r (λ refused. refused ≡ refuses d (lines_of text)) → OnOk r (Writes before now (concat (replies_to d (lines_of text)))) → (r ≡ Err Memory → WritesFirst before now (replies_to d (lines_of text))) → (r ≡ Err Sink → WritesFront before now (concat (replies_to d (lines_of text)))) → r ≢ Err Files → r ≢ Err TooLong → ServesLines before now d s r
+serves_lines before now d text s (Ok refused) is refuses_is written memory front no_files no_limit = rw (← is) (refuses_is, written)
+serves_lines before now d text s (Err Files) is refuses_is written memory front no_files no_limit = absurd (no_files refl)
+serves_lines before now d text s (Err Sink) is refuses_is written memory front no_files no_limit = rw (← is) (front refl)
+serves_lines before now d text s (Err Memory) is refuses_is written memory front no_files no_limit = rw (← is) (memory refl)
+serves_lines before now d text s (Err TooLong) is refuses_is written memory front no_files no_limit = absurd (no_limit refl)
+
+-- where the script found no memory
+pub serves_none_made : (before now : Option (List ℕ)) (d : Session) (s : List ℕ) (e : End) → e ≡ Memory → now ≡ before → ServesLines before now d s (Err e)
+serves_none_made before now d s e is same = rw is (none_first before now _ same)
+
+-- ---- the answer of a run
+
+pub ends_plain : (t : Transcript) (before now : Option (List ℕ)) (faults faults_now : ℕ) (r : Result Done End) → WritesPlain t before now (status_of r) → HasEndCause Sink faults faults_now r → EndsPlain t before now faults faults_now (status_of r)
+ends_plain t before now faults faults_now r writes cause = record {
+  writes = writes;
+  rose = λ is. cause.rose (is_six r is);
+  same = λ ne. cause.same (λ is. ne (ap status_of is));
+}
+
+pub is_plain_run : (t : Transcript) (o : Outside) (status : ℕ) → EndsPlain t o.before.written o.now.written o.before.sink o.now.sink status → o.now.files ≡ o.before.files → o.now.asked ≡ o.before.asked → IsPlainRun t o status
+is_plain_run t o status ends files asked = record {
+  whole = ends.writes.whole;
+  pieces = ends.writes.pieces;
+  front = ends.writes.front;
+  statuses = ends.writes.statuses;
+  causes = record {
+    files = λ five. absurd (ends.writes.no_files five);
+    sink = ends.rose;
+    files_same = λ _. files;
+    sink_same = ends.same;
+  };
+  asks = asked;
+}
