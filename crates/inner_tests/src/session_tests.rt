@@ -30,8 +30,12 @@ fn replies(alloc: Global, script: &[u8]) -> Result<Vec<u8>, Fail> {
 // reply, and `quit` ends the script.
 #[test]
 fn a_script_is_answered_line_by_line(rt: HostRuntime) -> Result<(), Fail> {
-    let out = replies(rt.alloc(), b"assign 1 1 1\n\nforce 2 1 1\r\nunassign 1\nquit\nundo\n")?;
-    let wanted = b"ok time 9 room 0 distribution 0 student 0 total 9 hard 0 unplaced 1 unsectioned 0 moved -\nout 1\nok time 0 room 0 distribution 0 student 0 total 0 hard 0 unplaced 1 unsectioned 0 moved -\nrefused 16 not placed\n";
+    let out = replies(
+        rt.alloc(),
+        b"assign 1 1 1\n\nforce 2 1 1\r\nunassign 1\nquit\nundo\n",
+    )?;
+    let wanted =
+        b"ok time 9 room 0 distribution 0 student 0 total 9 hard 0 unplaced 1 unsectioned 0 moved -\nout 1\nok time 0 room 0 distribution 0 student 0 total 0 hard 0 unplaced 1 unsectioned 0 moved -\nrefused 16 not placed\n";
     assert_eq!(rt; out.as_slice(), wanted.as_slice());
     Ok(())
 }
