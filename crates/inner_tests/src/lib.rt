@@ -3,14 +3,6 @@
 #![tactic(auto)]
 
 #[cfg(test)]
-mod clash_tests;
-#[cfg(test)]
-mod enrol_tests;
-#[cfg(test)]
-mod explain_tests;
-#[cfg(test)]
-mod force_tests;
-#[cfg(test)]
 mod plan_tests;
 #[cfg(test)]
 mod problem_tests;
@@ -20,11 +12,5 @@ mod roster_tests;
 mod sample;
 #[cfg(test)]
 mod score_tests;
-#[cfg(test)]
-mod search_tests;
-#[cfg(test)]
-mod session_tests;
-#[cfg(test)]
-mod solution_tests;
 #[cfg(test)]
 mod state_tests;
