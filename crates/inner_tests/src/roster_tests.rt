@@ -1,7 +1,7 @@
 ghost use Rattle.std.specs.Prelude.{◌≡◌, length, replicate, None, []};
 ghost use Rattle.tt_roster.specs.Kept.{IsRosterOf};
 
-use crate::sample::problem;
+use sample_problem::problem;
 use std::test::Fail;
 use tt_plan::{find, spot};
 use tt_problem::Problem;

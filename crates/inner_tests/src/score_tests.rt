@@ -1,7 +1,7 @@
 ghost use Rattle.std.specs.Prelude.{◌≡◌, length, replicate, None};
 ghost use Rattle.tt_score.specs.Kept.{Fits, plan_of};
 
-use crate::sample::problem;
+use sample_problem::problem;
 use std::test::Fail;
 use tt_bits::Value;
 use tt_plan::find;

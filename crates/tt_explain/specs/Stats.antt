@@ -8,7 +8,7 @@ use Rattle.tt_cbs.specs.Listed.{of_class}
 use Rattle.tt_state.specs.Snapshots.{Snapshot}
 use Rattle.tt_explain.specs.Names.{value_text, out_text}
 
--- `count T R out D T2 R2 N`: a value of a class, another class that lost a value for it, and how often
+-- `count T R out D T' R' N`: a value of a class, another class that lost a value for it, and how often
 unfoldable pub count_line : Parts → Key → ℕ → List ℕ
 count_line p key count =
     codes "count " ++ value_text p key.class key.value ++ codes " " ++ out_text p key.other key.other_value ++ codes " " ++ decimal count ++ codes "\n"

@@ -1,5 +1,8 @@
+//! Two small problems that tests of several crates read.
+#![tactic(auto)]
+
 use std::alloc::Global;
-use std::test::Fail;
+use tt_fields::ProblemFault;
 use tt_problem::Problem;
 use tt_read::read;
 
@@ -33,11 +36,11 @@ const SMALL_TEXT: &str = r#"{"nrDays":1,"nrWeeks":1,"slotsPerDay":288,
         {"days":"1","start":0,"length":1,"weeks":"1","penalty":0}]}]}]}]}]}"#;
 
 /// The problem that the first text holds. A part is named by its place in it.
-pub fn problem(alloc: Global) -> Result<Problem, Fail> {
-    Ok(read(alloc, TEXT.as_bytes())?)
+pub fn problem(alloc: Global) -> Result<Problem, ProblemFault> {
+    read(alloc, TEXT.as_bytes())
 }
 
 /// The problem that the second text holds.
-pub fn small_problem(alloc: Global) -> Result<Problem, Fail> {
-    Ok(read(alloc, SMALL_TEXT.as_bytes())?)
+pub fn small_problem(alloc: Global) -> Result<Problem, ProblemFault> {
+    read(alloc, SMALL_TEXT.as_bytes())
 }

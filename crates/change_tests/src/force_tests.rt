@@ -1,0 +1,147 @@
+use std::alloc::Global;
+use std::test::Fail;
+use tt_bits::{Key, Value};
+use tt_clash::blocked;
+use tt_plan::{find, spot};
+use tt_problem::Problem;
+use tt_read::read;
+use tt_state::{Refusal, State};
+
+/// A room with two classes that may meet in it at one time, the second also a slot later; and a
+/// student who needs both.
+const TEXT: &str = r#"{"nrDays":1,"nrWeeks":1,"slotsPerDay":288,
+    "optimization":{"time":1,"room":1,"distribution":1,"student":1},
+    "rooms":[{"id":1}],
+    "courses":[{"id":1,"configs":[{"subparts":[
+        {"classes":[{"id":1,"rooms":[{"id":1,"penalty":0}],"times":[
+            {"days":"1","start":10,"length":4,"weeks":"1","penalty":0}]}]},
+        {"classes":[{"id":2,"rooms":[{"id":1,"penalty":0}],"times":[
+            {"days":"1","start":10,"length":4,"weeks":"1","penalty":2},
+            {"days":"1","start":11,"length":4,"weeks":"1","penalty":3}]}]}]}]}],
+    "students":[{"id":1,"courses":[1]}]}"#;
+
+/// The first value of each class.
+const FIRST: Value = Value { time: 0, room: 0 };
+
+fn problem(alloc: Global) -> Result<Problem, Fail> {
+    Ok(read(alloc, TEXT.as_bytes())?)
+}
+
+// How often the second class at a value has pushed out the first class.
+fn count(state: &State, value: Value) -> u64 {
+    state.statistics().count(Key {
+        class: 1,
+        value,
+        other: 0,
+        other_value: FIRST,
+    })
+}
+
+// Gives the first class its one value; false where there is none.
+fn assigns(state: &mut State) -> bool {
+    if state.problem().class_count() != 2 {
+        return false;
+    }
+    let Ok(value) = find(state.problem(), 0, 1, Some(1)) else {
+        return false;
+    };
+    state.assign(0, value).is_ok()
+}
+
+// Whether the second class takes the first one out, which is counted.
+fn forces(state: &mut State) -> bool {
+    if state.problem().class_count() != 2 {
+        return false;
+    }
+    let Ok(value) = find(state.problem(), 1, 1, Some(1)) else {
+        return false;
+    };
+    state.force(1, value) == Ok(())
+        && state.taken() == [0].as_slice()
+        && state.score().plan() == [None, Some(FIRST)].as_slice()
+        && count(state, FIRST) == 1
+}
+
+// Whether undo gives the plan and the statistics back.
+fn goes_back(state: &mut State) -> bool {
+    state.undo() == Ok(())
+        && state.score().plan() == [Some(FIRST), None].as_slice()
+        && count(state, FIRST) == 0
+}
+
+// Whether the second class, a slot later in a step, takes the first one out, and goes back.
+fn forces_in_a_step(state: &mut State) -> bool {
+    if state.problem().class_count() != 2 {
+        return false;
+    }
+    let Ok(value) = find(state.problem(), 1, 2, Some(1)) else {
+        return false;
+    };
+    if state.begin().is_err() {
+        return false;
+    }
+    let moment = state.mark_now();
+    if state.force_step(1, value) != Ok(()) {
+        return false;
+    }
+    let with = [state.totals().time, count(state, value)];
+    state.roll_back(moment);
+    with == [3, 1]
+        && state.score().plan() == [Some(FIRST), None].as_slice()
+        && count(state, value) == 0
+}
+
+// Whether the second class would push out the first one, and what the total would be.
+#[tactic(auto, unfolding(tt_state::specs::Values::blocked_of))]
+fn tries(state: &mut State) -> bool {
+    if state.problem().class_count() != 2 {
+        return false;
+    }
+    let Ok(value) = find(state.problem(), 1, 2, Some(1)) else {
+        return false;
+    };
+    let spot = spot(state.problem(), 1, value);
+    if blocked(state.problem(), 1, spot).is_some() {
+        return false;
+    }
+    state.find_conflicts(1, value);
+    state.taken() == [0].as_slice() && state.trial(1, value) == 3
+}
+
+// Whether a student gets a list in a step, and loses it by an empty one.
+fn sections_in_a_step(state: &mut State) -> bool {
+    if state.problem().class_count() != 2 || state.problem().student_count() != 1 {
+        return false;
+    }
+    if state.begin().is_err() || state.section_step(0, &[1, 0]) != Ok(()) {
+        return false;
+    }
+    let with = state.totals().unsectioned;
+    if state.section_step(0, &[1]) != Err(Refusal::BadSection) {
+        return false;
+    }
+    if state.section_step(0, &[]) != Ok(()) {
+        return false;
+    }
+    with == 0 && state.totals().unsectioned == 1 && state.mark_now() == 2
+}
+
+#[test]
+fn a_forced_class_takes_another_out_and_gives_it_back(rt: HostRuntime) -> Result<(), Fail> {
+    let mut state = State::start(rt.alloc(), problem(rt.alloc())?).expect(&rt, "memory");
+    assert!(rt; assigns(&mut state));
+    assert!(rt; forces(&mut state));
+    assert!(rt; goes_back(&mut state));
+    assert!(rt; forces_in_a_step(&mut state));
+    assert!(rt; tries(&mut state));
+    drop(state);
+    Ok(())
+}
+
+#[test]
+fn a_student_gets_a_list_within_a_step(rt: HostRuntime) -> Result<(), Fail> {
+    let mut state = State::start(rt.alloc(), problem(rt.alloc())?).expect(&rt, "memory");
+    assert!(rt; sections_in_a_step(&mut state));
+    drop(state);
+    Ok(())
+}

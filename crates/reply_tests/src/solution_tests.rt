@@ -1,0 +1,188 @@
+use sample_problem::problem;
+use std::alloc::{AllocError, Global};
+use std::test::Fail;
+use tt_plan::find;
+use tt_problem::Problem;
+use tt_read::read;
+use tt_solution::{Published, SolutionFault, moved, read_published, write_published};
+use tt_state::State;
+use tt_text::Reply;
+
+/// A course with one class, which needs no room.
+const ONE: &str = r#"{"nrDays":1,"nrWeeks":1,"slotsPerDay":288,
+    "optimization":{"time":2,"room":1,"distribution":1,"student":1},
+    "courses":[{"id":1,"configs":[{"id":1,"subparts":[{"id":1,"classes":[{"id":1,"room":false,
+        "times":[{"days":"1","start":10,"length":4,"weeks":"1","penalty":4}]}]}]}]}]}"#;
+
+/// What is published of it, once the class is placed.
+const LINE: &str = r#"{"classes":[{"days":"1","id":1,"start":10,"students":[],"weeks":"1"}]}"#;
+
+/// Two classes of the larger problem. The second is listed first, with a room that isn't the
+/// problem's, and names a student twice.
+const TWO: &str = r#"{"classes":[
+    {"id":"23","days":"11","start":16,"weeks":"11","room":9,"students":[32,{"id":31},"32"]},
+    {"students":[31],"weeks":"10","start":4,"room":null,"days":"10","id":21}]}"#;
+
+// Whether a published file has this fault.
+fn is_fault(alloc: Global, problem: &Problem, text: &str, want: u8, at: &str) -> bool {
+    match read_published(alloc, problem, text.as_bytes()) {
+        Ok(_) => false,
+        Err(SolutionFault::Fault { number, path }) => number == want
+            && path.bytes() == at.as_bytes(),
+        Err(SolutionFault::Memory) => false,
+    }
+}
+
+// Whether faults of the shape come first, in the order of the file.
+fn has_faults_of_shape(alloc: Global, problem: &Problem) -> bool {
+    is_fault(alloc, problem, "{\"classes\":[]}x", 30, "/")
+        && is_fault(alloc, problem, "{}", 31, "/classes")
+        && is_fault(
+            alloc,
+            problem,
+            r#"{"classes":[{"id":2,"days":"1","start":65536,"weeks":"1"}]}"#,
+            32,
+            "/classes/0/start",
+        )
+        && is_fault(
+            alloc,
+            problem,
+            r#"{"classes":[{"id":1,"days":"1","start":10,"weeks":"1"},{"id":1}]}"#,
+            33,
+            "/classes/1/id",
+        )
+        && is_fault(
+            alloc,
+            problem,
+            r#"{"classes":[{"id":2,"days":"1","start":10,"weeks":"1"},
+                {"id":1,"days":"","start":10,"weeks":"1"}]}"#,
+            35,
+            "/classes/1/days",
+        )
+}
+
+// Whether a class and a student that the problem doesn't have are faults of the reference.
+fn has_faults_of_references(alloc: Global, problem: &Problem) -> bool {
+    is_fault(
+        alloc,
+        problem,
+        r#"{"classes":[{"id":2,"days":"1","start":10,"weeks":"1"}]}"#,
+        34,
+        "/classes/0/id",
+    ) && is_fault(
+        alloc,
+        problem,
+        r#"{"classes":[{"id":1,"days":"1","start":10,"weeks":"1","students":[5]}]}"#,
+        34,
+        "/classes/0/students/0",
+    ) && is_fault(
+        alloc,
+        problem,
+        r#"{"classes":[{"id":1,"days":"1","start":10,"weeks":"1","students":[{"id":5}]}]}"#,
+        34,
+        "/classes/0/students/0/id",
+    )
+}
+
+// Whether the one class gets its value.
+fn assigns(state: &mut State) -> bool {
+    if state.problem().class_count() != 1 {
+        return false;
+    }
+    let Ok(value) = find(state.problem(), 0, 1, None) else {
+        return false;
+    };
+    state.assign(0, value).is_ok()
+}
+
+// How many classes of the state have moved from what its plan publishes, and from this file.
+fn moves(alloc: Global, state: &State) -> Option<[u32; 2]> {
+    let (problem, score) = (state.problem(), state.score());
+    let own = Published::of(alloc, problem, score.plan(), score.roster()).ok()?;
+    let read = read_published(alloc, problem, LINE.as_bytes()).ok()?;
+    Some([
+        moved(problem, score.plan(), &own),
+        moved(problem, score.plan(), &read),
+    ])
+}
+
+// Whether the state publishes the line.
+fn writes(alloc: Global, state: &State) -> Result<bool, AllocError> {
+    if state.totals().unplaced != 0 {
+        return Ok(false);
+    }
+    let mut out = Reply::new(alloc);
+    let score = state.score();
+    write_published(
+        alloc,
+        state.problem(),
+        score.plan(),
+        score.roster(),
+        &mut out,
+    )?;
+    Ok(out.bytes() == LINE.as_bytes())
+}
+
+// Whether the file with two classes is read: the first class meets at its second time but has no
+// room, and each student has the classes that name him, in the problem's order.
+fn reads(alloc: Global, problem: &Problem) -> bool {
+    let Ok(published) = read_published(alloc, problem, TWO.as_bytes()) else {
+        return false;
+    };
+    if problem.class_count() != 3 || problem.student_count() != 2 {
+        return false;
+    }
+    let Ok(value) = find(problem, 0, 2, Some(71)) else {
+        return false;
+    };
+    published.has(0)
+        && !published.has(1)
+        && !published.same(problem, 0, value)
+        && published.classes_of(0) == [0, 2].as_slice()
+        && published.classes_of(1) == [2].as_slice()
+}
+
+#[test]
+fn shape_comes_before_references(rt: HostRuntime) -> Result<(), Fail> {
+    let problem = read(rt.alloc(), ONE.as_bytes())?;
+    assert!(rt; has_faults_of_shape(rt.alloc(), &problem));
+    drop(problem);
+    Ok(())
+}
+
+#[test]
+fn references_are_looked_up(rt: HostRuntime) -> Result<(), Fail> {
+    let problem = read(rt.alloc(), ONE.as_bytes())?;
+    assert!(rt; has_faults_of_references(rt.alloc(), &problem));
+    drop(problem);
+    Ok(())
+}
+
+#[test]
+fn an_unplaced_published_class_has_moved(rt: HostRuntime) -> Result<(), Fail> {
+    let problem = read(rt.alloc(), ONE.as_bytes())?;
+    let mut state = State::start(rt.alloc(), problem).expect(&rt, "memory");
+    let before = moves(rt.alloc(), &state);
+    let assigned = assigns(&mut state);
+    assert!(rt; assigned && before == Some([0, 1]) && moves(rt.alloc(), &state) == Some([0, 0]));
+    drop(state);
+    Ok(())
+}
+
+#[test]
+fn the_line_is_published(rt: HostRuntime) -> Result<(), Fail> {
+    let problem = read(rt.alloc(), ONE.as_bytes())?;
+    let mut state = State::start(rt.alloc(), problem).expect(&rt, "memory");
+    let assigned = assigns(&mut state);
+    assert!(rt; assigned && writes(rt.alloc(), &state)?);
+    drop(state);
+    Ok(())
+}
+
+#[test]
+fn students_have_the_classes_that_name_them(rt: HostRuntime) -> Result<(), Fail> {
+    let problem = problem(rt.alloc())?;
+    assert!(rt; reads(rt.alloc(), &problem));
+    drop(problem);
+    Ok(())
+}
