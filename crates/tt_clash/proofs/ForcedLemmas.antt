@@ -21,7 +21,8 @@ use Rattle.tt_clash.specs.Amounts.{kind_amount, rule_amounts}
 use Rattle.tt_clash.specs.Rules.{is_group, is_required_group}
 use Rattle.tt_clash.specs.Blocked.{blocked_by}
 use Rattle.tt_clash.specs.Freed.{IsFreedRule}
-use Rattle.tt_clash.specs.Forced.{AreForced, IsPart, stays_at_0, IsAt0, FitsAmong}
+use Rattle.tt_measure.specs.Removals.{IsPart}
+use Rattle.tt_clash.specs.Forced.{AreForced, stays_at_0, IsAt0, FitsAmong}
 use Rattle.tt_clash.proofs.AmountLemmas.{open-none, free-from_open}
 use Rattle.tt_clash.specs.ConflictSet.{is_in, spot_with, amount_with, breaks_rule, clashes, clashing, conflict_set}
 use Rattle.tt_occupancy.specs.Clashes.{clash}
@@ -29,7 +30,7 @@ use Rattle.tt_clash.specs.Freed.{IsFreed}
 use Rattle.tt_clash.proofs.ListedLemmas.{in-range}
 use Rattle.tt_clash.proofs.PairMarkLemmas.{passes-past}
 use Rattle.tt_clash.proofs.FreedLemmas.{grows, freed-all}
-use Rattle.tt_clash.proofs.RemovalLemmas.{days_over-part, load_over-part, long_blocks-part}
+use Rattle.tt_measure.proofs.RemovalLemmas.{days_over-part, load_over-part, long_blocks-part}
 
 -- a class that clashes is in the conflict set
 pub clashes-listed : (p : Parts) (amounts : ℕ → List (Option Spot) → ℕ) (spots : List (Option Spot)) (c : ℕ) (x : Spot) (d : ℕ) → clashes p spots c x d ≡ true → is_in (conflict_set p amounts spots c x) d ≡ true

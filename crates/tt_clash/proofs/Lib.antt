@@ -11,7 +11,6 @@ pub mod AloneLemmas
 pub mod FindLemmas
 pub mod FreedLemmas
 pub mod AmountLemmas
-pub mod RemovalLemmas
 pub mod ForcedLemmas
 pub mod SetLemmas
 pub mod PlaceLemmas

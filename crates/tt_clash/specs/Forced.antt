@@ -1,5 +1,5 @@
 -- What holds once the conflict set is taken out and c has the spot x.
-use Rattle.std.specs.Prelude.{◌≡◌, ◌⊎◌, ℕ, Bool, true, false, is_some, ◌==◌, List, [], ◌∷◌, All, Option, Some, None, map, slice_get, IfSome}
+use Rattle.std.specs.Prelude.{◌≡◌, ℕ, Bool, true, false, is_some, ◌==◌, List, All, Option, Some, map, slice_get, IfSome}
 use Rattle.tt_bits.specs.declared.times.Spot.{Spot}
 use Rattle.tt_bits.specs.Spots.{spot_at}
 use Rattle.tt_occupancy.specs.Clashes.{clash}
@@ -20,13 +20,6 @@ pub record IsOther (spots : List (Option Spot)) (c d : ℕ) : Type 0 where
 -- the spots after those of `out` are taken out and c gets x
 abbrev pub AreForced : List (Option Spot) → ℕ → Spot → List ℕ → List (Option Spot) → Type 0
 AreForced spots c x out after = (d : ℕ) → spot_at after d ≡ spot_with spots c x out d
-
--- each member has what it had, or nothing
-abbrev pub IsPart : (after before : List (Option Spot)) → Type 0
-IsPart [] [] = Unit {0}
-IsPart [] (s ∷ h) = ⊥
-IsPart (a ∷ g) [] = ⊥
-IsPart (a ∷ g) (s ∷ h) = ((a ≡ None) ⊎ (a ≡ s)) × IsPart g h
 
 -- the type is one of MaxDays, MaxDayLoad and MaxBlock, whose amount no removal takes from 0
 abbrev pub stays_at_0 : DistKind → Bool

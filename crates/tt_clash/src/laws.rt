@@ -16,7 +16,8 @@ ghost use Rattle.tt_clash.specs.Rules.{alone};
 ghost use Rattle.tt_clash.specs.Blocked.{blocked_by};
 ghost use Rattle.tt_clash.specs.ConflictSet.{can_go, amount_with, out_for, conflict_set};
 ghost use Rattle.tt_clash.specs.Freed.{IsFreeAlone, IsFreedRule};
-ghost use Rattle.tt_clash.specs.Forced.{IsOther, AreForced, IsPart, stays_at_0, FitsAmong};
+ghost use Rattle.tt_measure.specs.Removals.{IsPart};
+ghost use Rattle.tt_clash.specs.Forced.{IsOther, AreForced, stays_at_0, FitsAmong};
 
 /// Each class of the conflict set is another than the class, and is placed.
 pub fn others()

@@ -10,7 +10,7 @@ use Rattle.tt_bits.specs.Sets.{day_set}
 use Rattle.tt_bits.specs.Times.{end_of}
 use Rattle.tt_bits.specs.Spots.{placed}
 use Rattle.tt_measure.specs.Cells.{seven_days, stands_in, cell_of, days_over, days_used, load_of, load_over}
-use Rattle.tt_clash.specs.Forced.{IsPart}
+use Rattle.tt_measure.specs.Removals.{IsPart}
 use Rattle.tt_measure.specs.Blocks.{insert_by_start, in_order, is_head, up_to_head, blocks_after, blocks_of, latest_end, is_too_long, long_blocks}
 
 -- spots, each with whether it stays
