@@ -47,7 +47,6 @@ pub fn with(
     ensures { AreClassSums problem.now (slice_set plan.now class (Some value)) result }
 {
     problem.validity();
-    let _ = plan;
     ClassSums {
         time: sums.time + u64::from(time_penalty(problem, class, value)),
         room: sums.room + u64::from(room_penalty(problem, class, value)),
@@ -71,7 +70,6 @@ pub fn without(
     ensures { AreClassSums problem.now (slice_set plan.now class None) result }
 {
     problem.validity();
-    let _ = plan;
     ClassSums {
         time: sums.time - u64::from(time_penalty(problem, class, value)),
         room: sums.room - u64::from(room_penalty(problem, class, value)),

@@ -50,7 +50,6 @@ fn amount_with(
     ensures few { result < 2 ^ 62 }
 {
     problem.validity();
-    let _ = occupancy;
     let travel = problem.travel();
     let rise = group.gain(travel, place, spot);
     let fall = held_part(group, travel, place, has);

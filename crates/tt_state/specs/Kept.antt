@@ -1,4 +1,4 @@
--- What a state keeps so that each step can be undone. Proofs alone need it.
+-- What a state keeps so that each step can be undone. Proofs alone need it, but for `counts_of`, which a clause cites.
 use Rattle.std.specs.Prelude.{◌≡◌, ℕ, ◌<◌, ◌≤◌, true, false, Bool, List, [], ◌∷◌, All, length, map, slice_index}
 use Rattle.std.specs.FinMap.{FinMap, empty}
 use Rattle.tt_problem.specs.declared.parts.Parts.{Parts}

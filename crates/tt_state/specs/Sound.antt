@@ -1,6 +1,6 @@
 -- What holds of each snapshot, and when one is ready.
-use Rattle.std.specs.Prelude.{◌≡◌, ℕ, ◌≤◌, ◌<◌, Bool, true, ◌&&◌, ◌==◌, List, [], ◌∷◌, All, IfSome, length}
-use Rattle.std.specs.FinMap.{FinMap}
+use Rattle.std.specs.Prelude.{◌≡◌, ◌≢◌, ℕ, ◌≤◌, ◌<◌, Bool, true, ◌&&◌, ◌==◌, List, [], ◌∷◌, All, IfSome, Some, length}
+use Rattle.std.specs.FinMap.{FinMap, get}
 use Rattle.tt_bits.specs.declared.times.Key.{Key}
 use Rattle.tt_cbs.specs.Counts.{count_at}
 use Rattle.tt_cbs.specs.KeyOrder.{key_cmp}
@@ -41,6 +41,11 @@ pub record IsSound (p : Parts) (s : Snapshot) : Type 0 where
 abbrev pub AreSound : Parts → List Snapshot → Type 0
 AreSound p [] = Unit {0}
 AreSound p (s ∷ ss) = IsSound p s × AreSound p ss
+
+-- each counter of each of these snapshots is positive
+abbrev pub ArePositive : List Snapshot → Type 0
+ArePositive [] = Unit {0}
+ArePositive (s ∷ ss) = ((key : Key) → get s.statistics key ≢ Some 0) × ArePositive ss
 
 -- no class without a value, no student without classes, and nothing in conflict
 unfoldable pub no_faults : Totals → Bool

@@ -7,7 +7,8 @@ ghost use Rattle.tt_state.specs.Values.{MayHave};
 ghost use Rattle.tt_state.specs.Refusals.{IsOfUnassign, IsOfSection, IsOfDrop};
 ghost use Rattle.tt_state.specs.Seats.{first_without_seat, may_have};
 ghost use Rattle.tt_state.specs.Snapshots.{in_order, list_in, opening_snapshot, value_in, with_list, with_value};
-ghost use Rattle.tt_state.specs.Sound.{AreSound, IsEnrolled, IsSound, is_ready, no_faults};
+ghost use Rattle.tt_state.specs.Sound.{ArePositive, AreSound, IsEnrolled, IsSound, is_ready, no_faults};
+ghost use Rattle.tt_state.specs.Kept.{counts_of};
 ghost use Rattle.tt_state.specs.Past.{HasPastOf};
 ghost use Rattle.tt_state.specs.History.{HasStep, before_step, desk_of, earlier, left_by, point_count, seated_by, stepped, moved_to, trail};
 
@@ -391,11 +392,14 @@ impl State {
         &self.statistics
     }
 
-    /// What holds of the present snapshot, the earlier ones, and those of the trail.
+    /// What holds of the present snapshot, the earlier ones, and those of the trail. Each counter is the
+    /// number of its entries, and no snapshot has a counter that is 0.
     pub fn soundness(&self)
         ensures present { IsSound self.now.problem self.now.present }
         ensures earlier { AreSound self.now.problem (earlier self.now) }
         ensures trail { AreSound self.now.problem (trail self.now) }
+        ensures counted { self.now.present.statistics ≡ counts_of self.now.entries }
+        ensures positive { ArePositive (earlier self.now) × ArePositive (trail self.now) }
     {
         let _ = &self.problem;
     }
