@@ -2,7 +2,7 @@
 ghost use Rattle.std.specs.Prelude.{◌≡◌, ◌≤◌, ◌<◌, ◌+◌, IfOk, OnOk, IsTrue, ℕ, List, vec_len, length};
 ghost use Rattle.std.specs.Io.KnownBytes.{IsAtEnd};
 ghost use Rattle.tt_io.specs.Causes.{HasCause, Asks, Writes};
-ghost use Rattle.tt_io.specs.Whole.{AllIs, ReadCause, WritesFront};
+ghost use Rattle.tt_io.specs.Whole.{AllIs, TakesAtMost, ReadCause, WritesFront};
 
 use crate::files::{Failed, Files};
 use crate::sink::Sink;
@@ -33,6 +33,8 @@ fn read_more<F: Files>(files: &mut F, bytes: &mut Vec<u8>) -> Result<usize, Read
     ensures ok { OnOk result
         ((all : List ℕ) → AllIs all bytes.old.items (F.left files.old) → AllIs all bytes.new.items (F.left files.new)) }
     ensures len { IfOk result (λ n. vec_len bytes.new ≡ vec_len bytes.old + n) }
+    ensures taken { (result ≡ Err ReadEnd.Failed → ⊥) →
+        (all : List ℕ) → AllIs all bytes.old.items (F.left files.old) → TakesAtMost (vec_len bytes.old + 65536) all (F.left files.new) }
     ensures long { result ≡ Err ReadEnd.TooLong → ⊥ }
     ensures end { IfOk result (λ n. n ≡ 0 → IsAtEnd (F.left files.new)) }
     ensures open { IsTrue (F.is_open files.new) }
@@ -50,8 +52,9 @@ fn read_more<F: Files>(files: &mut F, bytes: &mut Vec<u8>) -> Result<usize, Read
     }
 }
 
-/// The contents of a name, which are read whole where they are at most `limit` bytes. `open_file`
-/// is called once, first, with this name.
+/// The contents of a name, which are read whole where they are at most `limit` bytes. Of longer
+/// contents at most 65,536 bytes beyond the limit are taken. `open_file` is called once, first, with
+/// this name.
 pub fn read_whole<F: Files>(
     alloc: Global,
     files: &mut F,
@@ -63,6 +66,8 @@ pub fn read_whole<F: Files>(
     ensures most { IfOk result (λ v. vec_len v ≤ limit) }
     ensures long { result ≡ Err ReadEnd.TooLong →
         (all : List ℕ) → F.holds files.old name.now ≡ Some all → limit < length all }
+    ensures taken { (result ≡ Err ReadEnd.Failed → ⊥) →
+        (all : List ℕ) → F.holds files.old name.now ≡ Some all → TakesAtMost (limit + 65536) all (F.left files.new) }
     ensures asks { Asks (F.asked files.old) (F.asked files.new) name.now }
     ensures same { (n : List ℕ) → F.holds files.new n ≡ F.holds files.old n }
     ensures cause { ReadCause (F.faults files.old) (F.faults files.new) result }

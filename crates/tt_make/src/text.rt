@@ -67,4 +67,23 @@ mod tests {
         assert_eq!(rt; text.as_slice(), ONE_CLASS.as_bytes());
         Ok(())
     }
+
+    // The hash of a text, by FNV-1a on 64 bits.
+    fn hash_of(text: &[u8]) -> u64 {
+        let mut hash: u64 = 0xcbf2_9ce4_8422_2325;
+        for byte in text {
+            hash = (hash ^ u64::from(*byte)).wrapping_mul(0x0100_0000_01b3);
+        }
+        hash
+    }
+
+    // With closed rooms, all nineteen types, and three classes in the last course. The numbers are
+    // those of the text that a program apart from this one makes.
+    #[test]
+    fn makes_the_text_of_many_classes(rt: HostRuntime) -> Result<(), Fail> {
+        let text = make_text(rt.alloc(), 7, 87)?;
+        assert_eq!(rt; text.len(), 67_936);
+        assert_eq!(rt; hash_of(&text), 3_853_681_403_258_161_583);
+        Ok(())
+    }
 }

@@ -13,6 +13,19 @@ pub enum NoArguments {
     Memory,
 }
 
+impl NoArguments {
+    /// The status that the program ends with.
+    pub fn status(self) -> u8
+        ensures absent { self ≡ NoArguments.Absent → result ≡ 9 }
+        ensures memory { self ≡ NoArguments.Memory → result ≡ 7 }
+    {
+        match self {
+            NoArguments::Absent => 9,
+            NoArguments::Memory => 7,
+        }
+    }
+}
+
 impl From<AllocError> for NoArguments {
     fn from(_: AllocError) -> NoArguments {
         NoArguments::Memory

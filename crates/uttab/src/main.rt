@@ -4,7 +4,7 @@
 mod arguments;
 mod reason;
 
-use arguments::{NoArguments, arguments};
+use arguments::arguments;
 use reason::reason_of;
 use std::process::ExitCode;
 use tt_io::{RealFiles, StdSink};
@@ -19,8 +19,7 @@ fn main(rt: HostRuntime) -> ExitCode {
             &mut RealFiles::new(rt),
             &mut StdSink::new(rt),
         ),
-        Err(NoArguments::Memory) => 7,
-        Err(NoArguments::Absent) => 9,
+        Err(end) => end.status(),
     };
     if let Some(reason) = reason_of(status) {
         // Where standard error takes nothing, the status alone says it.
