@@ -19,7 +19,7 @@ unfoldable pub full_price : Parts → Option Timetable → Snapshot → (class :
 full_price p published s class v = weight_of p s class v ∷ strays_in p published class v ∷ total_with p s class v ∷ []
 
 unfoldable pub full_choice : Parts → Option Timetable → Snapshot → (class : ℕ) → Option Value
-full_choice p published s class = first_least (full_price p published s class) (open_values p s class)
+full_choice p published s class = first_least (full_price p published s class) (open_values p class)
 
 abbrev pub moved_in : Parts → Option Timetable → Snapshot → ℕ
 moved_in p None s = 0
