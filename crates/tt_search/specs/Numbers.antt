@@ -12,9 +12,11 @@ use Rattle.tt_state.specs.Forced.{forced}
 use Rattle.tt_state.specs.Snapshots.{Snapshot}
 use Rattle.tt_state.specs.Values.{blocked_of}
 
+-- the numbers of a price
 abbrev pub price_numbers : Price → List ℕ
 price_numbers r = r.weight ∷ (if r.strays then 1 else 0) ∷ r.total ∷ []
 
+-- the numbers of a rank
 abbrev pub rank_numbers : Rank → List ℕ
 rank_numbers r = r.unplaced ∷ r.hard ∷ r.moved ∷ r.total ∷ []
 

@@ -28,6 +28,7 @@ has_open_value p class = list_any (is_open p class) (domain_of p class)
 unfoldable pub hopeful : Parts → List ℕ
 hopeful p = filter (has_open_value p) (range_with_len 0 (length p.classes))
 
+-- the class has no value
 abbrev pub is_unplaced : Snapshot → (class : ℕ) → Bool
 is_unplaced s class = is_none (value_in s class)
 
@@ -44,6 +45,7 @@ abbrev pub toll_by : Snapshot → (class : ℕ) → Value → (other : ℕ) → 
 toll_by s class v other None = 1
 toll_by s class v other (Some had) = 1 + counter_of s (key_of class v other had)
 
+-- the same, where the other has what it has in the snapshot
 abbrev pub toll_of : Snapshot → (class : ℕ) → Value → (other : ℕ) → ℕ
 toll_of s class v other = toll_by s class v other (value_in s other)
 
