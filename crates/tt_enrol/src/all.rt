@@ -1,4 +1,4 @@
-ghost use Rattle.std.specs.Prelude.{◌≡◌, ◌+◌, ◌<◌, ◌≤◌, ◌∷◌, [], None, Some, IfOk, OnOk, OnErr, cond, false, length};
+ghost use Rattle.std.specs.Prelude.{◌≡◌, ◌+◌, ◌<◌, ◌≤◌, ◌∷◌, [], None, Some, IfOk, IsSome, OnOk, OnErr, cond, false, length};
 ghost use Rattle.tt_state.specs.History.{before_step, desk_of, earlier, stepped, moved_to, with_taken};
 ghost use Rattle.tt_state.specs.Snapshots.{in_order, list_in, with_list};
 ghost use Rattle.tt_enrol.specs.Enrolled.{enrolled, lacks_classes, all_enrolled, with_student};
@@ -78,7 +78,7 @@ fn seat_and_count(
 }
 
 /// Enrols a student who has no class, in the last step, where there is an enrolment; whether there
-/// is one.
+/// is one. Want of memory comes only where there is one.
 fn enrol_one(
     state: &mut State,
     known: &mut Known,
@@ -95,6 +95,7 @@ fn enrol_one(
     ensures known { OnOk result (IsKnown state.new.problem state.new.present.plan state.new.present.lists known.new) }
     ensures room { HasRoom state.old.problem buffers.new }
     ensures step { IsWithinStep state.old state.new }
+    ensures memory { OnErr result (IsSome (enrolled state.old.problem state.old.present student)) }
     ensures err { OnErr result (state.new ≡ state.old) }
 {
     state.problem().validity();

@@ -26,7 +26,7 @@ price_same p (Some published) s c v w = refl
 
 pub choice_same : (p : Parts) (published : Option Timetable) (s : Snapshot) (c : ℕ) → full_choice p published s c ≡ choice_of p published s c
 unfolding full_choice choice_of
-choice_same p published s c = least_same (full_price p published s c) (price_of p published s c) (price_same p published s c) None (open_values p s c)
+choice_same p published s c = least_same (full_price p published s c) (price_of p published s c) (price_same p published s c) None (open_values p c)
 
 rank_same : (p : Parts) (published : Option Timetable) (s t : Snapshot) → comes_before (full_rank p published s) (full_rank p published t) ≡ comes_before (rank_of p published s) (rank_of p published t)
 unfolding full_rank rank_of

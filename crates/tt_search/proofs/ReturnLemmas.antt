@@ -1,11 +1,8 @@
 -- A student who returns to the published list.
-use Rattle.std.proofs.Common.{◌≡◌, ℕ, suc, ◌+◌, ◌-◌, ◌<◌, ◌≤◌, Bool, true, false, Option, Some, None, Result, Err, List, [], ◌∷◌, length, refl, ap, ◌∙◌, arith}
+use Rattle.std.proofs.Common.{◌≡◌, ℕ, suc, ◌+◌, ◌-◌, ◌<◌, ◌≤◌, Bool, true, false, Option, Some, None, Result, Err, List, [], ◌∷◌, length, refl, arith}
 use Rattle.std.specs.Prelude.{◌==◌, ◌↔◌, fold, slice_set, is_some, if◌then◌else◌}
 use Rattle.std.specs.List.{range_with_len}
 use Rattle.std.proofs.lemmas.List.{set-get_or, get_or-set_other}
-use Rattle.std.specs.FinMap.{FinMap}
-use Rattle.tt_bits.specs.declared.times.Value.{Value}
-use Rattle.tt_cbs.specs.KeyOrder.{key_cmp}
 use Rattle.tt_problem.specs.declared.parts.Parts.{Parts}
 use Rattle.tt_plan.specs.Domain.{domain_of}
 use Rattle.tt_roster.specs.Lists.{list_of}
@@ -14,7 +11,6 @@ use Rattle.tt_solution.specs.Timetable.{Timetable, has_published, published_at}
 use Rattle.tt_solution.specs.Published.{is_same}
 use Rattle.tt_state.specs.declared.state.Refusal.{Refusal}
 use Rattle.tt_state.specs.declared.state.Refusal.TheVariants.{BadSection, NoSeat}
-use Rattle.tt_state.specs.Snapshots.{Snapshot}
 use Rattle.tt_state.specs.Seats.{first_without_seat, may_have}
 use Rattle.tt_search.specs.Recalled.{may_return, recalled_value, with_return}
 use Rattle.tt_search.proofs.ListLemmas.{find_none}
@@ -39,19 +35,16 @@ pub nothing_to_return : (p : Parts) (t : Timetable) (lists : List (List ℕ)) (s
     → with_return p t lists student ≡ lists
 nothing_to_return p t lists student none empty = with_by lists student (list_of t.lists student) (may_return p t lists student) none empty
 
-abbrev made_of : List (Option Value) → List (List ℕ) → FinMap key_cmp ℕ → Snapshot
-made_of plan lists statistics = record { plan = plan; lists = lists; statistics = statistics }
-
--- a snapshot is what its parts are
-pub same_snapshot : (s t : Snapshot) → s.plan ≡ t.plan → s.lists ≡ t.lists → s.statistics ≡ t.statistics → s ≡ t
-same_snapshot s t plan lists statistics =
-    ap (λ x. made_of x s.lists s.statistics) plan ∙ ap (λ x. made_of t.plan x s.statistics) lists ∙ ap (made_of t.plan t.lists) statistics
-
 -- the student may have the list
 pub returned : (p : Parts) (t : Timetable) (lists : List (List ℕ)) (student : ℕ) (list : List ℕ) → list_of t.lists student ≡ list → 0 < length list
     → may_have p student list ≡ true → first_without_seat p lists student list ≡ None → with_return p t lists student ≡ slice_set lists student list
 returned p t lists student [] is some may seats = absurd (omega arith)
 returned p t lists student (a ∷ list) is some may seats = rw (is, may, seats) refl
+
+pub may_by : (p : Parts) (t : Timetable) (lists : List (List ℕ)) (student : ℕ) (list : List ℕ) → list_of t.lists student ≡ list → 0 < length list
+    → may_have p student list ≡ true → first_without_seat p lists student list ≡ None → may_return p t lists student ≡ true
+may_by p t lists student [] is some may seats = absurd (omega arith)
+may_by p t lists student (a ∷ list) is some may seats = rw (is, may, seats) refl
 
 -- the student may not: the list is no valid enrolment
 pub not_enrolled : (p : Parts) (t : Timetable) (lists : List (List ℕ)) (student : ℕ) (list : List ℕ) → list_of t.lists student ≡ list

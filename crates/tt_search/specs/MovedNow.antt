@@ -7,6 +7,7 @@ use Rattle.tt_solution.specs.Timetable.{Timetable}
 use Rattle.tt_solution.specs.Published.{is_moved}
 use Rattle.tt_search.specs.declared.moving.MovedClasses.{MovedClasses}
 
+-- 1 for a flag that is set, else 0
 abbrev pub flag : Bool → ℕ
 flag b = if b then 1 else 0
 

@@ -1,5 +1,6 @@
 -- Proofs alone need it. The numbers of prices and ranks, in the order in which they are compared.
 use Rattle.std.specs.Prelude.{ℕ, ◌≡◌, Bool, List, [], ◌∷◌, Option, Some, None, slice_index_or, if◌then◌else◌}
+use Rattle.tt_plan.specs.Domain.{IsOfDomain}
 use Rattle.std.specs.Option.{is_none}
 use Rattle.tt_bits.specs.declared.times.Value.{Value}
 use Rattle.tt_problem.specs.declared.parts.Parts.{Parts}
@@ -9,12 +10,20 @@ use Rattle.tt_search.specs.declared.turn.Offer.{Offer}
 use Rattle.tt_search.specs.declared.turn.Move.{Move}
 use Rattle.tt_state.specs.Forced.{forced}
 use Rattle.tt_state.specs.Snapshots.{Snapshot}
+use Rattle.tt_state.specs.Values.{blocked_of}
 
+-- the numbers of a price
 abbrev pub price_numbers : Price → List ℕ
 price_numbers r = r.weight ∷ (if r.strays then 1 else 0) ∷ r.total ∷ []
 
+-- the numbers of a rank
 abbrev pub rank_numbers : Rank → List ℕ
 rank_numbers r = r.unplaced ∷ r.hard ∷ r.moved ∷ r.total ∷ []
+
+-- the value is of the class's domain, and it isn't blocked
+pub record IsOpenValue (p : Parts) (class : ℕ) (v : Value) : Type 0 where
+  pub domain : IsOfDomain p class v
+  pub free : blocked_of p class v ≡ None
 
 -- an offer has the price of its value, and the value is one of these
 pub record IsOffer (numbers : Value → List ℕ) (Of : Value → Type 0) (o : Offer) : Type 0 where

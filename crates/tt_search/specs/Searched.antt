@@ -16,6 +16,7 @@ use Rattle.tt_search.specs.Turns.{turn_of}
 unfoldable pub words_of : (seed : ℕ) → Stream
 words_of seed = stream_of (steps_u32 pcg32) (started 64 multiplier_64 seed (increment_of 64 1))
 
+-- a snapshot, if there is one, and those that come after it
 abbrev pub then_on : Option Snapshot → (Snapshot → List Snapshot) → List Snapshot
 then_on None f = []
 then_on (Some s) f = s ∷ f s

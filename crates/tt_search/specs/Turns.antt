@@ -13,27 +13,28 @@ use Rattle.tt_state.specs.Forced.{forced, key_of}
 use Rattle.tt_search.specs.Least.{first_least}
 
 -- a value of a class that isn't blocked
-abbrev pub is_open : Parts → Snapshot → (class : ℕ) → Value → Bool
-is_open p s class v = is_none (blocked_of p class v)
+abbrev pub is_open : Parts → (class : ℕ) → Value → Bool
+is_open p class v = is_none (blocked_of p class v)
 
 -- the values of a class that aren't blocked, in the order of its domain
-abbrev pub open_values : Parts → Snapshot → (class : ℕ) → List Value
-open_values p s class = filter (is_open p s class) (domain_of p class)
+abbrev pub open_values : Parts → (class : ℕ) → List Value
+open_values p class = filter (is_open p class) (domain_of p class)
 
 -- the class has a value that isn't blocked
-abbrev pub has_open_value : Parts → Snapshot → (class : ℕ) → Bool
-has_open_value p s class = list_any (is_open p s class) (domain_of p class)
+abbrev pub has_open_value : Parts → (class : ℕ) → Bool
+has_open_value p class = list_any (is_open p class) (domain_of p class)
 
 -- the classes that have an open value, in the problem's order
-unfoldable pub hopeful : Parts → Snapshot → List ℕ
-hopeful p s = filter (has_open_value p s) (range_with_len 0 (length p.classes))
+unfoldable pub hopeful : Parts → List ℕ
+hopeful p = filter (has_open_value p) (range_with_len 0 (length p.classes))
 
+-- the class has no value
 abbrev pub is_unplaced : Snapshot → (class : ℕ) → Bool
 is_unplaced s class = is_none (value_in s class)
 
 -- the candidates: the unplaced classes that have an open value, in the problem's order
 abbrev pub candidates : Parts → Snapshot → List ℕ
-candidates p s = filter (is_unplaced s) (hopeful p s)
+candidates p s = filter (is_unplaced s) (hopeful p)
 
 -- the candidate that a random word of 32 bits draws: number `word * count / 2^32`, counted from 0
 abbrev pub drawn : (word : ℕ) → List ℕ → Option ℕ
@@ -44,6 +45,7 @@ abbrev pub toll_by : Snapshot → (class : ℕ) → Value → (other : ℕ) → 
 toll_by s class v other None = 1
 toll_by s class v other (Some had) = 1 + counter_of s (key_of class v other had)
 
+-- the same, where the other has what it has in the snapshot
 abbrev pub toll_of : Snapshot → (class : ℕ) → Value → (other : ℕ) → ℕ
 toll_of s class v other = toll_by s class v other (value_in s other)
 
@@ -63,7 +65,7 @@ price_of p (Some published) s class v = weight_of p s class v ∷ strays p publi
 
 -- the value chosen for a class: the first of its open values that has the least numbers
 unfoldable pub choice_of : Parts → Option Timetable → Snapshot → (class : ℕ) → Option Value
-choice_of p published s class = first_least (price_of p published s class) (open_values p s class)
+choice_of p published s class = first_least (price_of p published s class) (open_values p class)
 
 -- the snapshot after a turn with a random word, none where there is no candidate
 unfoldable pub turn_of : Parts → Option Timetable → (word : ℕ) → Snapshot → Option Snapshot

@@ -1,12 +1,13 @@
-ghost use Rattle.std.specs.Prelude.{◌≡◌, ◌<◌, ◌∷◌, [], OnOk, OnErr, IfSome, IsTrue, length, replicate};
+ghost use Rattle.std.specs.Prelude.{◌≡◌, ◌<◌, [], true, OnOk, OnErr, IfSome, IsTrue, length, replicate};
 ghost use Rattle.tt_state.specs.Snapshots.{with_list};
 ghost use Rattle.tt_plan.specs.Domain.{IsOfDomain};
 ghost use Rattle.tt_roster.specs.Lists.{list_of};
 ghost use Rattle.tt_solution.specs.Timetable.{IsTimetableOf};
-ghost use Rattle.tt_state.specs.History.{before_step, desk_of, earlier, stepped, with_taken};
-ghost use Rattle.tt_search.specs.Recalled.{recalled, recalled_lists, recalled_plan, recalled_value, with_return};
-ghost use Rattle.tt_search.specs.Changed.{with_lists, with_plan};
+ghost use Rattle.tt_state.specs.History.{desk_of, earlier, stepped, with_taken};
+ghost use Rattle.tt_search.specs.Recalled.{may_return, recalled, recalled_lists, recalled_plan, recalled_value, with_return};
+ghost use Rattle.tt_search.specs.Changed.{IsWithinStep, with_lists, with_plan};
 
+use crate::steps::{go_back, want_of_memory};
 use std::alloc::{AllocError, Global};
 use tt_bits::Value;
 use tt_plan::{domain_size, value_at};
@@ -19,27 +20,26 @@ use tt_state::{Refusal, State};
 /// published becomes unplaced. All students lose their lists, and then each in order gets the
 /// published one, where it is a valid enrolment and each class has a seat. The statistics stay. Where
 /// memory is wanting, only the conflict set found last may differ.
-pub fn recall(alloc: Global, state: &mut State, published: &Published) -> Result<(), AllocError>
+pub fn recall(_alloc: Global, state: &mut State, published: &Published) -> Result<(), AllocError>
     requires { IsTimetableOf state.old.problem published.now }
     ensures desk { OnOk result (desk_of state.new ≡ stepped (desk_of state.old) (recalled state.old.problem published.now state.old.present)) }
     ensures err { OnErr result (with_taken state.new [] ≡ with_taken state.old []) }
 {
-    let _ = alloc;
     state.begin()?;
-    let brought = bring_back(state, published);
-    if brought.is_err() {
-        let _ = state.undo();
+    match bring_back(state, published) {
+        Ok(()) => Ok(()),
+        Err(error) => {
+            go_back(state);
+            Err(error)
+        }
     }
-    brought
 }
 
 /// Gives each class and each student what is published, in the last step.
 fn bring_back(state: &mut State, published: &Published) -> Result<(), AllocError>
     requires belongs { IsTimetableOf state.old.problem published.now }
     requires step { 0 < length (earlier state.old) }
-    ensures problem { state.new.problem ≡ state.old.problem }
-    ensures earlier { earlier state.new ≡ earlier state.old }
-    ensures entries { before_step state.new.entries ≡ before_step state.old.entries }
+    ensures step { IsWithinStep state.old state.new }
     ensures present { OnOk result (state.new.present ≡ recalled state.old.problem published.now state.old.present) }
 {
     place_all(state, published)?;
@@ -51,9 +51,7 @@ fn bring_back(state: &mut State, published: &Published) -> Result<(), AllocError
 fn place_all(state: &mut State, published: &Published) -> Result<(), AllocError>
     requires belongs { IsTimetableOf state.old.problem published.now }
     requires step { 0 < length (earlier state.old) }
-    ensures problem { state.new.problem ≡ state.old.problem }
-    ensures earlier { earlier state.new ≡ earlier state.old }
-    ensures entries { before_step state.new.entries ≡ before_step state.old.entries }
+    ensures step { IsWithinStep state.old state.new }
     ensures present { OnOk result (state.new.present ≡ with_plan state.old.present (recalled_plan state.old.problem published.now)) }
 {
     state.soundness();
@@ -87,9 +85,7 @@ fn published_value(problem: &Problem, published: &Published, class: u32) -> Opti
 /// Takes each student out of each class, in the last step.
 fn empty_all(state: &mut State) -> Result<(), AllocError>
     requires { 0 < length (earlier state.old) }
-    ensures problem { state.new.problem ≡ state.old.problem }
-    ensures earlier { earlier state.new ≡ earlier state.old }
-    ensures entries { before_step state.new.entries ≡ before_step state.old.entries }
+    ensures step { IsWithinStep state.old state.new }
     ensures present { OnOk result (state.new.present ≡ with_lists state.old.present (replicate (length state.old.problem.students) [])) }
 {
     state.soundness();
@@ -103,9 +99,7 @@ fn empty_all(state: &mut State) -> Result<(), AllocError>
 fn empty_list(state: &mut State, student: u32) -> Result<(), AllocError>
     requires student { student < length state.old.problem.students }
     requires step { 0 < length (earlier state.old) }
-    ensures problem { state.new.problem ≡ state.old.problem }
-    ensures earlier { earlier state.new ≡ earlier state.old }
-    ensures entries { before_step state.new.entries ≡ before_step state.old.entries }
+    ensures step { IsWithinStep state.old state.new }
     ensures present { OnOk result (state.new.present ≡ with_list state.old.present student []) }
 {
     state.soundness();
@@ -114,7 +108,7 @@ fn empty_list(state: &mut State, student: u32) -> Result<(), AllocError>
     }
     match state.section_step(student, &[]) {
         Ok(()) => Ok(()),
-        Err(_) => Err(AllocError),
+        Err(refusal) => Err(want_of_memory(refusal)),
     }
 }
 
@@ -132,9 +126,7 @@ fn seat_all(state: &mut State, published: &Published) -> Result<(), AllocError>
     requires belongs { IsTimetableOf state.old.problem published.now }
     requires step { 0 < length (earlier state.old) }
     requires empty { state.old.present.lists ≡ replicate (length state.old.problem.students) [] }
-    ensures problem { state.new.problem ≡ state.old.problem }
-    ensures earlier { earlier state.new ≡ earlier state.old }
-    ensures entries { before_step state.new.entries ≡ before_step state.old.entries }
+    ensures step { IsWithinStep state.old state.new }
     ensures present { OnOk result (state.new.present ≡ with_lists state.old.present (recalled_lists state.old.problem published.now)) }
 {
     for student in 0..state.problem().student_count() {
@@ -143,16 +135,16 @@ fn seat_all(state: &mut State, published: &Published) -> Result<(), AllocError>
     Ok(())
 }
 
-/// Gives a student without a class the published list, where he may have it, in the last step.
+/// Gives a student without a class the published list, where he may have it, in the last step. Want of
+/// memory comes only there.
 fn seat(state: &mut State, published: &Published, student: u32) -> Result<(), AllocError>
     requires belongs { IsTimetableOf state.old.problem published.now }
     requires student { student < length state.old.problem.students }
     requires step { 0 < length (earlier state.old) }
     requires empty { list_of state.old.present.lists student ≡ [] }
-    ensures problem { state.new.problem ≡ state.old.problem }
-    ensures earlier { earlier state.new ≡ earlier state.old }
-    ensures entries { before_step state.new.entries ≡ before_step state.old.entries }
+    ensures step { IsWithinStep state.old state.new }
     ensures present { OnOk result (state.new.present ≡ with_lists state.old.present (with_return state.old.problem published.now state.old.present.lists student)) }
+    ensures memory { OnErr result (may_return state.old.problem published.now state.old.present.lists student ≡ true) }
 {
     let classes = published.classes_of(student);
     if classes.is_empty() {
@@ -162,6 +154,6 @@ fn seat(state: &mut State, published: &Published, student: u32) -> Result<(), Al
         Ok(()) => Ok(()),
         Err(Refusal::BadSection) => Ok(()),
         Err(Refusal::NoSeat { .. }) => Ok(()),
-        Err(_) => Err(AllocError),
+        Err(refusal) => Err(want_of_memory(refusal)),
     }
 }

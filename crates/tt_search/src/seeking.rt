@@ -1,18 +1,21 @@
-ghost use Rattle.std.specs.Prelude.{◌≡◌, ◌+◌, ◌≤◌, ◌<◌, ◌∷◌, [], true, false, Some, IfOk, OnOk, OnErr, length, None, Option, ℕ, if◌then◌else◌};
+ghost use Rattle.std.specs.Prelude.{◌≡◌, ◌+◌, ◌≤◌, ◌<◌, ◌∷◌, ◌++◌, [], true, false, Some, IfOk, OnOk, OnErr, length, None, Option, ℕ, if◌then◌else◌};
 ghost use Rattle.std.specs.Option.{option_copied, ForSome};
 ghost use Rattle.tt_solution.specs.Timetable.{IsTimetableOf, Timetable};
-ghost use Rattle.tt_state.specs.History.{desk_of, earlier, before_step, stepped, trail, with_taken};
+ghost use Rattle.tt_state.specs.History.{desk_of, earlier, moved_to, stepped, trail, with_taken};
+ghost use Rattle.tt_state.specs.Values.{conflicts_of};
 ghost use Rattle.tt_search.specs.Least.{comes_before, IsFirstLeast};
 ghost use Rattle.tt_search.specs.Turns.{hopeful};
 ghost use Rattle.tt_search.specs.Full.{full_rank, full_best, moved_in};
 ghost use Rattle.tt_search.specs.MovedNow.{AreMoved};
 ghost use Rattle.tt_search.specs.Searched.{rank_of, way_of, best_of, turns_of, searched, repaired};
-ghost use Rattle.tt_search.specs.Numbers.{rank_numbers};
+ghost use Rattle.tt_search.specs.Numbers.{IsOpenValue, forced_by, rank_numbers};
+ghost use Rattle.tt_search.specs.Changed.{IsWithinStep};
 ghost use Rattle.tt_search.specs.UnderWay.{IsUnderWay};
 
 use crate::moving::MovedClasses;
 use crate::price::{Rank, rank_now};
-use crate::turn::{hopeful_classes, next_move};
+use crate::steps::{go_back, want_of_memory};
+use crate::turn::{Move, hopeful_classes, next_move};
 use rand_core::Rng;
 use rand_pcg::Lcg64Xsh32;
 use std::alloc::{AllocError, Global};
@@ -56,6 +59,21 @@ fn better(best: Best, now: Best) -> Best
     }
 }
 
+/// Forces the class of a move to its value, in the last step.
+fn make(state: &mut State, next: Move) -> Result<(), AllocError>
+    requires open { IsOpenValue state.old.problem next.class next.value }
+    requires step { 0 < length (earlier state.old) }
+    ensures desk { OnOk result (desk_of state.new ≡ moved_to (desk_of state.old) (forced_by state.old.problem state.old.present next)) }
+    ensures trail { OnOk result (trail state.new ≡ trail state.old ++ state.new.present ∷ []) }
+    ensures taken { OnOk result (state.new.taken ≡ conflicts_of state.old.problem state.old.present next.class next.value) }
+    ensures step { IsWithinStep state.old state.new }
+{
+    match state.force_step(next.class, next.value) {
+        Ok(()) => Ok(()),
+        Err(refusal) => Err(want_of_memory(refusal)),
+    }
+}
+
 /// Makes turns in the last step, until so many are made or there is no candidate.
 fn walk(
     state: &mut State,
@@ -66,14 +84,12 @@ fn walk(
     seed: u64,
 ) -> Result<Walked, AllocError>
     requires belongs { ForSome (option_copied published) (IsTimetableOf state.old.problem) }
-    requires hopeful { classes.now ≡ hopeful state.old.problem state.old.present }
+    requires hopeful { classes.now ≡ hopeful state.old.problem }
     requires few { length classes.now ≤ 20000 }
     requires moved { AreMoved state.old.problem (option_copied published) state.old.present.plan moved.old [] }
     requires step { 0 < length (earlier state.old) }
     requires trail { trail state.old ≡ state.old.present ∷ [] }
-    ensures problem { state.new.problem ≡ state.old.problem }
-    ensures earlier { earlier state.new ≡ earlier state.old }
-    ensures entries { before_step state.new.entries ≡ before_step state.old.entries }
+    ensures step { IsWithinStep state.old state.new }
     ensures way { IfOk result (λ walked. let aim = option_copied published.entry in let start = state.old in IsUnderWay (full_rank start.problem aim) (trail state.new) [] walked.best walked.made (full_best start.problem aim turns seed start.present) (turns_of start.problem aim turns seed start.present)) }
 {
     let mut words = Lcg64Xsh32::new(seed, 1);
@@ -82,9 +98,7 @@ fn walk(
         let Some(next) = next_move(state, published, classes, words.next_u32()) else {
             return Ok(Walked { best, made });
         };
-        let Ok(()) = state.force_step(next.class, next.value) else {
-            return Err(AllocError);
-        };
+        make(state, next)?;
         moved.follow(state, published, next.class);
         best = better(best, moment(state, moved.count));
     }
@@ -108,7 +122,7 @@ fn seek(
     ensures present { OnErr result (state.new.present ≡ state.old.present) }
     ensures entries { OnErr result (state.new.entries ≡ state.old.entries) }
 {
-    let classes = hopeful_classes(alloc, state)?;
+    let classes = hopeful_classes(alloc, state.problem())?;
     let mut moved = MovedClasses::new(alloc, state, published)?;
     state.begin()?;
     match walk(
@@ -124,7 +138,7 @@ fn seek(
             Ok(walked.made)
         }
         Err(e) => {
-            let _ = state.undo();
+            go_back(state);
             Err(e)
         }
     }

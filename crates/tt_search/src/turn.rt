@@ -9,13 +9,14 @@ ghost use Rattle.tt_state.specs.Forced.{forced};
 ghost use Rattle.tt_search.specs.Turns.{hopeful, is_open, has_open_value, is_unplaced, candidates, drawn, toll_of, weight_of, choice_of, turn_of};
 ghost use Rattle.tt_search.specs.Least.{better, least_after};
 ghost use Rattle.tt_search.specs.Full.{full_price, full_choice};
-ghost use Rattle.tt_search.specs.Numbers.{price_numbers, IsPriced, is_free, offered, forced_by};
+ghost use Rattle.tt_search.specs.Numbers.{price_numbers, IsOpenValue, IsPriced, is_free, offered, forced_by};
 
 use crate::price::{Price, strays};
 use std::alloc::{AllocError, Global};
 use tt_bits::{Key, Value};
 use tt_clash::blocked;
 use tt_plan::{domain_size, spot, value_at};
+use tt_problem::Problem;
 use tt_solution::Published;
 use tt_state::State;
 
@@ -35,13 +36,13 @@ pub(crate) struct Offer {
 
 /// The classes that have an open value, in the problem's order.
 #[tactic(auto, unfolding(crate::specs::Turns::hopeful))]
-pub(crate) fn hopeful_classes(alloc: Global, state: &State) -> Result<Vec<u32>, AllocError>
-    ensures hopeful { IfOk result (λ classes. classes.items ≡ hopeful state.now.problem state.now.present) }
+pub(crate) fn hopeful_classes(alloc: Global, problem: &Problem) -> Result<Vec<u32>, AllocError>
+    ensures hopeful { IfOk result (λ classes. classes.items ≡ hopeful problem.now) }
     ensures few { IfOk result (λ classes. length classes.items ≤ 20000) }
 {
     let mut classes = Vec::new(alloc);
-    for class in 0..state.problem().class_count() {
-        if has_open_value(state, class) {
+    for class in 0..problem.class_count() {
+        if has_open_value(problem, class) {
             classes.push(class)?;
         }
     }
@@ -50,12 +51,12 @@ pub(crate) fn hopeful_classes(alloc: Global, state: &State) -> Result<Vec<u32>, 
 
 /// Whether a class has a value that isn't blocked.
 #[tactic(auto, using(crate::proofs::RangeLemmas::drop_at))]
-fn has_open_value(state: &State, class: u32) -> bool
-    requires { class < length state.now.problem.classes }
-    ensures { result ≡ has_open_value state.now.problem state.now.present class }
+fn has_open_value(problem: &Problem, class: u32) -> bool
+    requires { class < length problem.now.classes }
+    ensures { result ≡ has_open_value problem.now class }
 {
-    for k in 0..domain_size(state.problem(), class) {
-        if is_open(state, class, value_at(state.problem(), class, k)) {
+    for k in 0..domain_size(problem, class) {
+        if is_open(problem, class, value_at(problem, class, k)) {
             return true;
         }
     }
@@ -64,12 +65,11 @@ fn has_open_value(state: &State, class: u32) -> bool
 
 /// Whether a value isn't blocked.
 #[tactic(auto, unfolding(tt_state::specs::Values::blocked_of))]
-fn is_open(state: &State, class: u32, value: Value) -> bool
-    requires { IsOfDomain state.now.problem class value }
-    ensures value { result ≡ is_open state.now.problem state.now.present class value }
-    ensures free { IsTrue result → blocked_of state.now.problem class value ≡ None }
+fn is_open(problem: &Problem, class: u32, value: Value) -> bool
+    requires { IsOfDomain problem.now class value }
+    ensures value { result ≡ is_open problem.now class value }
+    ensures free { IsTrue result → blocked_of problem.now class value ≡ None }
 {
-    let problem = state.problem();
     blocked(problem, class, spot(problem, class, value)).is_none()
 }
 
@@ -162,13 +162,12 @@ fn look_at(
     best: Option<Offer>,
 ) -> Option<Offer>
     requires belongs { ForSome (option_copied published) (IsTimetableOf state.old.problem) }
-    requires value { IsOfDomain state.old.problem class value }
-    requires free { blocked_of state.old.problem class value ≡ None }
-    requires priced { IsPriced (full_price state.old.problem (option_copied published) state.old.present class) (IsOfDomain state.old.problem class) best }
+    requires value { IsOpenValue state.old.problem class value }
+    requires priced { IsPriced (full_price state.old.problem (option_copied published) state.old.present class) (IsOpenValue state.old.problem class) best }
     ensures problem { state.new.problem ≡ state.old.problem }
     ensures present { state.new.present ≡ state.old.present }
     ensures entries { state.new.entries ≡ state.old.entries }
-    ensures priced { IsPriced (full_price state.old.problem (option_copied published.entry) state.old.present class) (IsOfDomain state.old.problem class) result }
+    ensures priced { IsPriced (full_price state.old.problem (option_copied published.entry) state.old.present class) (IsOpenValue state.old.problem class) result }
     ensures better { offered result ≡ Some (better (full_price state.old.problem (option_copied published.entry) state.old.present class) (offered best) value) }
 {
     state.find_conflicts(class, value);
@@ -212,12 +211,12 @@ fn choice(state: &mut State, published: Option<&Published>, class: u32) -> Optio
     ensures present { state.new.present ≡ state.old.present }
     ensures entries { state.new.entries ≡ state.old.entries }
     ensures choice { result ≡ choice_of state.old.problem (option_copied published.entry) state.old.present class }
-    ensures domain { IfSome result (IsOfDomain state.old.problem class) }
+    ensures open { IfSome result (IsOpenValue state.old.problem class) }
 {
     let mut best: Option<Offer> = None;
     for k in 0..domain_size(state.problem(), class) {
         let value = value_at(state.problem(), class, k);
-        if is_open(state, class, value) {
+        if is_open(state.problem(), class, value) {
             best = look_at(state, published, class, value, best);
         }
     }
@@ -233,13 +232,13 @@ pub(crate) fn next_move(
     word: u32,
 ) -> Option<Move>
     requires belongs { ForSome (option_copied published) (IsTimetableOf state.old.problem) }
-    requires hopeful { classes.now ≡ hopeful state.old.problem state.old.present }
+    requires hopeful { classes.now ≡ hopeful state.old.problem }
     requires few { length classes.now ≤ 20000 }
     ensures problem { state.new.problem ≡ state.old.problem }
     ensures present { state.new.present ≡ state.old.present }
     ensures entries { state.new.entries ≡ state.old.entries }
     ensures turn { turn_of state.old.problem (option_copied published.entry) word state.old.present ≡ option_map (forced_by state.old.problem state.old.present) result }
-    ensures domain { IfSome result (λ m. IsOfDomain state.old.problem m.class m.value) }
+    ensures open { IfSome result (λ m. IsOpenValue state.old.problem m.class m.value) }
 {
     let class = drawn_class(state, classes, word)?;
     let value = choice(state, published, class)?;

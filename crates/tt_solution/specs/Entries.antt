@@ -29,6 +29,7 @@ pub record IsEntry (c : code.Context.Context) (e : code.Entry.Entry) : Type 0 wh
   pub class : IsAmong c.classes e.class
   pub students : All (IsAmong c.students) e.students
 
+-- the same of each of some
 pub record AreEntries (c : code.Context.Context) (entries : List code.Entry.Entry) : Type 0 where
   pub each : All (IsEntry c) entries
 
@@ -37,5 +38,6 @@ pub record IsEntryOf (p : Parts) (e : Entry) : Type 0 where
   pub class : e.class < length p.classes
   pub students : All (λ student. student < length p.students) e.students
 
+-- the same of each of some
 pub record AreEntriesOf (p : Parts) (entries : List Entry) : Type 0 where
   pub each : All (IsEntryOf p) entries

@@ -1,4 +1,4 @@
-use Rattle.std.proofs.Common.{◌≡◌, ℕ, List, Some, take, ap, sym, ◌∙◌, subst}
+use Rattle.std.proofs.Common.{◌≡◌, ℕ, List, Some, take, refl, ap, sym, ◌∙◌, subst}
 use Rattle.tt_problem.specs.Valid.{IsValid}
 use Rattle.tt_enrol.specs.Students.{classes_found}
 use Rattle.tt_enrol.proofs.EnrolLemmas.{found_fits, enrolled_none, enrolled_some}
@@ -29,3 +29,12 @@ returns-in-Ok-clause-now c =
     (sym (found_now h.problem c.problem-2.result.now h.present c.args.student c.args.known.now c.problem-2.ensures c.requires.free c.requires.known)
     ∙ sym c.in-Some.ensures.found ∙ ap (λ (list : List ℕ). Some (take count list)) (sym c.as_slice.ensures.value))
     ∙ ap Some (sym c.in-Ok.ensures.now)
+
+pub returns-in-Err-clause-memory : goal.returns-in-Err-clause-memory
+returns-in-Err-clause-memory c =
+    let h = c.args.state.now in
+    let count = c.in-Some.count in
+    let is = enrolled_some h.problem h.present c.args.student (take count c.as_slice.result.now)
+    (sym (found_now h.problem c.problem-2.result.now h.present c.args.student c.args.known.now c.problem-2.ensures c.requires.free c.requires.known)
+    ∙ sym c.in-Some.ensures.found ∙ ap (λ (list : List ℕ). Some (take count list)) (sym c.as_slice.ensures.value)) in
+    rw is refl

@@ -1,11 +1,21 @@
-use Rattle.std.proofs.Common.{◌∷◌, ap, ◌∙◌}
-use Rattle.tt_journal.specs.declared.Entry.TheVariants.{Point}
-use Rattle.tt_state.specs.History.{before_step}
+use Rattle.std.proofs.Common.{◌≡◌, Err, [], true, false, ap, ◌∙◌}
+use Rattle.std.proofs.lemmas.Option.{none-some}
+use Rattle.tt_state.specs.History.{Desk, before_step}
 use Rattle.tt_state.specs.Snapshots.{list_in}
-use Rattle.tt_search.proofs.StepLemmas.{before_left}
+use Rattle.tt_search.proofs.StepLemmas.{before_section, section_memory}
 use Rattle.tt_search.proofs.recalling.empty_list.Goals as goal
 
-pub returns-in-Ok-clause-entries : goal.returns-in-Ok-clause-entries
-returns-in-Ok-clause-entries c =
-    ap before_step c.in-Ok.ensures.entries
-    ∙ before_left c.args.student (list_in c.args.state.now.present c.args.student) (Point ∷ c.args.state.now.entries)
+pub want_of_memory-requires : goal.want_of_memory-requires
+want_of_memory-requires c =
+    section_memory c.in-Err.refusal c.in-Err.ensures.only
+    (λ e. let no : true ≡ false = c.in-Err.ensures.bad_section.0 (ap Err e) in cc no)
+    (λ class e. none-some class ((c.in-Err.ensures.no_seat class).0 (ap Err e)).1)
+
+pub returns-in-Ok-clause-step : goal.returns-in-Ok-clause-step
+returns-in-Ok-clause-step c =
+    let start = c.args.state.now in
+    record {
+      problem = ap (λ (d : Desk). d.problem) c.in-Ok.ensures.desk;
+      earlier = ap (λ (d : Desk). d.earlier) c.in-Ok.ensures.desk;
+      below = ap before_step c.in-Ok.ensures.entries ∙ before_section c.args.student [] (list_in start.present c.args.student) start.entries;
+    }

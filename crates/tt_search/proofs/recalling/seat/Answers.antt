@@ -1,17 +1,16 @@
-use Rattle.std.proofs.Common.{◌≡◌, ◌<◌, None, Ok, Err, true, [], ◌∷◌, length, ap, sym, ◌∙◌, arith}
+use Rattle.std.proofs.Common.{◌≡◌, ◌<◌, None, Ok, Err, true, [], length, ap, sym, ◌∙◌, rules, arith}
 use Rattle.std.specs.Prelude.{slice_set}
 use Rattle.std.proofs.lemmas.List.Elements.{All-get_or}
-use Rattle.tt_journal.specs.declared.Entry.TheVariants.{Point}
 use Rattle.tt_roster.specs.Lists.{Ascends, list_of}
-use Rattle.tt_state.specs.declared.state.Refusal.TheVariants.{BadSection, NoSeat}
-use Rattle.tt_state.specs.History.{before_step, left_by}
+use Rattle.tt_state.specs.declared.state.Refusal.TheVariants.{BadSection, Memory, NoSeat}
+use Rattle.tt_state.specs.History.{Desk, before_step}
 use Rattle.tt_state.specs.Seats.{first_without_seat, may_have}
 use Rattle.tt_state.specs.Snapshots.{in_order, list_in}
 use Rattle.tt_search.specs.Changed.{with_lists}
 use Rattle.tt_search.specs.Recalled.{with_return}
 use Rattle.tt_search.proofs.ListLemmas.{below_end, in_order_same}
-use Rattle.tt_search.proofs.ReturnLemmas.{returned, not_seated, same_snapshot, valid_by, free_by, some_class}
-use Rattle.tt_search.proofs.StepLemmas.{before_left, before_seated}
+use Rattle.tt_search.proofs.ReturnLemmas.{returned, not_seated, may_by, valid_by, free_by, some_class}
+use Rattle.tt_search.proofs.StepLemmas.{before_section}
 use Rattle.tt_search.proofs.recalling.seat.Goals as goal
 
 pub section_step-requires-clause-classes : goal.section_step-requires-clause-classes
@@ -22,13 +21,14 @@ section_step-requires-clause-classes c =
     let within : c.args.student < length published.lists = omega (arith, belongs.lists, c.requires.student) in
     rw c.classes_of-classes.ensures (below_end 0 (length start.problem.classes) _ (All-get_or (Ascends 0 (length start.problem.classes)) published.lists c.args.student [] within belongs.each))
 
-pub returns-in-Ok-clause-entries : goal.returns-in-Ok-clause-entries
-returns-in-Ok-clause-entries c =
+pub returns-in-Ok-clause-step : goal.returns-in-Ok-clause-step
+returns-in-Ok-clause-step c =
     let start = c.args.state.now in
-    let student = c.args.student in
-    ap before_step c.in-Ok.ensures.entries
-    ∙ before_seated student (in_order c.classes_of-classes.result.now) (left_by student (list_in start.present student) (Point ∷ start.entries))
-    ∙ before_left student (list_in start.present student) (Point ∷ start.entries)
+    record {
+      problem = ap (λ (d : Desk). d.problem) c.in-Ok.ensures.desk;
+      earlier = ap (λ (d : Desk). d.earlier) c.in-Ok.ensures.desk;
+      below = ap before_step c.in-Ok.ensures.entries ∙ before_section c.args.student (in_order c.classes_of-classes.result.now) (list_in start.present c.args.student) start.entries;
+    }
 
 pub returns-in-Ok-clause-present : goal.returns-in-Ok-clause-present
 returns-in-Ok-clause-present c =
@@ -48,11 +48,7 @@ returns-in-Ok-clause-present c =
     let within : student < length published.lists = omega (arith, belongs.lists, c.requires.student) in
     let ordered : in_order list ≡ list =
     rw c.classes_of-classes.ensures (in_order_same 0 (length start.problem.classes) (list_of published.lists student) (All-get_or (Ascends 0 (length start.problem.classes)) published.lists student [] within belongs.each)) in
-    let desk = c.in-Ok.ensures.desk in
-    same_snapshot c.section_step.new.self.present (with_lists start.present (with_return start.problem published start.present.lists student))
-    (ap (λ d. d.present.plan) desk)
-    (ap (λ d. d.present.lists) desk ∙ ap (slice_set start.present.lists student) ordered ∙ sym given)
-    (ap (λ d. d.present.statistics) desk)
+    ap (λ (d : Desk). d.present) c.in-Ok.ensures.desk ∙ ap (with_lists start.present) (ap (slice_set start.present.lists student) ordered ∙ sym given)
 
 pub returns-in-Err-NoSeat-clause-present : goal.returns-in-Err-NoSeat-clause-present
 returns-in-Err-NoSeat-clause-present c =
@@ -62,8 +58,20 @@ returns-in-Err-NoSeat-clause-present c =
     let full = (c.section_step.ensures.no_seat c.in-Err-NoSeat.field-0-0).0 (c.in-Err-NoSeat.is ∙ ap Err c.in-Err-NoSeat.field-0-is) in
     let kept : with_return start.problem published start.present.lists student ≡ start.present.lists =
     not_seated start.problem published start.present.lists student c.in-Err-NoSeat.field-0-0 c.classes_of-classes.result.now (sym c.classes_of-classes.ensures) full.0 full.1 in
-    let err = c.in-Err-NoSeat.ensures.err in
-    same_snapshot c.section_step.new.self.present (with_lists start.present (with_return start.problem published start.present.lists student))
-    (ap (λ s. s.present.plan) err)
-    (ap (λ s. s.present.lists) err ∙ sym kept)
-    (ap (λ s. s.present.statistics) err)
+    ap (λ s. s.present) c.in-Err-NoSeat.ensures.err ∙ ap (with_lists start.present) (sym kept)
+
+pub returns-in-Err-clause-memory : goal.returns-in-Err-clause-memory
+returns-in-Err-clause-memory c =
+    let start = c.args.state.now in
+    let published = c.args.published.now in
+    let student = c.args.student in
+    let list = c.classes_of-classes.result.now in
+    let answer = c.section_step.ensures in
+    let memory : c.in-Err.refusal ≡ Memory = search rules in
+    let refused : c.section_step.result ≡ Err Memory = c.in-Err.is ∙ ap Err memory in
+    let valid : may_have start.problem student list ≡ true =
+    valid_by c.section_step.result _ answer.bad_section (λ no. let both : Err Memory ≡ Err BadSection = sym refused ∙ no in cc) in
+    let free : first_without_seat start.problem start.present.lists student list ≡ None =
+    free_by c.section_step.result _ _ answer.no_seat valid (λ class no. let both : Err Memory ≡ Err (NoSeat class) = sym refused ∙ no in cc) in
+    let some = some_class list c.is_empty.result c.is_empty.ensures c.if-is_empty.false in
+    may_by start.problem published start.present.lists student list (sym c.classes_of-classes.ensures) some valid free

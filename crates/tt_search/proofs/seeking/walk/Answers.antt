@@ -2,14 +2,14 @@ use Rattle.std.proofs.Common.{length, ◌≡◌, ◌<◌, ◌≤◌, ◌-◌, �
 use Rattle.std.specs.Option.{option_copied}
 use Rattle.rand_core.specs.Steps.{stream_of, steps_u32}
 use Rattle.rand_pcg.specs.Pcg.{pcg32}
-use Rattle.tt_state.specs.History.{before_step, earlier, trail}
+use Rattle.tt_state.specs.History.{trail}
+use Rattle.tt_search.specs.Changed.{IsWithinStep}
 use Rattle.tt_search.specs.Turns.{turn_of}
 use Rattle.tt_search.specs.Searched.{onward, words_of}
 use Rattle.tt_search.specs.Full.{full_rank, full_best}
 use Rattle.tt_search.specs.MovedNow.{AreMoved}
 use Rattle.tt_search.proofs.MovedLemmas.{moved_is, moved_forced}
-use Rattle.tt_search.proofs.HopefulLemmas.{hopeful_still}
-use Rattle.tt_search.proofs.StepLemmas.{before_forced}
+use Rattle.tt_search.proofs.StepLemmas.{within_next, within_same, within_still}
 use Rattle.tt_search.proofs.WayLemmas.{made_turn, mark_of_added, no_turn, no_turn_left, start_way, walk_on, words_from}
 use Rattle.tt_search.proofs.seeking.walk.Goals as goal
 
@@ -21,17 +21,21 @@ loop-made-init c =
     let whole : c.args.turns - 0 ≡ c.args.turns = omega arith in
     let words = words_from c.args.seed c.new-words.result c.new-words.ensures in
     record {
-      problem = refl;
-      earlier = refl;
-      entries = refl;
+      step = within_same start;
       moved = c.requires.moved;
       way = rw (whole, words) (start_way (full_rank start.problem aim) start.present (trail start) (onward start.problem aim c.args.turns (words_of c.args.seed) start.present) c.moment-best.result c.requires.trail (c.moment-best.ensures.rank aim (moved_is start.problem aim start.present c.args.moved.now c.requires.belongs c.requires.moved)) c.moment-best.ensures.mark);
     }
 
 pub next_move-requires-clause-hopeful : goal.next_move-requires-clause-hopeful
-next_move-requires-clause-hopeful c =
-    let start = c.args.state.now in
-    rw c.loop-made.invariant.problem (c.requires.hopeful ∙ hopeful_still start.problem start.present c.loop-made.state.present)
+next_move-requires-clause-hopeful c = rw c.loop-made.invariant.step.problem c.requires.hopeful
+
+pub make-requires-clause-open : goal.make-requires-clause-open
+make-requires-clause-open c = rw c.next_move.ensures.problem c.in-Some.ensures.open
+
+pub make-requires-clause-step : goal.make-requires-clause-step
+make-requires-clause-step c =
+    let still = within_still c.loop-made.state c.next_move.new.state c.next_move.ensures.problem c.next_move.ensures.present c.next_move.ensures.entries in
+    rw (still.earlier ∙ c.loop-made.invariant.step.earlier) c.requires.step
 
 pub loop-made-preserved : goal.loop-made-preserved
 loop-made-preserved c =
@@ -39,34 +43,26 @@ loop-made-preserved c =
     let aim = option_copied c.args.published in
     let before = c.loop-made.state in
     let moved = c.next_move.new.state in
-    let after = c.force_step.new.self in
+    let after = c.make.new.state in
     let same_problem = c.next_move.ensures.problem in
     let same_present = c.next_move.ensures.present in
     let same_entries = c.next_move.ensures.entries in
-    let desk = c.in-Ok.ensures.desk in
-    let problem : after.problem ≡ start.problem = ap (λ d. d.problem) desk ∙ same_problem ∙ c.loop-made.invariant.problem in
-    let present = ap (λ d. d.present) desk in
-    let still : earlier moved ≡ earlier before = rw (same_present, same_entries) refl in
-    let earlier_is : earlier after ≡ earlier start = ap (λ d. d.earlier) desk ∙ still ∙ c.loop-made.invariant.earlier in
-    let entries : before_step after.entries ≡ before_step start.entries =
-    ap before_step c.in-Ok.ensures.entries
-    ∙ before_forced moved.problem moved.present c.in-Some.next.class c.in-Some.next.value _
-    ∙ ap before_step same_entries
-    ∙ c.loop-made.invariant.entries in
+    let step : IsWithinStep start after =
+    within_next start before after c.loop-made.invariant.step (within_next before moved after (within_still before moved same_problem same_present same_entries) c.in_ok-make.ensures.step) in
+    let problem : after.problem ≡ start.problem = step.problem in
+    let present = ap (λ d. d.present) c.in_ok-make.ensures.desk in
     let turn : turn_of start.problem aim c.next_u32.result before.present ≡ Some after.present =
-    rw (← c.loop-made.invariant.problem) (c.in-Some.ensures.turn ∙ ap Some (sym (rw (same_problem, same_present) at present))) in
+    rw (← c.loop-made.invariant.step.problem) (c.in-Some.ensures.turn ∙ ap Some (sym (rw (same_problem, same_present) at present))) in
     let below : c.loop-made.made < c.args.turns = omega arith in
     let onward_is = made_turn start.problem aim c.args.turns c.loop-made.made (stream_of (steps_u32 pcg32) c.loop-made.words) (stream_of (steps_u32 pcg32) c.next_u32.new.self) c.next_u32.result before.present after.present below c.next_u32.ensures turn in
     let same_trail : trail moved ≡ trail before = rw (same_present, same_entries) refl in
-    let trail_is : trail after ≡ trail before ++ after.present ∷ [] = rw (← same_trail) c.in-Ok.ensures.trail in
+    let trail_is : trail after ≡ trail before ++ after.present ∷ [] = rw (← same_trail) c.in_ok-make.ensures.trail in
     let mark : c.moment.result.mark ≡ length (trail before) = mark_of_added (trail before) (trail after) after.present c.moment.result.mark trail_is c.moment.ensures.mark in
     let moved_now : AreMoved start.problem aim after.present.plan c.follow.new.self [] = rw problem at c.follow.ensures in
     let rank = rw problem at (c.moment.ensures.rank aim) in
     let ranked = rank (moved_is start.problem aim after.present c.follow.new.self c.requires.belongs moved_now) in
     record {
-      problem = problem;
-      earlier = earlier_is;
-      entries = entries;
+      step = step;
       moved = moved_now;
       way = rw (trail_is, c.better-best.ensures) (walk_on _ _ _ after.present c.loop-made.best c.moment.result c.loop-made.made _ _ (rw onward_is at c.loop-made.invariant.way) ranked mark);
     }
@@ -76,13 +72,21 @@ follow-requires-clause-late c =
     let start = c.args.state.now in
     let aim = option_copied c.args.published in
     let before = c.loop-made.state in
-    let moved = c.next_move.new.state in
-    let after = c.force_step.new.self in
-    let desk = c.in-Ok.ensures.desk in
-    let problem : after.problem ≡ start.problem = ap (λ d. d.problem) desk ∙ c.next_move.ensures.problem ∙ c.loop-made.invariant.problem in
-    let present = rw (c.next_move.ensures.problem, c.next_move.ensures.present, c.loop-made.invariant.problem) at (ap (λ d. d.present) desk) in
-    let taken = rw (c.next_move.ensures.problem, c.next_move.ensures.present, c.loop-made.invariant.problem) at c.in-Ok.ensures.taken in
+    let after = c.make.new.state in
+    let same = c.loop-made.invariant.step.problem in
+    let problem : after.problem ≡ start.problem = c.in_ok-make.ensures.step.problem ∙ c.next_move.ensures.problem ∙ same in
+    let present = rw (c.next_move.ensures.problem, c.next_move.ensures.present, same) at (ap (λ d. d.present) c.in_ok-make.ensures.desk) in
+    let taken = rw (c.next_move.ensures.problem, c.next_move.ensures.present, same) at c.in_ok-make.ensures.taken in
     rw (problem, present, taken) (moved_forced start.problem aim before.present c.in-Some.next.class c.in-Some.next.value c.loop-made.moved c.loop-made.invariant.moved)
+
+pub returns-in_default-clause-step : goal.returns-in_default-clause-step
+returns-in_default-clause-step c =
+    within_next _ _ _ c.loop-made.invariant.step (within_still c.loop-made.state c.next_move.new.state c.next_move.ensures.problem c.next_move.ensures.present c.next_move.ensures.entries)
+
+pub returns-in_err-make-clause-step : goal.returns-in_err-make-clause-step
+returns-in_err-make-clause-step c =
+    within_next _ _ _ c.loop-made.invariant.step
+    (within_next _ _ _ (within_still c.loop-made.state c.next_move.new.state c.next_move.ensures.problem c.next_move.ensures.present c.next_move.ensures.entries) c.in_err-make.ensures.step)
 
 pub returns-in_default-clause-way : goal.returns-in_default-clause-way
 returns-in_default-clause-way c =
@@ -90,7 +94,7 @@ returns-in_default-clause-way c =
     let aim = option_copied c.args.published in
     let before = c.loop-made.state in
     let moved = c.next_move.new.state in
-    let turn : turn_of start.problem aim c.next_u32.result before.present ≡ None = rw (← c.loop-made.invariant.problem) c.in_default.ensures.turn in
+    let turn : turn_of start.problem aim c.next_u32.result before.present ≡ None = rw (← c.loop-made.invariant.step.problem) c.in_default.ensures.turn in
     let onward_is = no_turn start.problem aim (c.args.turns - c.loop-made.made) (stream_of (steps_u32 pcg32) c.loop-made.words) (stream_of (steps_u32 pcg32) c.next_u32.new.self) c.next_u32.result before.present c.next_u32.ensures turn in
     let same_trail : trail moved ≡ trail before = rw (c.next_move.ensures.present, c.next_move.ensures.entries) refl in
     rw same_trail (rw onward_is at c.loop-made.invariant.way)

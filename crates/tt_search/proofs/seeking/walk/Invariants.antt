@@ -2,7 +2,8 @@ use Rattle.std.proofs.Common.{◌≡◌, ◌-◌, []}
 use Rattle.std.specs.Option.{option_copied}
 use Rattle.rand_core.specs.Steps.{stream_of, steps_u32}
 use Rattle.rand_pcg.specs.Pcg.{pcg32}
-use Rattle.tt_state.specs.History.{before_step, earlier, trail}
+use Rattle.tt_state.specs.History.{trail}
+use Rattle.tt_search.specs.Changed.{IsWithinStep}
 use Rattle.tt_search.specs.Searched.{onward, turns_of}
 use Rattle.tt_search.specs.Full.{full_rank, full_best}
 use Rattle.tt_search.specs.MovedNow.{AreMoved}
@@ -14,9 +15,7 @@ invariant-loop-made l =
     let start = l.fn.state in
     let aim = option_copied l.published in
     record {
-      problem : l.state.problem ≡ start.problem;
-      earlier : earlier l.state ≡ earlier start;
-      entries : before_step l.state.entries ≡ before_step start.entries;
+      step : IsWithinStep start l.state;
       moved : AreMoved start.problem aim l.state.present.plan l.moved [];
       way : IsUnderWay (full_rank start.problem aim) (trail l.state) (onward start.problem aim (l.turns - l.made) (stream_of (steps_u32 pcg32) l.words) l.state.present) l.best l.made (full_best start.problem aim l.turns l.seed start.present) (turns_of start.problem aim l.turns l.seed start.present);
     }

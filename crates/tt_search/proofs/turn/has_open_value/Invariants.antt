@@ -6,5 +6,4 @@ use Rattle.tt_search.proofs.turn.has_open_value.Given as goal
 
 abbrev pub invariant-loop-k : goal.invariant-loop-k
 invariant-loop-k l =
-    list_any (is_open l.state.problem l.state.present l.class) (drop l.k (domain_of l.state.problem l.class))
-    ≡ has_open_value l.state.problem l.state.present l.class
+    list_any (is_open l.problem l.class) (drop l.k (domain_of l.problem l.class)) ≡ has_open_value l.problem l.class

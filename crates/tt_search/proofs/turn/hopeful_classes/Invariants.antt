@@ -5,5 +5,4 @@ use Rattle.tt_search.proofs.turn.hopeful_classes.Given as goal
 
 abbrev pub invariant-loop-class : goal.invariant-loop-class
 invariant-loop-class l =
-    l.classes.items ++ filter (has_open_value l.state.problem l.state.present) (range_with_len l.class (length l.state.problem.classes - l.class))
-    ≡ hopeful l.state.problem l.state.present
+    l.classes.items ++ filter (has_open_value l.problem) (range_with_len l.class (length l.problem.classes - l.class)) ≡ hopeful l.problem
