@@ -41,7 +41,8 @@ use Rattle.tt_state.specs.Snapshots.{Snapshot}
 use Rattle.tt_state.specs.Values.{blocked_of, conflicts_of}
 use Rattle.tt_state.specs.Forced.{forced}
 use Rattle.tt_solution.specs.Timetable.{Timetable}
-use Rattle.tt_desk.specs.Desk.{Session, Answer, carried_out, class_id, known_classes, step_from, with_step, with_published, not_ready, out_lines}
+use Rattle.tt_explain.specs.Names.{class_id}
+use Rattle.tt_desk.specs.Desk.{Session, Answer, carried_out, known_classes, step_from, with_step, with_published, not_ready, out_lines}
 use Rattle.tt_desk.specs.Chain.{◌>>=◌}
 use Rattle.tt_desk.specs.Causes.{block_of}
 use Rattle.std.specs.Prelude.{OnErr, IsOk}

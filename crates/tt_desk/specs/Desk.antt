@@ -1,6 +1,6 @@
 -- What each command does on a plain desk, which keeps whole snapshots.
-use Rattle.std.specs.Prelude.{ℕ, List, [], ◌∷◌, ◌++◌, Option, None, Some, Result, Ok, Err, codes, slice_get, unwrap_or, if◌then◌else◌}
-use Rattle.std.specs.Option.{option_map_or}
+use Rattle.std.specs.Prelude.{ℕ, List, [], ◌∷◌, ◌++◌, Option, None, Some, Result, Ok, Err, codes, ok_or, unwrap_or, if◌then◌else◌}
+use Rattle.std.specs.Result.{result_map_both}
 use Rattle.tt_bits.specs.declared.times.Value.{Value}
 use Rattle.tt_problem.specs.declared.parts.Parts.{Parts}
 use Rattle.tt_problem.specs.Places.{class_of, student_of}
@@ -8,7 +8,6 @@ use Rattle.tt_plan.specs.declared.named.NoValue.{NoValue}
 use Rattle.tt_plan.specs.declared.named.NoValue.TheVariants as no_value
 use Rattle.tt_plan.specs.Named.{find_value}
 use Rattle.tt_struct.specs.Enrolments.{is_enrolment}
-use Rattle.tt_clash.specs.declared.Block.{Block}
 use Rattle.tt_score.specs.declared.totals.Totals as totals
 use Rattle.tt_score.specs.Totals.{totals_of}
 use Rattle.tt_state.specs.Snapshots.{Snapshot, opening_snapshot, value_in, with_value, list_in, with_list, in_order}
@@ -23,6 +22,7 @@ use Rattle.tt_solution.specs.Text.{published_text}
 use Rattle.tt_enrol.specs.Enrolled.{AllEnrolled, enrolled, all_enrolled}
 use Rattle.tt_search.specs.Recalled.{recalled}
 use Rattle.tt_search.specs.Searched.{searched, repaired}
+use Rattle.tt_explain.specs.Names.{class_id}
 use Rattle.tt_explain.specs.Explain.{explain_lines}
 use Rattle.tt_explain.specs.Why.{why_lines}
 use Rattle.tt_explain.specs.Stats.{stats_lines}
@@ -35,7 +35,7 @@ use Rattle.tt_desk.specs.declared.refusal.Outcome.{Outcome}
 use Rattle.tt_desk.specs.declared.refusal.Outcome.TheVariants.{Skipped, Accepted, Refused, Ended}
 use Rattle.tt_desk.specs.declared.script.Line.{Line}
 use Rattle.tt_desk.specs.declared.script.Line.TheVariants.{Empty, Bad, Good}
-use Rattle.tt_desk.specs.Chain.{◌>>=◌}
+use Rattle.tt_desk.specs.Chain.{◌>>=◌, none_or}
 use Rattle.tt_desk.specs.Script.{line_of}
 
 -- a desk, and the published timetable if there is one
@@ -49,18 +49,13 @@ opening_desk p = record { problem = p; present = opening_snapshot p; earlier = [
 
 -- ---- the checks of a command, each of which gives what the next ones need, or its refusal
 
--- the place that an id has, or this refusal
-abbrev pub known : Refusal → Option ℕ → Result ℕ Refusal
-known r None = Err r
-known r (Some place) = Ok place
-
 -- the place of the class with this id
 abbrev pub known_class : Parts → ℕ → Result ℕ Refusal
-known_class p id = known NoSuchClass (class_of p id)
+known_class p id = ok_or (class_of p id) NoSuchClass
 
 -- the place of the student with this id
 abbrev pub known_student : Parts → ℕ → Result ℕ Refusal
-known_student p id = known NoSuchStudent (student_of p id)
+known_student p id = ok_or (student_of p id) NoSuchStudent
 
 -- the places of the classes with these ids
 abbrev pub known_classes : Parts → List ℕ → Result (List ℕ) Refusal
@@ -75,45 +70,25 @@ abbrev pub value_refusal : NoValue → Refusal
 value_refusal no_value.Time = NoSuchTime
 value_refusal no_value.Room = RoomNotListed
 
-abbrev pub or_no_value : Result Value NoValue → Result Value Refusal
-or_no_value (Ok v) = Ok v
-or_no_value (Err e) = Err (value_refusal e)
-
 -- the value of a class that the number of a time and the id of a room name
 abbrev pub known_value : Parts → ℕ → ℕ → Option ℕ → Result Value Refusal
-known_value p class time room = or_no_value (find_value p class time room)
+known_value p class time room = result_map_both (λ v. v) value_refusal (find_value p class time room)
 
 -- the value that a class has
-abbrev pub or_not_placed : Option Value → Result Value Refusal
-or_not_placed None = Err NotPlaced
-or_not_placed (Some v) = Ok v
-
 abbrev pub placed : Desk → ℕ → Result Value Refusal
-placed d class = or_not_placed (value_in d.present class)
+placed d class = ok_or (value_in d.present class) NotPlaced
 
--- the value of a class, which isn't blocked
-abbrev pub or_blocked : Value → Option Block → Result Value Refusal
-or_blocked v None = Ok v
-or_blocked v (Some reason) = Err (Blocked reason)
-
-abbrev pub open_value : Parts → ℕ → Value → Result Value Refusal
-open_value p class v = or_blocked v (blocked_of p class v)
+-- the value of a class isn't blocked
+abbrev pub open_value : Parts → ℕ → Value → Result (Unit {0}) Refusal
+open_value p class v = none_or Blocked (blocked_of p class v)
 
 -- the list is a valid enrolment of the student
-abbrev pub valid_list : Desk → ℕ → List ℕ → Result (List ℕ) Refusal
-valid_list d student classes = if is_enrolment d.problem student classes then Ok classes else Err NoEnrolment
-
--- the id of the class at a place
-abbrev pub class_id : Parts → ℕ → ℕ
-class_id p place = option_map_or (λ c. c.id) (slice_get p.classes place) 0
-
-abbrev pub or_no_seat : Parts → Option ℕ → List ℕ → Result (List ℕ) Refusal
-or_no_seat p None classes = Ok classes
-or_no_seat p (Some full) classes = Err (NoSeat (class_id p full))
+abbrev pub valid_list : Desk → ℕ → List ℕ → Result (Unit {0}) Refusal
+valid_list d student classes = if is_enrolment d.problem student classes then Ok tt else Err NoEnrolment
 
 -- each class of the list has a seat for the student
-abbrev pub seated : Desk → ℕ → List ℕ → Result (List ℕ) Refusal
-seated d student classes = or_no_seat d.problem (first_without_seat d.problem d.present.lists student classes) classes
+abbrev pub seated : Desk → ℕ → List ℕ → Result (Unit {0}) Refusal
+seated d student classes = none_or (λ full. NoSeat (class_id d.problem full)) (first_without_seat d.problem d.present.lists student classes)
 
 -- the classes that a student has, of which there is one at least
 abbrev pub or_not_sectioned : List ℕ → Result (List ℕ) Refusal
@@ -124,12 +99,8 @@ abbrev pub sectioned : Desk → ℕ → Result (List ℕ) Refusal
 sectioned d student = or_not_sectioned (list_in d.present student)
 
 -- the snapshot in which a student is enrolled anew
-abbrev pub or_no_enrolment : Option Snapshot → Result Snapshot Refusal
-or_no_enrolment None = Err NoEnrolment
-or_no_enrolment (Some now) = Ok now
-
 abbrev pub enrolment : Desk → ℕ → Result Snapshot Refusal
-enrolment d student = or_no_enrolment (enrolled d.problem d.present student)
+enrolment d student = ok_or (enrolled d.problem d.present student) NoEnrolment
 
 -- the desk before its last step
 abbrev pub or_nothing : Parts → List Snapshot → Result Desk Refusal
@@ -147,9 +118,8 @@ abbrev pub ready : Desk → Result Snapshot Refusal
 ready d = if is_ready d.problem d.present then Ok d.present else Err (not_ready (totals_of d.problem d.present.plan d.present.lists))
 
 -- the timetable that is published
-abbrev pub published : Option Timetable → Result Timetable Refusal
-published None = Err NothingPublished
-published (Some t) = Ok t
+abbrev pub published : Session → Result Timetable Refusal
+published s = ok_or s.published NothingPublished
 
 -- ---- what accepted commands leave
 
@@ -221,10 +191,10 @@ carried_out s (Enrol student) = do
 carried_out s EnrolAll = Ok (with_all_enrolled s (all_enrolled s.desk.problem s.desk.present))
 carried_out s (Search turns seed) = Ok (with_search s (searched s.desk.problem turns seed s.desk.present))
 carried_out s (Repair turns seed) = do
-  t ← published s.published
+  t ← published s
   Ok (with_search s (repaired s.desk.problem t turns seed s.desk.present))
 carried_out s Recall = do
-  t ← published s.published
+  t ← published s
   Ok (with_step s (recalled s.desk.problem t s.desk.present) [])
 carried_out s Undo = do
   d ← undone s.desk

@@ -1,7 +1,6 @@
 -- Why a line is refused, and what is written then.
-use Rattle.std.specs.Prelude.{ℕ, ◌+◌, List, ◌++◌, codes}
-use Rattle.tt_clash.specs.declared.Block.{Block}
-use Rattle.tt_clash.specs.declared.Block.TheVariants.{Closed, Rule}
+use Rattle.std.specs.Prelude.{ℕ, List, ◌++◌, codes}
+use Rattle.tt_explain.specs.Why.{block_text}
 use Rattle.tt_desk.specs.Fields.{field}
 use Rattle.tt_desk.specs.declared.refusal.Refusal.{Refusal}
 use Rattle.tt_desk.specs.declared.refusal.Refusal.TheVariants.{BadLine, NoSuchClass, NoSuchStudent, NoSuchTime, RoomNotListed, NotPlaced, Blocked, NoEnrolment, NoSeat, NotSectioned, NothingToUndo, NotReady, NothingPublished}
@@ -21,11 +20,6 @@ refusal_number NotSectioned = 20
 refusal_number NothingToUndo = 21
 refusal_number (NotReady unplaced unsectioned hard) = 22
 refusal_number NothingPublished = 23
-
--- why a value is blocked; rules are counted from 1
-abbrev pub block_text : Block → List ℕ
-block_text Closed = codes "blocked closed"
-block_text (Rule place) = field (codes "blocked rule ") (place + 1)
 
 -- the words of a refusal
 abbrev pub refusal_text : Refusal → List ℕ

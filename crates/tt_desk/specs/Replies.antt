@@ -1,5 +1,5 @@
 -- The replies to the lines of a script.
-use Rattle.std.specs.Prelude.{ℕ, Bool, true, false, List, [], ◌∷◌, ◌++◌, map, if◌then◌else◌, None, Some, Option, option_map, codes, decimal}
+use Rattle.std.specs.Prelude.{ℕ, ⊤, Bool, true, false, List, [], ◌∷◌, ◌++◌, map, if◌then◌else◌, None, Some, Option, option_map, codes, decimal}
 use Rattle.std.specs.List.{list_any}
 use Rattle.tt_score.specs.declared.totals.Totals.{Totals}
 use Rattle.tt_score.specs.Totals.{totals_of}
@@ -50,6 +50,13 @@ reply_to s lines Skipped = []
 reply_to s lines Accepted = lines ++ totals_line (present_totals s) (present_moved s)
 reply_to s lines (Refused r) = refusal_line r
 reply_to s lines Ended = []
+
+-- something is written for the line
+abbrev pub HasReply : Outcome → Type 0
+HasReply Skipped = ⊥
+HasReply Accepted = ⊤
+HasReply (Refused r) = ⊤
+HasReply Ended = ⊥
 
 -- the reply to a line
 abbrev pub reply_of : Step → List ℕ

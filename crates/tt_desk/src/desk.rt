@@ -43,7 +43,8 @@ impl Session {
     }
 
     /// Does what a line asks for, or says why it is refused. The reply, whatever it held, has the
-    /// command's own lines then, which `finish_reply` makes whole.
+    /// command's own lines then, which `finish_reply` makes whole. Where memory is wanting, nothing is
+    /// said of the session and the reply.
     #[tactic(auto, unfolding(crate::specs::Desk::line_step, crate::specs::Causes::IsMemoryCause))]
     pub fn answer(
         &mut self,

@@ -1,13 +1,14 @@
-ghost use Rattle.std.specs.Prelude.{◌≡◌, ◌<◌, ◌++◌, [], All, OnOk, codes, length};
+ghost use Rattle.std.specs.Prelude.{◌≡◌, ◌<◌, ◌++◌, [], All, OnOk, OnErr, codes, length};
 ghost use Rattle.tt_desk.specs.Fields.{field};
-ghost use Rattle.tt_desk.specs.Desk.{class_id, out_lines};
-ghost use Rattle.tt_desk.specs.Refusals.{block_text, refusal_number, refusal_text, refusal_line};
-ghost use Rattle.tt_desk.specs.Replies.{counts_text, moved_text, reply_to, sums_text, totals_line};
+ghost use Rattle.tt_explain.specs.Names.{class_id};
+ghost use Rattle.tt_desk.specs.Desk.{out_lines};
+ghost use Rattle.tt_desk.specs.Refusals.{refusal_number, refusal_text, refusal_line};
+ghost use Rattle.tt_desk.specs.Replies.{HasReply, counts_text, moved_text, reply_to, sums_text, totals_line};
 
 use crate::refusal::{Outcome, Refusal};
 use crate::session::Session;
 use std::alloc::AllocError;
-use tt_clash::Block;
+use tt_explain::add_block;
 use tt_problem::Problem;
 use tt_score::Totals;
 use tt_text::Reply;
@@ -89,16 +90,6 @@ fn number_of(refusal: Refusal) -> u8
     }
 }
 
-// Appends why a value is blocked. Rules are counted from 1.
-fn add_block(reply: &mut Reply, reason: Block) -> Result<(), AllocError>
-    ensures { OnOk result (reply.new ≡ reply.old ++ block_text reason) }
-{
-    match reason {
-        Block::Closed => reply.text("blocked closed"),
-        Block::Rule(place) => add_field(reply, "blocked rule ", u128::from(place) + 1),
-    }
-}
-
 // Appends how much isn't ready.
 fn add_not_ready(
     reply: &mut Reply,
@@ -151,6 +142,7 @@ fn put_refusal(reply: &mut Reply, refusal: Refusal) -> Result<(), AllocError>
 }
 
 /// The id of the class at a place.
+#[tactic(auto, unfolding(tt_explain::specs::Names::class_id))]
 pub(crate) fn class_id(problem: &Problem, place: u32) -> u32
     requires { place < length problem.now.classes }
     ensures { result ≡ class_id problem.now place }
@@ -176,9 +168,10 @@ pub(crate) fn add_out(
 
 impl Session {
     /// Makes the reply to a line, by what became of it. For an accepted command the reply has the
-    /// command's own lines before.
+    /// command's own lines before. Only a line that has a reply takes memory.
     pub fn finish_reply(&self, reply: &mut Reply, outcome: Outcome) -> Result<(), AllocError>
-        ensures { OnOk result (reply.new ≡ reply_to self.now reply.old outcome) }
+        ensures ok { OnOk result (reply.new ≡ reply_to self.now reply.old outcome) }
+        ensures memory { OnErr result (HasReply outcome) }
     {
         match outcome {
             Outcome::Accepted => add_totals(reply, &self.totals(), self.moved()),

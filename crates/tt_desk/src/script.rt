@@ -1,4 +1,4 @@
-ghost use Rattle.std.specs.Prelude.{◌≡◌, ◌<◌, [], ◌∷◌, length, IfOk, OnErr, IfSome, MatchOption};
+ghost use Rattle.std.specs.Prelude.{◌≡◌, ◌<◌, ◌≤◌, [], ◌∷◌, length, IfOk, OnErr, IfSome, MatchOption};
 ghost use Rattle.tt_script.specs.Forms.{IsSectionLine};
 ghost use Rattle.tt_text.specs.Line.{words_of};
 ghost use Rattle.tt_desk.specs.Script.{lines_of, without_return, is_empty, line_of, line_of_words, line_words};
@@ -76,10 +76,10 @@ fn read_trimmed(alloc: Global, line: &[u8]) -> Result<Line, AllocError>
 }
 
 /// What a line is. Its line end is left out, a carriage return before that is not. Only a `section`
-/// line takes memory.
+/// line within the limit takes memory.
 pub(crate) fn read_line(alloc: Global, line: &[u8]) -> Result<Line, AllocError>
     ensures ok { IfOk result (λ read. read ≡ line_of line.now) }
-    ensures memory { OnErr result (IsSectionLine (line_words line.now)) }
+    ensures memory { OnErr result ((length line.now ≤ 65536) × IsSectionLine (line_words line.now)) }
 {
     if line.len() > LINE_LIMIT {
         return Ok(Line::Bad);
