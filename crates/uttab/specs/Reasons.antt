@@ -7,4 +7,5 @@ reason_text status =
     if status == 5 then Some (codes "uttab: a file can't be read")
     else (if status == 7 then Some (codes "uttab: out of memory")
     else (if status == 8 then Some (codes "uttab: a file is too long")
-    else None))
+    else (if status == 9 then Some (codes "uttab: the system gives no arguments")
+    else None)))

@@ -9,6 +9,7 @@ pub fn reason_of(status: u8) -> Option<&'static str>
         5 => Some("uttab: a file can't be read"),
         7 => Some("uttab: out of memory"),
         8 => Some("uttab: a file is too long"),
+        9 => Some("uttab: the system gives no arguments"),
         _ => None,
     }
 }
