@@ -1,4 +1,4 @@
-ghost use Rattle.std.specs.Prelude.{◌≡◌, ℕ, ◌<◌, ◌≤◌, ◌++◌, ◌∷◌, [], if◌then◌else◌, OnOk, IfOk, Ok, Some, None, length, map, count_by, is_none, slice_index, slice_index_or, string_bytes};
+ghost use Rattle.std.specs.Prelude.{◌≡◌, ℕ, ◌<◌, ◌≤◌, ◌++◌, ◌∷◌, [], if◌then◌else◌, OnOk, OnErr, IfOk, Ok, Some, None, length, map, count_by, is_none, slice_index, slice_index_or, string_bytes};
 ghost use Rattle.serde_json.specs.View.{view};
 ghost use Rattle.tt_bits.specs.declared.times.Value.{Value};
 ghost use Rattle.tt_bits.specs.Sets.{day_set, week_set};
@@ -169,8 +169,8 @@ fn whole_value(
 }
 
 /// Appends the line that publishes a plan and the lists of the students, without its end. It is
-/// itself a published file, and read with the same problem gives what was published. After a refusal
-/// the reply may have grown.
+/// itself a published file, and read with the same problem gives what was published. Where memory is
+/// wanting, the reply stays as it was.
 pub fn write_published(
     alloc: Global,
     problem: &Problem,
@@ -185,6 +185,7 @@ pub fn write_published(
     ensures text { OnOk result (out.new ≡ out.old ++ published_text problem.now plan.now roster.now.seats) }
     ensures back { OnOk result (published_of problem.now (published_text problem.now plan.now roster.now.seats)
         ≡ Ok (timetable_of problem.now plan.now roster.now.seats)) }
+    ensures err { OnErr result (out.new ≡ out.old) }
 {
     problem.validity();
     let classes = meetings(alloc, problem, plan)?;
