@@ -1,6 +1,6 @@
 -- How the phases of a run with files make the transcript.
-use Rattle.std.proofs.Common.{◌≡◌, ◌≢◌, ◌≤◌, ◌<◌, ℕ, suc, Bool, true, false, List, [], ◌∷◌, ◌++◌, None, Some, Option, Result, Ok, Err, refl, sym, ◌∙◌, ap, subst, append_assoc, arith, inl, inr, length, take, drop}
-use Rattle.std.specs.Prelude.{◌⊎◌, ◌&&◌, ◌+◌, IfOk, OnOk, IsErrAnd, IsTrue, IsSome, nat_lt, is_ok, not, option_to_list, unwrap_or, if◌then◌else◌}
+use Rattle.std.proofs.Common.{◌≡◌, ◌≢◌, ◌≤◌, ◌<◌, ℕ, suc, Bool, true, false, List, [], ◌++◌, None, Some, Option, Result, Ok, Err, refl, sym, ◌∙◌, ap, subst, append_assoc, arith, inl, inr, length, take, drop}
+use Rattle.std.specs.Prelude.{◌⊎◌, ◌&&◌, ◌+◌, IfOk, OnOk, IsTrue, IsSome, is_ok, not, option_to_list, unwrap_or, if◌then◌else◌}
 use Rattle.std.specs.List.{concat}
 use Rattle.std.proofs.lemmas.List.{append-nil, take-append-drop, take-append-le, length-append}
 use Rattle.std.proofs.lemmas.List.Folds.{concat-append}
@@ -19,9 +19,9 @@ use Rattle.tt_top.specs.declared.end.Input.{Input}
 use Rattle.tt_top.specs.declared.end.Input.TheVariants.{Problem, Published}
 use Rattle.tt_top.specs.declared.end.InputFault.{InputFault}
 use Rattle.tt_top.specs.Words.{FileWords, first_words, file_words}
-use Rattle.tt_top.specs.Transcript.{Bytes, RefusedFile, Transcript, opened, transcript, transcript_from, text_of, first_line, opening_line}
+use Rattle.tt_top.specs.Transcript.{Bytes, RefusedFile, opened, transcript, transcript_from, text_of, first_line, opening_line}
 use Rattle.tt_top.specs.Run.{Outside, TellFirst, Tell, IsTold, is_long, opens_published, opens_script, due_status, WritesFirst, IsTranscript, IsDue, IsComplete, HasCauses, AsksAll, AsksInOrder, IsStatus, IsFileRun}
-use Rattle.tt_top.specs.Ends.{input_status, refused_file, seen, end_status, done_status, status_of, HasEndCause, front_words, IsFit, Begins, Opens, IsRefusedAt, IsAsked, AsksFirst, Serves}
+use Rattle.tt_top.specs.Ends.{input_status, refused_file, seen, end_status, done_status, status_of, HasEndCause, front_words, Begins, Opens, IsRefusedAt, AsksFirst, Serves}
 use Rattle.tt_top.proofs.LoadLemmas.{not_longer, longer}
 
 -- ---- statuses
@@ -138,11 +138,6 @@ module _ (limit : ℕ) (mid now : Option (List ℕ)) (d : Session) (s : Option (
   serves_long Sink serves is = absurd (omega arith)
   serves_long Memory serves is = absurd (omega arith)
   serves_long TooLong serves is = serves.0
-
--- without a script nothing is served
-pub serves_none : (limit : ℕ) (holds : List ℕ → Option (List ℕ)) (before now : Option (List ℕ)) (d : Session) (s : Option (List ℕ)) → IsTold holds None s → now ≡ before → Serves limit before now d s (Ok false)
-serves_none limit holds before now d None told same = (refl, refl, nothing_written before now same)
-serves_none limit holds before now d (Some s) told same = absurd told
 
 -- with a script, its bytes are told
 pub serves_told : (limit : ℕ) (holds : List ℕ → Option (List ℕ)) (name : List ℕ) (before now : Option (List ℕ)) (d : Session) (s : Option (List ℕ)) (r : Result Bool End) → IsTold holds (Some name) s → ((bytes : List ℕ) → holds name ≡ Some bytes → Serves limit before now d (Some bytes) r) → Serves limit before now d s r

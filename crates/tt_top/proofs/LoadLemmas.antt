@@ -1,7 +1,6 @@
 -- How the files before the script give the session.
-use Rattle.std.proofs.Common.{◌≡◌, ◌≢◌, ◌≤◌, ◌<◌, ℕ, Bool, true, false, List, [], ◌∷◌, ◌++◌, None, Some, Option, Result, Ok, Err, refl, sym, ◌∙◌, ap, subst, append_assoc, arith, length, take}
-use Rattle.std.specs.Prelude.{◌&&◌, IfOk, IfErr, IsErrAnd, IsTrue, IsSome, nat_lt, is_ok, not, option_to_list}
-use Rattle.std.proofs.lemmas.List.{append-nil}
+use Rattle.std.proofs.Common.{◌≡◌, ◌≢◌, ◌≤◌, ◌<◌, ℕ, true, false, List, [], ◌∷◌, ◌++◌, None, Some, Option, Result, Ok, Err, refl, ◌∙◌, ap, append_assoc, arith, length}
+use Rattle.std.specs.Prelude.{IfOk, IfErr, IsErrAnd, IsSome, is_ok, option_to_list}
 use Rattle.std.proofs.lemmas.Bool.{lt-ltb, le-ltb}
 use Rattle.std.proofs.Math.Seq.{take-length}
 use Rattle.tt_io.specs.Causes.{Asks}
@@ -17,8 +16,8 @@ use Rattle.tt_top.specs.declared.end.Input.TheVariants.{Problem, Published}
 use Rattle.tt_top.specs.declared.end.InputFault.{InputFault}
 use Rattle.tt_top.specs.Words.{FileWords, first_words}
 use Rattle.tt_top.specs.Transcript.{Bytes, RefusedFile, problem_read, published_in, opened}
-use Rattle.tt_top.specs.Run.{AsksAll, IsTold, TellFirst, is_long, opens_published, opens_script, due_status}
-use Rattle.tt_top.specs.Ends.{input_status, refused_file, seen, front_words, rest_of, Begins, AsksFirst, IsRefusedAt, IsAsked}
+use Rattle.tt_top.specs.Run.{AsksAll, IsTold, TellFirst, is_long, opens_published}
+use Rattle.tt_top.specs.Ends.{refused_file, seen, rest_of, Begins, AsksFirst, IsRefusedAt, IsAsked}
 
 -- ---- ends
 
@@ -58,12 +57,6 @@ opened_rest problem published p is = rw is refl
 pub rest_ok : (p : Parts) (o : Option (List ℕ)) (t : Option Timetable) (s : Session) → published_in p o ≡ Ok t → s ≡ record { desk = opening_desk p; published = t } → rest_of p o ≡ Ok s
 rest_ok p o t s is s_is = rw (is, s_is) refl
 
-pub problem_failed : (limit : ℕ) (b : Bytes) (e : End) → e ≢ Sink → (e ≡ TooLong → is_long limit (Some b.problem) ≡ true) → Begins limit b (Err e)
-problem_failed limit b Files no_sink long = tt
-problem_failed limit b Sink no_sink long = absurd (no_sink refl)
-problem_failed limit b Memory no_sink long = tt
-problem_failed limit b TooLong no_sink long = rw (long refl) refl
-
 pub problem_refused : (limit : ℕ) (b : Bytes) (f : InputFault) → problem_read (problem_of b.problem) ≡ Err (refused_file f) → is_long limit (Some b.problem) ≡ false → Begins limit b (Ok (Err f))
 problem_refused limit b f is short =
     let opened_is = opened_not b.problem b.published (refused_file f) is in
@@ -96,27 +89,11 @@ module _ (limit : ℕ) (b : Bytes) (p : Parts) (is : problem_read (problem_of b.
 
 -- ---- names
 
-asks_one : (a b : Option (List (List ℕ))) (x : List ℕ) → Asks a b x → AsksAll a b (x ∷ [])
-asks_one a None x asks = tt
-asks_one None (Some b) x asks = absurd asks
-asks_one (Some a) (Some b) x asks = asks
-
 pub asks_after : (a b c : Option (List (List ℕ))) (x : List ℕ) (names : List (List ℕ)) → Asks a b x → AsksAll b c names → AsksAll a c (x ∷ names)
 asks_after a b None x names first second = tt
 asks_after a None (Some c) x names first second = absurd second
 asks_after None (Some b) (Some c) x names first second = absurd first
 asks_after (Some a) (Some b) (Some c) x names first second = second ∙ ap (λ t. t ++ names) first ∙ append_assoc a (x ∷ []) names
-
--- the problem alone was asked for
-pub asks_problem : (words : FileWords) (limit : ℕ) (holds : List ℕ → Option (List ℕ)) (a b : Option (List (List ℕ))) (r : Result (Result Session InputFault) End) → Asks a b words.problem → IsAsked words 1 r → AsksFirst words limit holds a b r
-asks_problem words limit holds a b r asks each = record {
-  count = 1;
-  asked = asks_one a b words.problem asks;
-  few = omega arith;
-  some = omega arith;
-  later = λ bytes told more. absurd (omega arith);
-  each = each;
-}
 
 -- all of them were asked for
 pub asks_first_all : (words : FileWords) (limit : ℕ) (holds : List ℕ → Option (List ℕ)) (a b c : Option (List (List ℕ))) (r : Result (Result Session InputFault) End) → Asks a b words.problem → AsksAll b c (option_to_list words.published) → ((bytes : Bytes) → TellFirst holds words limit bytes → opens_published limit bytes ≡ true) → IsAsked words (length (first_words words)) r → AsksFirst words limit holds a c r
@@ -140,10 +117,6 @@ two_files words is = two words.published is
 refused_at : (words : FileWords) (input : Input) → input ≡ Published → IsSome words.published → IsRefusedAt words (length (first_words words)) input
 refused_at words Problem is named = absurd cc
 refused_at words Published is named = (named, two_files words named)
-
-pub refused_first : (words : FileWords) (input : Input) → input ≡ Problem → IsRefusedAt words 1 input
-refused_first words Problem is = refl
-refused_first words Published is = absurd cc
 
 -- what the published file leaves, asked for after the problem
 pub rest_asked : (words : FileWords) (r : Result (Result Session InputFault) End) → IfOk r (λ l. IfErr l (λ f. (f.input ≡ Published) × IsSome words.published)) → IsAsked words (length (first_words words)) r

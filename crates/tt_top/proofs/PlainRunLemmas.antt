@@ -1,12 +1,11 @@
 -- How the phases of a run without files make its transcript.
-use Rattle.std.proofs.Common.{◌≡◌, ◌≢◌, ◌≤◌, ◌<◌, ℕ, suc, Bool, List, [], ◌∷◌, ◌++◌, None, Some, Option, Result, Ok, Err, refl, sym, ◌∙◌, ap, subst, append_assoc, arith, inl, inr, take}
-use Rattle.std.specs.Prelude.{◌⊎◌, IfOk, OnOk, codes}
+use Rattle.std.proofs.Common.{◌≡◌, ◌≢◌, ◌≤◌, ℕ, suc, Bool, List, [], ◌∷◌, ◌++◌, Option, Result, Ok, Err, refl, ◌∙◌, ap, arith, inl, inr}
+use Rattle.std.specs.Prelude.{IfOk, OnOk}
 use Rattle.std.specs.List.{concat}
 use Rattle.std.proofs.lemmas.List.{append-nil}
-use Rattle.tt_io.specs.Causes.{Writes, one_more}
+use Rattle.tt_io.specs.Causes.{Writes}
 use Rattle.tt_io.specs.Whole.{WritesFront}
-use Rattle.tt_io.proofs.WrittenLemmas.{Writes-append, Writes-front, WritesFront-after, WritesFront-first}
-use Rattle.tt_make.specs.Text.{make_text}
+use Rattle.tt_io.proofs.WrittenLemmas.{Writes-append, Writes-front, WritesFront-after}
 use Rattle.tt_desk.specs.Fields.{field}
 use Rattle.tt_desk.specs.Script.{lines_of}
 use Rattle.tt_desk.specs.Desk.{Session}
@@ -15,9 +14,8 @@ use Rattle.tt_top.specs.declared.end.End.{End}
 use Rattle.tt_top.specs.declared.end.End.TheVariants.{Files, Sink, Memory, TooLong}
 use Rattle.tt_top.specs.declared.end.Done.{Done}
 use Rattle.tt_top.specs.declared.end.InputFault.{InputFault}
-use Rattle.tt_top.specs.Words.{usage_line}
-use Rattle.tt_top.specs.Transcript.{RefusedFile, Transcript, transcript_from, make_transcript, text_of, first_line}
-use Rattle.tt_top.specs.Run.{Outside, WritesFirst, HasCauses, IsPlainRun, IsUsage}
+use Rattle.tt_top.specs.Transcript.{RefusedFile, Transcript, transcript_from, text_of, first_line}
+use Rattle.tt_top.specs.Run.{WritesFirst}
 use Rattle.tt_top.specs.Ends.{input_status, refused_file, seen, end_status, status_of, HasEndCause, OpensMade, ServesLines, WritesPlain, EndsPlain}
 use Rattle.tt_top.proofs.FileRunLemmas.{serve_status, at_most_one, at_most_four, none_first, whole_first, first_front, first_line_front, is_six}
 
@@ -53,12 +51,6 @@ plain_memory t before now some = record {
 -- a transcript of one piece
 pub one_whole : (before now : Option (List ℕ)) (piece : List ℕ) (status : ℕ) → status ≤ 4 → Writes before now piece → WritesPlain (record { pieces = piece ∷ []; status = status }) before now status
 one_whole before now piece status few all = plain_whole _ before now status refl few (rw (append-nil piece) all)
-
-pub one_failed : (before now : Option (List ℕ)) (piece : List ℕ) (status : ℕ) → WritesFront before now piece → WritesPlain (record { pieces = piece ∷ []; status = status }) before now 6
-one_failed before now piece status front = plain_failed _ before now (rw (append-nil piece) front)
-
-pub one_memory : (before now : Option (List ℕ)) (piece : List ℕ) (status : ℕ) → now ≡ before → WritesPlain (record { pieces = piece ∷ []; status = status }) before now 7
-one_memory before now piece status same = plain_memory _ before now (none_first before now _ same)
 
 -- ---- a script over a problem that is made
 
@@ -106,10 +98,6 @@ serves_lines before now d text s (Err Sink) is refuses_is written memory front n
 serves_lines before now d text s (Err Memory) is refuses_is written memory front no_files no_limit = rw (← is) (memory refl)
 serves_lines before now d text s (Err TooLong) is refuses_is written memory front no_files no_limit = absurd (no_limit refl)
 
--- where the script found no memory
-pub serves_none_made : (before now : Option (List ℕ)) (d : Session) (s : List ℕ) (e : End) → e ≡ Memory → now ≡ before → ServesLines before now d s (Err e)
-serves_none_made before now d s e is same = rw is (none_first before now _ same)
-
 -- ---- the answer of a run
 
 pub ends_plain : (t : Transcript) (before now : Option (List ℕ)) (faults faults_now : ℕ) (r : Result Done End) → WritesPlain t before now (status_of r) → HasEndCause Sink faults faults_now r → EndsPlain t before now faults faults_now (status_of r)
@@ -117,19 +105,4 @@ ends_plain t before now faults faults_now r writes cause = record {
   writes = writes;
   rose = λ is. cause.rose (is_six r is);
   same = λ ne. cause.same (λ is. ne (ap status_of is));
-}
-
-pub is_plain_run : (t : Transcript) (o : Outside) (status : ℕ) → EndsPlain t o.before.written o.now.written o.before.sink o.now.sink status → o.now.files ≡ o.before.files → o.now.asked ≡ o.before.asked → IsPlainRun t o status
-is_plain_run t o status ends files asked = record {
-  whole = ends.writes.whole;
-  pieces = ends.writes.pieces;
-  front = ends.writes.front;
-  statuses = ends.writes.statuses;
-  causes = record {
-    files = λ five. absurd (ends.writes.no_files five);
-    sink = ends.rose;
-    files_same = λ _. files;
-    sink_same = ends.same;
-  };
-  asks = asked;
 }

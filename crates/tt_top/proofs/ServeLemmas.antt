@@ -7,7 +7,7 @@ use Rattle.std.proofs.lemmas.List.Folds.{concat-append}
 use Rattle.std.proofs.Math.Seq.{take-append_seam}
 use Rattle.tt_io.specs.Causes.{Writes}
 use Rattle.tt_io.specs.Whole.{WritesFront}
-use Rattle.tt_io.proofs.WrittenLemmas.{Writes-append, WritesFront-after, WritesFront-first, nothing_written}
+use Rattle.tt_io.proofs.WrittenLemmas.{Writes-append, WritesFront-after, WritesFront-first}
 use Rattle.tt_desk.specs.declared.refusal.Outcome.{Outcome}
 use Rattle.tt_desk.specs.Desk.{Session, line_step}
 use Rattle.tt_desk.specs.Replies.{is_end, is_refused, steps_of, reply_of, replies_to, refuses}
@@ -21,9 +21,6 @@ pub record HasSent (before now : Option (List ℕ)) (pieces left : List (List �
   pub sent : List (List ℕ)
   pub parts : pieces ≡ sent ++ left
   pub written : Writes before now (concat sent)
-
-pub HasSent-none : (before now : Option (List ℕ)) (pieces : List (List ℕ)) → now ≡ before → HasSent before now pieces pieces
-HasSent-none before now pieces same = record { sent = []; parts = refl; written = nothing_written before now same }
 
 -- one more piece
 pub HasSent-more : (before mid now : Option (List ℕ)) (pieces left : List (List ℕ)) (piece : List ℕ) (left' : List (List ℕ)) → HasSent before mid pieces left → Writes mid now piece → left ≡ piece ∷ left' → HasSent before now pieces left'

@@ -1,4 +1,4 @@
-ghost use Rattle.std.specs.Prelude.{◌≡◌, ◌≤◌, ◌∷◌, [], IfSome, map, string_bytes, option_map};
+ghost use Rattle.std.specs.Prelude.{◌≡◌, IfSome, map, string_bytes, option_map};
 ghost use Rattle.tt_script.specs.Forms.{count_of, seed_of};
 ghost use Rattle.tt_top.specs.Words.{check_of, classes_of, demo_of, form_of, make_of, run_of};
 ghost use Rattle.tt_top.specs.Asked.{IsClassCount, HasClasses, form_seen};

@@ -1,4 +1,4 @@
-ghost use Rattle.std.specs.Prelude.{◌≡◌, ◌≢◌, [], ◌∷◌, map, string_bytes};
+ghost use Rattle.std.specs.Prelude.{◌≢◌, [], ◌∷◌, map, string_bytes};
 ghost use Rattle.tt_top.specs.Words.{form_of, usage_line};
 ghost use Rattle.tt_top.specs.Run.{IsRun, file_limit};
 ghost use Rattle.tt_top.specs.Ends.{EndsPlain};

@@ -1,6 +1,6 @@
 use Rattle.std.proofs.Common.{◌∙◌, refl, ap, Err}
 use Rattle.tt_top.proofs.LoadLemmas.{handed_end}
-use Rattle.tt_top.proofs.FileRunLemmas.{serves_text, serves_told, serves_none, script_failed}
+use Rattle.tt_top.proofs.FileRunLemmas.{serves_text, serves_told, script_failed}
 use Rattle.tt_top.proofs.file_run.serve_script.Goals as goal
 
 pub returns-clause-serves : goal.returns-clause-serves
