@@ -129,15 +129,6 @@ module _ (s : Session) (student : ℕ) (classes list : List ℕ) (i : ℕ) (know
   pub section_full : (class : ℕ) → first_without_seat s.desk.problem s.desk.present.lists i list ≡ Some class → carried_out s (Section student classes) ≡ Err (NoSeat (class_id s.desk.problem class))
   section_full class full = rw (known, is, valid, full) refl
 
--- the class without a seat is one of the list
-pub full_in_range : (p : Parts) (lists : List (List ℕ)) (s n : ℕ) (list : List ℕ) (class : ℕ) → first_without_seat p lists s list ≡ Some class → All (λ x. x < n) list → class < n
-full_in_range p lists s n [] class is all = absurd (cc)
-full_in_range p lists s n (x ∷ list) class is all = by_seat (has_seat p lists s x) is (λ later. full_in_range p lists s n list class later (All-tail (λ x. x < n) x list all))
-  where
-    by_seat : (free : Bool) → (if free then first_without_seat p lists s list else Some x) ≡ Some class → (first_without_seat p lists s list ≡ Some class → class < n) → class < n
-    by_seat true is rest = rest is
-    by_seat false is rest = let same : x ≡ class = cc in subst (λ (y : ℕ). y < n) same (All-head (λ x. x < n) x list all)
-
 -- ---- `publish`
 
 module _ (s : Session) where
@@ -157,24 +148,6 @@ none_unplaced t is = eqb-true _ _ (first_of _ _ (first_of _ _ is))
     first_of false b is = is
 
 -- ---- `force`
-
--- a placed class is one of the plan
-placed_within : (p : Parts) (i : ℕ) (plan : List (Option Value)) (d : ℕ) → is_some (spot_at (spots_from p i plan) d) ≡ true → d < length plan
-placed_within p i [] d is = let no : false ≡ true = is in absurd (cc)
-placed_within p i (v ∷ plan) zero is = omega arith
-placed_within p i (v ∷ plan) (suc d) is = let later : d < length plan = placed_within p (i + 1) plan d is in omega arith
-
--- the classes of a conflict set are those of the problem
-pub taken_in_range : (p : Parts) (s : Snapshot) (class : ℕ) (v : Value) → ((p : Parts) (amounts : ℕ → List (Option Spot) → ℕ) (spots : List (Option Spot)) (class : ℕ) (x : Spot) → All (IsOther spots class) (conflict_set p amounts spots class x)) → length s.plan ≡ length p.classes → All (λ d. d < length p.classes) (conflicts_of p s class v)
-unfolding conflicts_of
-taken_in_range p s class v others whole = by_spot (spot_at_value p class v)
-  where
-    below : (x : Spot) (k d : ℕ) → k < length (conflict_set p (rule_amounts p) (spots_of p s.plan) class x) → get_or (conflict_set p (rule_amounts p) (spots_of p s.plan) class x) k d < length p.classes
-    below x k d within = let less = placed_within p 0 s.plan _ (others p (rule_amounts p) (spots_of p s.plan) class x k d within).placed in rw (← whole) less
-
-    by_spot : (x : Option Spot) → All (λ d. d < length p.classes) (option_map_or (conflict_set p (rule_amounts p) (spots_of p s.plan) class) x [])
-    by_spot None = All-nil (λ d. d < length p.classes)
-    by_spot (Some x) = λ k d within. below x k d within
 
 module _ (s : Session) (class time : ℕ) (room : Option ℕ) (c : ℕ) (v : Value) (known : class_of s.desk.problem class ≡ Some c) (named : find_value s.desk.problem c time room ≡ Ok v) where
   pub force_open : blocked_of s.desk.problem c v ≡ None → carried_out s (Force class time room) ≡ Ok (with_step s (forced s.desk.problem s.desk.present c v) (out_lines s.desk.problem (conflicts_of s.desk.problem s.desk.present c v)))

@@ -5,11 +5,11 @@ ghost use Rattle.tt_desk.specs.Desk.{command_step, known_classes, value_refusal}
 ghost use Rattle.tt_desk.specs.Causes.{MayTake, block_of};
 
 use crate::refusal::{Outcome, Refusal};
-use crate::reply::{add_out, class_id};
+use crate::reply::add_out;
 use crate::session::Session;
 use std::alloc::AllocError;
 use tt_clash::Block;
-use tt_clash::laws::others;
+use tt_explain::class_id;
 use tt_plan::{NoValue, find};
 use tt_problem::Problem;
 use tt_script::{Command, Ids};
@@ -152,8 +152,6 @@ impl Session {
             Ok(value) => value,
             Err(fault) => return Ok(Outcome::Refused(value_refusal(fault))),
         };
-        self.state.soundness();
-        others();
         if let Err(refusal) = self.state.force(class, value) {
             let Some(reason) = block_of(refusal) else {
                 return Err(AllocError);

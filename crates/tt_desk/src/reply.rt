@@ -1,6 +1,5 @@
-ghost use Rattle.std.specs.Prelude.{◌≡◌, ◌<◌, ◌++◌, [], All, OnOk, OnErr, codes, length};
+ghost use Rattle.std.specs.Prelude.{◌≡◌, ◌++◌, [], OnOk, OnErr, codes};
 ghost use Rattle.tt_desk.specs.Fields.{field};
-ghost use Rattle.tt_explain.specs.Names.{class_id};
 ghost use Rattle.tt_desk.specs.Desk.{out_lines};
 ghost use Rattle.tt_desk.specs.Refusals.{refusal_number, refusal_text, refusal_line};
 ghost use Rattle.tt_desk.specs.Replies.{HasReply, counts_text, moved_text, reply_to, sums_text, totals_line};
@@ -8,7 +7,7 @@ ghost use Rattle.tt_desk.specs.Replies.{HasReply, counts_text, moved_text, reply
 use crate::refusal::{Outcome, Refusal};
 use crate::session::Session;
 use std::alloc::AllocError;
-use tt_explain::add_block;
+use tt_explain::{add_block, class_id};
 use tt_problem::Problem;
 use tt_score::Totals;
 use tt_text::Reply;
@@ -141,22 +140,12 @@ fn put_refusal(reply: &mut Reply, refusal: Refusal) -> Result<(), AllocError>
     reply.text("\n")
 }
 
-/// The id of the class at a place.
-#[tactic(auto, unfolding(tt_explain::specs::Names::class_id))]
-pub(crate) fn class_id(problem: &Problem, place: u32) -> u32
-    requires { place < length problem.now.classes }
-    ensures { result ≡ class_id problem.now place }
-{
-    problem.class(place).id
-}
-
 /// Appends a line for each class that was taken out.
 pub(crate) fn add_out(
     reply: &mut Reply,
     problem: &Problem,
     classes: &[u32],
 ) -> Result<(), AllocError>
-    requires { All (λ class. class < length problem.now.classes) classes.now }
     ensures { OnOk result (reply.new ≡ reply.old ++ out_lines problem.now classes.now) }
 {
     for class in classes {

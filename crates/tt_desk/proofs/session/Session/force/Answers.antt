@@ -6,14 +6,8 @@ use Rattle.tt_plan.specs.Named.{find_value}
 use Rattle.tt_state.specs.declared.state.Refusal.TheVariants.{Blocked}
 use Rattle.tt_state.specs.History.{Desk, desk_of}
 use Rattle.tt_state.specs.Values.{blocked_of, conflicts_of}
-use Rattle.tt_desk.proofs.DeskLemmas.{with_desk_of, accepted, refused, force_open, force_blocked, open_if_forced, is_blocked, not_blocked, on_err, taken_in_range, same_but_taken, is_ok_of}
+use Rattle.tt_desk.proofs.DeskLemmas.{with_desk_of, accepted, refused, force_open, force_blocked, open_if_forced, is_blocked, not_blocked, on_err, same_but_taken, is_ok_of}
 use Rattle.tt_desk.proofs.session.Session.force.Goals as goal
-
-pub add_out-requires : goal.add_out-requires
-add_out-requires c =
-    let held = c.self.inside.state in
-    let same : c.problem-3.result.now ≡ held.problem = c.problem-3.ensures ∙ ap (λ (d : Desk). d.problem) c.in_default-force.ensures.desk in
-    rw (c.taken.ensures.classes ∙ c.in_default-force.ensures.taken, same) (taken_in_range held.problem held.present c.in-Some.class c.in-Ok.value c.others.ensures c.soundness.ensures.present.plan.whole)
 
 pub returns-in_default-block_of-clause-memory : goal.returns-in_default-block_of-clause-memory
 returns-in_default-block_of-clause-memory c =
