@@ -92,10 +92,11 @@ pub fn first_pass<'a>(alloc: Global, object: &'a Part<'a>) -> Result<Shape<'a>, 
     let Rooms { ids: room_ids, .. } = read_rooms(alloc, &context, &rooms)?;
     let courses = list(object, "courses", 0, 20_000)?;
     let Tree {
-        course_ids,
-        class_ids,
+        ids: course_ids,
+        configs,
         ..
     } = read_courses(alloc, &context, &courses)?;
+    let class_ids = configs.subparts.classes.ids;
     let distributions = list_or_none(object, "distributions", 20_000)?;
     read_rules(alloc, &Known::none(), &distributions)?;
     let students = list_or_none(object, "students", 100_000)?;
@@ -142,9 +143,9 @@ fn parts_with(
         nr_weeks: shape.term.nr_weeks,
         weights: shape.weights,
         courses: Row::from_vec(tree.courses),
-        configs: Row::from_vec(tree.configs),
-        subparts: Row::from_vec(tree.subparts),
-        classes: Row::from_vec(tree.classes),
+        configs: Row::from_vec(tree.configs.spans),
+        subparts: Row::from_vec(tree.configs.subparts.spans),
+        classes: Row::from_vec(tree.configs.subparts.classes.classes),
         rooms: Row::from_vec(rooms.rooms),
         travel: rooms.travel,
         rules,

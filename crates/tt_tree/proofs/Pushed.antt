@@ -1,24 +1,129 @@
 -- One more part after those that were read.
-use Rattle.std.proofs.Common.{◌≡◌, ℕ, ◌+◌, ◌≤◌, List, [], ◌∷◌, ◌++◌, length, subst, sym, arith}
-use Rattle.std.specs.Prelude.{All}
+use Rattle.std.proofs.Common.{◌≡◌, ℕ, ◌<◌, ◌≤◌, List, [], ◌∷◌, ◌++◌, length, map, Result, Ok, Err, refl, sym, ap, subst, ◌∙◌, ◌+◌, arith}
+use Rattle.std.proofs.lemmas.List.{map-append}
+use Rattle.std.specs.Prelude.{All, nat_eq}
+use Rattle.std.specs.List.{IsDistinct}
 use Rattle.std.proofs.lemmas.List.Elements.{All-push}
-use Rattle.tt_tree.specs.declared.context as context
-use Rattle.tt_tree.specs.declared.rooms as rooms
-use Rattle.tt_travel.specs.Table.{IsTravel}
+use Rattle.tt_travel.specs.Table.{Table}
+use Rattle.tt_problem.specs.declared.parts.Span.{Span}
 use Rattle.tt_problem.specs.declared.parts.RoomPart.{RoomPart}
 use Rattle.tt_problem.specs.declared.parts.ClassPart.{ClassPart}
+use Rattle.tt_problem.specs.declared.parts.CoursePart.{CoursePart}
+use Rattle.tt_problem.specs.Spans.{CoversFrom, Covers}
 use Rattle.tt_problem.specs.Valid.{IsValidRoom}
-use Rattle.tt_tree.specs.Context.{HasIds}
-use Rattle.tt_tree.specs.Read.{IsRooms, IsClassAmong, AreClasses}
+use Rattle.tt_fields.specs.declared.answer.ProblemFault.{ProblemFault}
+use Rattle.tt_fields.specs.declared.answer.ProblemFault.TheVariants as faults
+use Rattle.tt_fields.specs.Answer.{Part, Fault, ◌>>=◌, Fails}
+use Rattle.tt_tree.specs.declared.context as context
+use Rattle.tt_tree.specs.declared.rooms as rooms
+use Rattle.tt_tree.specs.declared.courses as courses
+use Rattle.tt_tree.specs.Context.{Context}
+use Rattle.tt_tree.specs.Read.{IsTravelAmong, IsRooms, IsClassAmong, AreClasses, IsConfigs, IsTree}
+use Rattle.tt_tree.specs.Tables.{Rooms, room_of, room_ids, with_room, class_of, class_ids, with_class, Configs, course_of, course_ids, Tree, with_course}
 
-pub rooms_push : (c : context.Context.Context) (s t : rooms.Rooms.Rooms) (r : RoomPart) → IsRooms c s → t.rooms.items ≡ s.rooms.items ++ r ∷ []
-    → t.travel.rooms ≡ s.travel.rooms → IsTravel t.travel → IsValidRoom c.nr_days c.nr_weeks r → IsRooms c t
-rooms_push c s t r so_far pushed same travel good = record {
+-- a fault of what is read first is the fault of both
+fails_on : {A B : Type 0} (e : ProblemFault) (read : Result A Fault) (f : A → Result B Fault) → Fails e read → Fails e (read >>= f)
+fails_on faults.Memory read f h = tt
+fails_on (faults.Fault n path) read f h = ap (λ (r : Result _ Fault). r >>= f) h
+
+-- no ids differ
+pub none_distinct : IsDistinct nat_eq []
+unfolding IsDistinct
+none_distinct = tt
+
+-- ---- rooms
+
+-- the rooms before, and what was read of one more
+abbrev added_room : List RoomPart → RoomPart × Table → Result Rooms Fault
+added_room rooms x = Ok (record { rooms = rooms ++ x.0 ∷ []; travel = x.1 })
+
+pub with_room_read : (c : Context) (ids : List ℕ) (from : ℕ) (p : Part) (rooms : List RoomPart) (travel now : Table) (r : RoomPart) → ids ≡ room_ids rooms → length rooms ≡ from
+    → room_of c ids from p travel ≡ Ok (r, now) → with_room c p (record { rooms = rooms; travel = travel }) ≡ Ok (record { rooms = rooms ++ r ∷ []; travel = now })
+with_room_read c ids from p rooms travel now r same count read =
+    ap (λ (x : Result (RoomPart × Table) Fault). x >>= added_room rooms)
+    (ap (λ (k : List ℕ). room_of c k (length rooms) p travel) (sym same) ∙ ap (λ (n : ℕ). room_of c ids n p travel) count ∙ read)
+
+pub with_room_fails : (c : Context) (ids : List ℕ) (from : ℕ) (p : Part) (s : Rooms) (e : ProblemFault) → ids ≡ room_ids s.rooms → length s.rooms ≡ from
+    → Fails e (room_of c ids from p s.travel) → Fails e (with_room c p s)
+with_room_fails c ids from p s e same count fails =
+    fails_on e (room_of c (room_ids s.rooms) (length s.rooms) p s.travel) (added_room s.rooms)
+    (subst (λ n. Fails e (room_of c (room_ids s.rooms) n p s.travel)) (sym count) (subst (λ k. Fails e (room_of c k from p s.travel)) same fails))
+
+pub rooms_push : (c : context.Context.Context) (count : ℕ) (s t : rooms.Rooms.Rooms) (r : RoomPart) → IsRooms c count s → t.rooms.items ≡ s.rooms.items ++ r ∷ []
+    → t.ids.keys ≡ s.ids.keys ++ r.id ∷ [] → IsDistinct nat_eq t.ids.keys → IsTravelAmong c count t.travel → IsValidRoom c.nr_days c.nr_weeks r → IsRooms c count t
+rooms_push c count s t r so_far pushed added distinct travel good = record {
   travel = travel;
-  few = omega (arith, so_far.few);
-  known = subst (HasIds c.rooms) (sym same) so_far.known;
+  ids = added ∙ ap (λ (l : List ℕ). l ++ r.id ∷ []) so_far.ids ∙ sym (map-append (λ (x : RoomPart). x.id) s.rooms.items (r ∷ [])) ∙ ap (λ (l : List RoomPart). room_ids l) (sym pushed);
+  distinct = distinct;
   valid = subst (All (IsValidRoom c.nr_days c.nr_weeks)) (sym pushed) (All-push (IsValidRoom c.nr_days c.nr_weeks) s.rooms.items r so_far.valid good);
 }
 
-pub classes_push : (c : context.Context.Context) (classes : List ClassPart) (p : ClassPart) → AreClasses c classes → IsClassAmong c p → AreClasses c (classes ++ p ∷ [])
-classes_push c classes p so_far good = record { each = All-push (IsClassAmong c) classes p so_far.each good }
+-- ---- classes
+
+pub with_class_read : (c : Context) (ids : List ℕ) (p : Part) (before : List ClassPart) (x : ClassPart) → ids ≡ class_ids before → class_of c ids p ≡ Ok x
+    → with_class c p before ≡ Ok (before ++ x ∷ [])
+with_class_read c ids p before x same read =
+    ap (λ (r : Result ClassPart Fault). r >>= λ y. Ok (before ++ y ∷ [])) (ap (λ (k : List ℕ). class_of c k p) (sym same) ∙ read)
+
+pub with_class_fails : (c : Context) (ids : List ℕ) (p : Part) (before : List ClassPart) (e : ProblemFault) → ids ≡ class_ids before → Fails e (class_of c ids p)
+    → Fails e (with_class c p before)
+with_class_fails c ids p before e same fails =
+    fails_on e (class_of c (class_ids before) p) (λ y. Ok (before ++ y ∷ [])) (subst (λ k. Fails e (class_of c k p)) same fails)
+
+pub classes_push : (c : context.Context.Context) (s t : courses.Classes.Classes) (x : ClassPart) → AreClasses c s → t.classes.items ≡ s.classes.items ++ x ∷ []
+    → t.ids.keys ≡ s.ids.keys ++ x.id ∷ [] → IsDistinct nat_eq t.ids.keys → IsClassAmong c x → AreClasses c t
+classes_push c s t x so_far pushed added distinct good = record {
+  each = subst (All (IsClassAmong c)) (sym pushed) (All-push (IsClassAmong c) s.classes.items x so_far.each good);
+  ids = added ∙ ap (λ (l : List ℕ). l ++ x.id ∷ []) so_far.ids ∙ sym (map-append (λ (y : ClassPart). y.id) s.classes.items (x ∷ [])) ∙ ap (λ (l : List ClassPart). class_ids l) (sym pushed);
+  distinct = distinct;
+}
+
+-- ---- spans
+
+-- one more span, which begins where the others end
+covers_push : (spans : List Span) (first from end : ℕ) → CoversFrom first spans from → from < end → CoversFrom first (spans ++ record { first = from; after = end } ∷ []) end
+covers_push [] first from end h lt = (sym h, lt, refl)
+covers_push (s ∷ spans) first from end h lt = (h.0, h.1, covers_push spans s.after from end h.2 lt)
+
+-- the spans cover the places up to the end of one more
+pub covers_more : (spans more : List Span) (from end : ℕ) → Covers spans from → from < end → more ≡ spans ++ record { first = from; after = end } ∷ [] → Covers more end
+covers_more spans more from end h lt is = subst (λ (l : List Span). Covers l end) (sym is) (covers_push spans 0 from end h lt)
+
+covers_few : (spans : List Span) (first after : ℕ) → CoversFrom first spans after → first + length spans ≤ after
+covers_few [] first after h = let e : first ≡ after = h in omega (arith, e)
+covers_few (s ∷ spans) first after h = omega (arith, h.0, h.1, covers_few spans s.after after h.2)
+
+-- there are no more spans than places
+pub spans_few : (spans : List Span) (count : ℕ) → Covers spans count → length spans ≤ count
+spans_few spans count h = omega (arith, covers_few spans 0 count h)
+
+-- ---- courses
+
+-- the courses before, and what was read of one more
+abbrev added_course : List CoursePart → CoursePart × Configs → Result Tree Fault
+added_course courses x = Ok (record { courses = courses ++ x.0 ∷ []; configs = x.1 })
+
+pub with_course_read : (c : Context) (ids : List ℕ) (p : Part) (courses : List CoursePart) (configs now : Configs) (x : CoursePart) → ids ≡ course_ids courses
+    → course_of c ids p configs ≡ Ok (x, now) → with_course c p (record { courses = courses; configs = configs }) ≡ Ok (record { courses = courses ++ x ∷ []; configs = now })
+with_course_read c ids p courses configs now x same read =
+    ap (λ (r : Result (CoursePart × Configs) Fault). r >>= added_course courses)
+    (ap (λ (k : List ℕ). course_of c k p configs) (sym same) ∙ read)
+
+pub with_course_fails : (c : Context) (ids : List ℕ) (p : Part) (t : Tree) (e : ProblemFault) → ids ≡ course_ids t.courses → Fails e (course_of c ids p t.configs)
+    → Fails e (with_course c p t)
+with_course_fails c ids p t e same fails =
+    fails_on e (course_of c (course_ids t.courses) p t.configs) (added_course t.courses)
+    (subst (λ k. Fails e (course_of c k p t.configs)) same fails)
+
+pub tree_push : (c : context.Context.Context) (s t : courses.Tree.Tree) (x : CoursePart) → IsTree c s → t.courses.items ≡ s.courses.items ++ x ∷ []
+    → t.ids.keys ≡ s.ids.keys ++ x.id ∷ [] → IsDistinct nat_eq t.ids.keys → IsConfigs c t.configs
+    → x.configs ≡ record { first = length s.configs.spans.items; after = length t.configs.spans.items } → length s.configs.spans.items < length t.configs.spans.items → IsTree c t
+tree_push c s t x so_far pushed added distinct configs is more = record {
+  configs = configs;
+  courses = subst (λ (l : List Span). Covers l (length t.configs.spans.items))
+      (sym (ap (λ (l : List CoursePart). map (λ (y : CoursePart). y.configs) l) pushed ∙ map-append (λ (y : CoursePart). y.configs) s.courses.items (x ∷ [])
+      ∙ ap (λ (z : Span). map (λ (y : CoursePart). y.configs) s.courses.items ++ z ∷ []) is))
+      (covers_push (map (λ (y : CoursePart). y.configs) s.courses.items) 0 (length s.configs.spans.items) (length t.configs.spans.items) so_far.courses more);
+  ids = added ∙ ap (λ (l : List ℕ). l ++ x.id ∷ []) so_far.ids ∙ sym (map-append (λ (y : CoursePart). y.id) s.courses.items (x ∷ [])) ∙ ap (λ (l : List CoursePart). course_ids l) (sym pushed);
+  distinct = distinct;
+}
