@@ -1,9 +1,10 @@
 -- One more part after those that were read.
-use Rattle.std.proofs.Common.{◌≡◌, ℕ, ◌<◌, ◌≤◌, List, [], ◌∷◌, ◌++◌, length, map, Result, Ok, Err, refl, sym, ap, subst, ◌∙◌, ◌+◌, arith}
+use Rattle.std.proofs.Common.{◌≡◌, ℕ, ◌<◌, ◌≤◌, List, [], ◌∷◌, ◌++◌, length, map, Result, Ok, refl, sym, ap, subst, ◌∙◌, ◌+◌, arith, codes}
 use Rattle.std.proofs.lemmas.List.{map-append}
 use Rattle.std.specs.Prelude.{All, nat_eq}
 use Rattle.std.specs.List.{IsDistinct}
 use Rattle.std.proofs.lemmas.List.Elements.{All-push}
+use Rattle.tt_bits.specs.declared.times.Time.{Time}
 use Rattle.tt_travel.specs.Table.{Table}
 use Rattle.tt_problem.specs.declared.parts.Span.{Span}
 use Rattle.tt_problem.specs.declared.parts.RoomPart.{RoomPart}
@@ -14,17 +15,22 @@ use Rattle.tt_problem.specs.Valid.{IsValidRoom}
 use Rattle.tt_fields.specs.declared.answer.ProblemFault.{ProblemFault}
 use Rattle.tt_fields.specs.declared.answer.ProblemFault.TheVariants as faults
 use Rattle.tt_fields.specs.Answer.{Part, Fault, ◌>>=◌, Fails}
+use Rattle.tt_fields.specs.Kinds.{a_number, an_object, a_list, required, or_else, new_id, each, list_of}
 use Rattle.tt_tree.specs.declared.context as context
 use Rattle.tt_tree.specs.declared.rooms as rooms
 use Rattle.tt_tree.specs.declared.courses as courses
 use Rattle.tt_tree.specs.Context.{Context}
 use Rattle.tt_tree.specs.Read.{IsTravelAmong, IsRooms, IsClassAmong, AreClasses, IsConfigs, IsTree}
-use Rattle.tt_tree.specs.Tables.{Rooms, room_of, room_ids, with_room, class_of, class_ids, with_class, Configs, course_of, course_ids, Tree, with_course}
+use Rattle.tt_tree.specs.Tables.{travel_of, closed_of, Rooms, room_of, room_ids, with_room, class_of, class_ids, with_class, Configs, course_of, course_ids, Tree, with_course}
 
 -- a fault of what is read first is the fault of both
-fails_on : {A B : Type 0} (e : ProblemFault) (read : Result A Fault) (f : A → Result B Fault) → Fails e read → Fails e (read >>= f)
+pub fails_on : {A B : Type 0} (e : ProblemFault) (read : Result A Fault) (f : A → Result B Fault) → Fails e read → Fails e (read >>= f)
 fails_on faults.Memory read f h = tt
 fails_on (faults.Fault n path) read f h = ap (λ (r : Result _ Fault). r >>= f) h
+
+-- what is read after a value that was read
+then : {A B : Type 0} (r : Result A Fault) (x : A) (f : A → Result B Fault) (out : Result B Fault) → r ≡ Ok x → f x ≡ out → (r >>= f) ≡ out
+then r x f out is rest = ap (λ (s : Result _ Fault). s >>= f) is ∙ rest
 
 -- no ids differ
 pub none_distinct : IsDistinct nat_eq []
@@ -32,6 +38,25 @@ unfolding IsDistinct
 none_distinct = tt
 
 -- ---- rooms
+
+-- a room of which all but the unavailable times was read
+abbrev pub closed_room : ℕ → Table → List Time → Result (RoomPart × Table) Fault
+closed_room id travel closed = Ok (record { id = id; closed = closed }, travel)
+
+pub room_is : (c : Context) (ids more : List ℕ) (from id : ℕ) (p : Part) (travel now : Table) (entries unavailable : List Part)
+    → an_object p ≡ Ok p → required (a_number 0 4294967295) (codes "id") p ≡ Ok id → new_id id ids p ≡ Ok more
+    → or_else [] (a_list 0 4000) (codes "travel") p ≡ Ok entries → each (travel_of c from) entries travel ≡ Ok now
+    → or_else [] (a_list 0 1000) (codes "unavailable") p ≡ Ok unavailable
+    → room_of c ids from p travel ≡ (list_of (closed_of c) unavailable >>= closed_room id now)
+unfolding room_of
+room_is c ids more from id p travel now entries unavailable object number new travels read closed =
+    then (an_object p) p _ _ object
+    (then (required (a_number 0 4294967295) (codes "id") p) id _ _ number
+    (then (new_id id ids p) more _ _ new
+    (then (or_else [] (a_list 0 4000) (codes "travel") p) entries _ _ travels
+    (then (each (travel_of c from) entries travel) now _ _ read
+    (then (or_else [] (a_list 0 1000) (codes "unavailable") p) unavailable _ _ closed
+    refl)))))
 
 -- the rooms before, and what was read of one more
 abbrev added_room : List RoomPart → RoomPart × Table → Result Rooms Fault
