@@ -21,7 +21,7 @@ use Rattle.tt_tree.specs.declared.rooms as rooms
 use Rattle.tt_tree.specs.declared.courses as courses
 use Rattle.tt_tree.specs.Context.{Context}
 use Rattle.tt_tree.specs.Read.{IsTravelAmong, IsRooms, IsClassAmong, AreClasses, IsConfigs, IsTree}
-use Rattle.tt_tree.specs.Tables.{travel_of, closed_of, Rooms, room_of, room_ids, with_room, class_of, class_ids, with_class, Configs, course_of, course_ids, Tree, with_course}
+use Rattle.tt_tree.specs.Tables.{travel_of, closed_of, Rooms, room_of, room_ids, class_ids, course_ids}
 
 -- a fault of what is read first is the fault of both
 pub fails_on : {A B : Type 0} (e : ProblemFault) (read : Result A Fault) (f : A → Result B Fault) → Fails e read → Fails e (read >>= f)
@@ -39,40 +39,26 @@ none_distinct = tt
 
 -- ---- rooms
 
--- a room of which all but the unavailable times was read
-abbrev pub closed_room : ℕ → Table → List Time → Result (RoomPart × Table) Fault
-closed_room id travel closed = Ok (record { id = id; closed = closed }, travel)
+-- the rooms before, and one more of which all but the unavailable times was read
+abbrev pub closed_room : ℕ → List RoomPart → Table → List Time → Result Rooms Fault
+closed_room id rooms travel closed = Ok (record { rooms = rooms ++ record { id = id; closed = closed } ∷ []; travel = travel })
 
-pub room_is : (c : Context) (ids more : List ℕ) (from id : ℕ) (p : Part) (travel now : Table) (entries unavailable : List Part)
+-- what is left of a room after its travel
+abbrev pub room_rest : Context → ℕ → List RoomPart → Table → Part → Result Rooms Fault
+room_rest c id rooms travel p = or_else [] (a_list 0 1000) (codes "unavailable") p >>= λ unavailable. list_of (closed_of c) unavailable >>= closed_room id rooms travel
+
+pub room_is : (c : Context) (s : Rooms) (ids more : List ℕ) (from id : ℕ) (p : Part) (now : Table) (entries : List Part)
     → an_object p ≡ Ok p → required (a_number 0 4294967295) (codes "id") p ≡ Ok id → new_id id ids p ≡ Ok more
-    → or_else [] (a_list 0 4000) (codes "travel") p ≡ Ok entries → each (travel_of c from) entries travel ≡ Ok now
-    → or_else [] (a_list 0 1000) (codes "unavailable") p ≡ Ok unavailable
-    → room_of c ids from p travel ≡ (list_of (closed_of c) unavailable >>= closed_room id now)
+    → or_else [] (a_list 0 4000) (codes "travel") p ≡ Ok entries → each (travel_of c from) entries s.travel ≡ Ok now
+    → ids ≡ room_ids s.rooms → length s.rooms ≡ from → room_of c p s ≡ room_rest c id s.rooms now p
 unfolding room_of
-room_is c ids more from id p travel now entries unavailable object number new travels read closed =
+room_is c s ids more from id p now entries object number new travels read same count =
     then (an_object p) p _ _ object
     (then (required (a_number 0 4294967295) (codes "id") p) id _ _ number
-    (then (new_id id ids p) more _ _ new
+    (then (new_id id (room_ids s.rooms) p) more _ _ (ap (λ (k : List ℕ). new_id id k p) (sym same) ∙ new)
     (then (or_else [] (a_list 0 4000) (codes "travel") p) entries _ _ travels
-    (then (each (travel_of c from) entries travel) now _ _ read
-    (then (or_else [] (a_list 0 1000) (codes "unavailable") p) unavailable _ _ closed
-    refl)))))
-
--- the rooms before, and what was read of one more
-abbrev added_room : List RoomPart → RoomPart × Table → Result Rooms Fault
-added_room rooms x = Ok (record { rooms = rooms ++ x.0 ∷ []; travel = x.1 })
-
-pub with_room_read : (c : Context) (ids : List ℕ) (from : ℕ) (p : Part) (rooms : List RoomPart) (travel now : Table) (r : RoomPart) → ids ≡ room_ids rooms → length rooms ≡ from
-    → room_of c ids from p travel ≡ Ok (r, now) → with_room c p (record { rooms = rooms; travel = travel }) ≡ Ok (record { rooms = rooms ++ r ∷ []; travel = now })
-with_room_read c ids from p rooms travel now r same count read =
-    ap (λ (x : Result (RoomPart × Table) Fault). x >>= added_room rooms)
-    (ap (λ (k : List ℕ). room_of c k (length rooms) p travel) (sym same) ∙ ap (λ (n : ℕ). room_of c ids n p travel) count ∙ read)
-
-pub with_room_fails : (c : Context) (ids : List ℕ) (from : ℕ) (p : Part) (s : Rooms) (e : ProblemFault) → ids ≡ room_ids s.rooms → length s.rooms ≡ from
-    → Fails e (room_of c ids from p s.travel) → Fails e (with_room c p s)
-with_room_fails c ids from p s e same count fails =
-    fails_on e (room_of c (room_ids s.rooms) (length s.rooms) p s.travel) (added_room s.rooms)
-    (subst (λ n. Fails e (room_of c (room_ids s.rooms) n p s.travel)) (sym count) (subst (λ k. Fails e (room_of c k from p s.travel)) same fails))
+    (then (each (travel_of c (length s.rooms)) entries s.travel) now _ _ (ap (λ (n : ℕ). each (travel_of c n) entries s.travel) count ∙ read)
+    refl))))
 
 pub rooms_push : (c : context.Context.Context) (count : ℕ) (s t : rooms.Rooms.Rooms) (r : RoomPart) → IsRooms c count s → t.rooms.items ≡ s.rooms.items ++ r ∷ []
     → t.ids.keys ≡ s.ids.keys ++ r.id ∷ [] → IsDistinct nat_eq t.ids.keys → IsTravelAmong c count t.travel → IsValidRoom c.nr_days c.nr_weeks r → IsRooms c count t
@@ -84,16 +70,6 @@ rooms_push c count s t r so_far pushed added distinct travel good = record {
 }
 
 -- ---- classes
-
-pub with_class_read : (c : Context) (ids : List ℕ) (p : Part) (before : List ClassPart) (x : ClassPart) → ids ≡ class_ids before → class_of c ids p ≡ Ok x
-    → with_class c p before ≡ Ok (before ++ x ∷ [])
-with_class_read c ids p before x same read =
-    ap (λ (r : Result ClassPart Fault). r >>= λ y. Ok (before ++ y ∷ [])) (ap (λ (k : List ℕ). class_of c k p) (sym same) ∙ read)
-
-pub with_class_fails : (c : Context) (ids : List ℕ) (p : Part) (before : List ClassPart) (e : ProblemFault) → ids ≡ class_ids before → Fails e (class_of c ids p)
-    → Fails e (with_class c p before)
-with_class_fails c ids p before e same fails =
-    fails_on e (class_of c (class_ids before) p) (λ y. Ok (before ++ y ∷ [])) (subst (λ k. Fails e (class_of c k p)) same fails)
 
 pub classes_push : (c : context.Context.Context) (s t : courses.Classes.Classes) (x : ClassPart) → AreClasses c s → t.classes.items ≡ s.classes.items ++ x ∷ []
     → t.ids.keys ≡ s.ids.keys ++ x.id ∷ [] → IsDistinct nat_eq t.ids.keys → IsClassAmong c x → AreClasses c t
@@ -123,22 +99,6 @@ pub spans_few : (spans : List Span) (count : ℕ) → Covers spans count → len
 spans_few spans count h = omega (arith, covers_few spans 0 count h)
 
 -- ---- courses
-
--- the courses before, and what was read of one more
-abbrev added_course : List CoursePart → CoursePart × Configs → Result Tree Fault
-added_course courses x = Ok (record { courses = courses ++ x.0 ∷ []; configs = x.1 })
-
-pub with_course_read : (c : Context) (ids : List ℕ) (p : Part) (courses : List CoursePart) (configs now : Configs) (x : CoursePart) → ids ≡ course_ids courses
-    → course_of c ids p configs ≡ Ok (x, now) → with_course c p (record { courses = courses; configs = configs }) ≡ Ok (record { courses = courses ++ x ∷ []; configs = now })
-with_course_read c ids p courses configs now x same read =
-    ap (λ (r : Result (CoursePart × Configs) Fault). r >>= added_course courses)
-    (ap (λ (k : List ℕ). course_of c k p configs) (sym same) ∙ read)
-
-pub with_course_fails : (c : Context) (ids : List ℕ) (p : Part) (t : Tree) (e : ProblemFault) → ids ≡ course_ids t.courses → Fails e (course_of c ids p t.configs)
-    → Fails e (with_course c p t)
-with_course_fails c ids p t e same fails =
-    fails_on e (course_of c (course_ids t.courses) p t.configs) (added_course t.courses)
-    (subst (λ k. Fails e (course_of c k p t.configs)) same fails)
 
 pub tree_push : (c : context.Context.Context) (s t : courses.Tree.Tree) (x : CoursePart) → IsTree c s → t.courses.items ≡ s.courses.items ++ x ∷ []
     → t.ids.keys ≡ s.ids.keys ++ x.id ∷ [] → IsDistinct nat_eq t.ids.keys → IsConfigs c t.configs

@@ -10,12 +10,11 @@ use Rattle.serde_json.specs.Find.{as_array, as_object}
 use Rattle.serde_json.specs.View.{items_view}
 use Rattle.serde_json.specs.declared.value.Value.{Value}
 use Rattle.tt_problem.specs.declared.parts.ClassPart.{ClassPart}
-use Rattle.tt_problem.specs.declared.parts.CoursePart.{CoursePart}
 use Rattle.tt_fields.specs.Path.{at, shown}
 use Rattle.tt_fields.specs.Answer.{Part, Fault, ◌>>=◌}
-use Rattle.tt_fields.specs.Kinds.{a_number, an_object, a_list, or_wrong, counted, items_at, required, read_or_absent, value_at, new_id, each}
+use Rattle.tt_fields.specs.Kinds.{a_number, an_object, a_list, a_reference, optional, list_of, or_wrong, counted, items_at, required, read_or_absent, value_at, new_id, each}
 use Rattle.tt_tree.specs.Context.{Context}
-use Rattle.tt_tree.specs.Tables.{span, no_limit, class_of, class_ids, with_class, Subparts, subpart_of, Configs, config_of, course_of, course_ids, Tree, with_course, no_tree, courses_in}
+use Rattle.tt_tree.specs.Tables.{span, no_limit, choice_of, rooms_of, class_of, class_ids, Subparts, subpart_of, Configs, config_of, course_of, course_ids, Tree, no_tree, courses_in}
 use Rattle.tt_tree.specs.declared.courses as courses
 use Rattle.tt_tree.specs.Read.{subparts_read, configs_read}
 use Rattle.tt_tree.specs.Whole.{HasClasses}
@@ -91,12 +90,22 @@ none p = 0
 abbrev AreClasses : ℕ → ℕ → List ClassPart → Type 0
 AreClasses n m classes = length classes ≡ n
 
-class_keeps : (c : Context) (n m : ℕ) (p : Part) (s : List ClassPart) → AreClasses n m s → IfOk (with_class c p s) (AreClasses (n + 1) (m + 0))
-class_keeps c n m p s h = after (AreClasses (n + 1) (m + 0)) (class_of c (class_ids s) p) _ (λ x is. omega (arith, length-append s (x ∷ []), h))
+class_keeps : (c : Context) (n m : ℕ) (p : Part) (s : List ClassPart) → AreClasses n m s → IfOk (class_of c p s) (AreClasses (n + 1) (m + 0))
+unfolding class_of
+class_keeps c n m p s h =
+    after (AreClasses (n + 1) (m + 0)) (an_object p) _ (λ o is.
+    after (AreClasses (n + 1) (m + 0)) (required (a_number 0 4294967295) (codes "id") o) _ (λ id is.
+    after (AreClasses (n + 1) (m + 0)) (new_id id (class_ids s) o) _ (λ ids new.
+    after (AreClasses (n + 1) (m + 0)) (optional (a_number 0 4294967295) (codes "limit") o) _ (λ limit is.
+    after (AreClasses (n + 1) (m + 0)) (optional (a_reference c.classes) (codes "parent") o) _ (λ parent is.
+    after (AreClasses (n + 1) (m + 0)) (rooms_of c o) _ (λ rooms is.
+    after (AreClasses (n + 1) (m + 0)) (required (a_list 1 1000) (codes "times") o) _ (λ items is.
+    after (AreClasses (n + 1) (m + 0)) (list_of (choice_of c) items) _ (λ times is.
+    omega (arith, length-append s (record { id = id; limit = limit; parent = parent; times = times; rooms = rooms } ∷ []), h)))))))))
 
-classes_are : (c : Context) (items : List Part) (s t : List ClassPart) → each (with_class c) items s ≡ Ok t → length t ≡ length s + length items
+classes_are : (c : Context) (items : List Part) (s t : List ClassPart) → each (class_of c) items s ≡ Ok t → length t ≡ length s + length items
 classes_are c items s t read = IfOk-at_ok (AreClasses (length s + length items) (0 + sum_by none items)) read
-    (each_keeps (with_class c) AreClasses none (class_keeps c) items (length s) 0 s refl)
+    (each_keeps (class_of c) AreClasses none (class_keeps c) items (length s) 0 s refl)
 
 -- ---- subparts of a configuration
 
@@ -113,7 +122,7 @@ unfolding subpart_of
 subpart_keeps c n m p s h =
     after (AreSubparts (n + 1) (m + classes_at p)) (an_object p) _ (λ o is.
     after (AreSubparts (n + 1) (m + classes_at p)) (required (a_list 1 (20000 - length s.classes)) (codes "classes") o) _ (λ items found.
-    after (AreSubparts (n + 1) (m + classes_at p)) (each (with_class c) items s.classes) _ (λ classes read.
+    after (AreSubparts (n + 1) (m + classes_at p)) (each (class_of c) items s.classes) _ (λ classes read.
     let these : length items ≡ classes_at p = ap (λ (l : List Part). length l) (list_is (20000 - length s.classes) (codes "classes") p o items is found) in
     let more : length classes ≡ length s.classes + length items = classes_are c items s.classes classes read in
     record {
@@ -162,36 +171,30 @@ record AreCourses (n m : ℕ) (t : Tree) : Type 0 where
   count : length t.courses ≡ n
   classes : length t.configs.subparts.classes ≡ m
 
--- a course adds the classes of its configurations
-course_adds : (c : Context) (ids : List ℕ) (p : Part) (s : Configs) (m : ℕ) → length s.subparts.classes ≡ m
-    → IfOk (course_of c ids p s) (λ x. length x.1.subparts.classes ≡ m + configs_at p)
+course_keeps : (c : Context) (n m : ℕ) (p : Part) (s : Tree) → AreCourses n m s → IfOk (course_of c p s) (AreCourses (n + 1) (m + configs_at p))
 unfolding course_of
-course_adds c ids p s m h =
-    after (λ (x : CoursePart × Configs). length x.1.subparts.classes ≡ m + configs_at p) (an_object p) _ (λ o is.
-    after (λ (x : CoursePart × Configs). length x.1.subparts.classes ≡ m + configs_at p) (required (a_number 0 4294967295) (codes "id") o) _ (λ id number.
-    after (λ (x : CoursePart × Configs). length x.1.subparts.classes ≡ m + configs_at p) (new_id id ids o) _ (λ more new.
-    after (λ (x : CoursePart × Configs). length x.1.subparts.classes ≡ m + configs_at p) (required (a_list 1 no_limit) (codes "configs") o) _ (λ items found.
-    after (λ (x : CoursePart × Configs). length x.1.subparts.classes ≡ m + configs_at p) (each (config_of c) items s) _ (λ configs read.
-    let these : sum_by subparts_at items ≡ configs_at p = ap (sum_by subparts_at) (list_is no_limit (codes "configs") p o items is found) in
-    let grown : length configs.subparts.classes ≡ length s.subparts.classes + sum_by subparts_at items = (configs_are c items s configs read).classes in
-    omega (arith, grown, these, h))))))
-
-course_keeps : (c : Context) (n m : ℕ) (p : Part) (s : Tree) → AreCourses n m s → IfOk (with_course c p s) (AreCourses (n + 1) (m + configs_at p))
 course_keeps c n m p s h =
-    after (AreCourses (n + 1) (m + configs_at p)) (course_of c (course_ids s.courses) p s.configs) _ (λ x is. record {
-      count = omega (arith, length-append s.courses (x.0 ∷ []), h.count);
-      classes = IfOk-at_ok (λ (y : CoursePart × Configs). length y.1.subparts.classes ≡ m + configs_at p) is (course_adds c (course_ids s.courses) p s.configs m h.classes);
-    })
+    after (AreCourses (n + 1) (m + configs_at p)) (an_object p) _ (λ o is.
+    after (AreCourses (n + 1) (m + configs_at p)) (required (a_number 0 4294967295) (codes "id") o) _ (λ id number.
+    after (AreCourses (n + 1) (m + configs_at p)) (new_id id (course_ids s.courses) o) _ (λ more new.
+    after (AreCourses (n + 1) (m + configs_at p)) (required (a_list 1 no_limit) (codes "configs") o) _ (λ items found.
+    after (AreCourses (n + 1) (m + configs_at p)) (each (config_of c) items s.configs) _ (λ configs read.
+    let these : sum_by subparts_at items ≡ configs_at p = ap (sum_by subparts_at) (list_is no_limit (codes "configs") p o items is found) in
+    let grown : length configs.subparts.classes ≡ length s.configs.subparts.classes + sum_by subparts_at items = (configs_are c items s.configs configs read).classes in
+    record {
+      count = omega (arith, length-append s.courses (record { id = id; configs = span (length s.configs.spans) (length configs.spans) } ∷ []), h.count);
+      classes = omega (arith, grown, these, h.classes);
+    })))))
 
 courses_are : (c : Context) (items : List Part) (t : Tree) → courses_in c items ≡ Ok t → AreCourses (0 + length items) (0 + sum_by configs_at items) t
 unfolding courses_in
 courses_are c items t is = IfOk-at_ok (AreCourses (0 + length items) (0 + sum_by configs_at items)) is
-    (each_keeps (with_course c) AreCourses configs_at (course_keeps c) items 0 0 no_tree (record { count = refl; classes = refl }))
+    (each_keeps (course_of c) AreCourses configs_at (course_keeps c) items 0 0 no_tree (record { count = refl; classes = refl }))
 
 -- ---- what readers cite
 
 -- as many classes are read as there are items
-pub more_classes : (c : Context) (path : List ℕ) (vs : List Value) (s t : List ClassPart) → each (with_class c) (items_at path 0 (items_view vs)) s ≡ Ok t → length t ≡ length s + length vs
+pub more_classes : (c : Context) (path : List ℕ) (vs : List Value) (s t : List ClassPart) → each (class_of c) (items_at path 0 (items_view vs)) s ≡ Ok t → length t ≡ length s + length vs
 more_classes c path vs s t read = omega (arith, classes_are c (items_at path 0 (items_view vs)) s t read, items_length path 0 vs)
 
 -- as many subparts are read as there are items

@@ -61,27 +61,21 @@ pub record Rooms : Type 0 where
   pub rooms : List RoomPart
   pub travel : Table
 
--- the room at a place, after those with these ids, and the travel with its own
-unfoldable pub room_of : Context → List ℕ → ℕ → Part → Table → Result (RoomPart × Table) Fault
-room_of c before from p table = do
-  o ← an_object p
-  id ← required (a_number 0 4294967295) (codes "id") o
-  ids ← new_id id before o
-  entries ← or_else [] (a_list 0 4000) (codes "travel") o
-  travel ← each (travel_of c from) entries table
-  unavailable ← or_else [] (a_list 0 1000) (codes "unavailable") o
-  closed ← list_of (closed_of c) unavailable
-  Ok (record { id = id; closed = closed }, travel)
-
 -- the ids of rooms
 abbrev pub room_ids : List RoomPart → List ℕ
 room_ids rooms = map (λ r. r.id) rooms
 
--- the rooms that have been read, and one more
-abbrev pub with_room : Context → Part → Rooms → Result Rooms Fault
-with_room c p s =
-    room_of c (room_ids s.rooms) (length s.rooms) p s.travel >>= λ read.
-    Ok (record { rooms = s.rooms ++ read.0 ∷ []; travel = read.1 })
+-- a room, after those that have been read
+unfoldable pub room_of : Context → Part → Rooms → Result Rooms Fault
+room_of c p s = do
+  o ← an_object p
+  id ← required (a_number 0 4294967295) (codes "id") o
+  ids ← new_id id (room_ids s.rooms) o
+  entries ← or_else [] (a_list 0 4000) (codes "travel") o
+  travel ← each (travel_of c (length s.rooms)) entries s.travel
+  unavailable ← or_else [] (a_list 0 1000) (codes "unavailable") o
+  closed ← list_of (closed_of c) unavailable
+  Ok (record { rooms = s.rooms ++ record { id = id; closed = closed } ∷ []; travel = travel })
 
 -- none of `count` rooms has been read
 abbrev pub no_rooms : ℕ → Rooms
@@ -89,7 +83,7 @@ no_rooms count = record { rooms = []; travel = no_travel count }
 
 -- all rooms of a list, and the travel between them
 unfoldable pub rooms_in : Context → List Part → Result Rooms Fault
-rooms_in c items = each (with_room c) items (no_rooms (length items))
+rooms_in c items = each (room_of c) items (no_rooms (length items))
 
 -- ---- courses
 
@@ -112,26 +106,22 @@ rooms_of c o = do
   room ← or_else true a_truth (codes "room") o
   rooms_where room c o
 
--- a class, after those with these ids
-unfoldable pub class_of : Context → List ℕ → Part → Result ClassPart Fault
-class_of c before p = do
+-- the ids of classes
+abbrev pub class_ids : List ClassPart → List ℕ
+class_ids classes = map (λ c. c.id) classes
+
+-- a class, after those that have been read
+unfoldable pub class_of : Context → Part → List ClassPart → Result (List ClassPart) Fault
+class_of c p before = do
   o ← an_object p
   id ← required (a_number 0 4294967295) (codes "id") o
-  ids ← new_id id before o
+  ids ← new_id id (class_ids before) o
   limit ← optional (a_number 0 4294967295) (codes "limit") o
   parent ← optional (a_reference c.classes) (codes "parent") o
   rooms ← rooms_of c o
   items ← required (a_list 1 1000) (codes "times") o
   times ← list_of (choice_of c) items
-  Ok (record { id = id; limit = limit; parent = parent; times = times; rooms = rooms })
-
--- the ids of classes
-abbrev pub class_ids : List ClassPart → List ℕ
-class_ids classes = map (λ c. c.id) classes
-
--- the classes that have been read, and one more
-abbrev pub with_class : Context → Part → List ClassPart → Result (List ClassPart) Fault
-with_class c p before = class_of c (class_ids before) p >>= λ class. Ok (before ++ class ∷ [])
+  Ok (before ++ record { id = id; limit = limit; parent = parent; times = times; rooms = rooms } ∷ [])
 
 -- the places from `first` up to `after`
 abbrev pub span : ℕ → ℕ → Span
@@ -151,7 +141,7 @@ unfoldable pub subpart_of : Context → Part → Subparts → Result Subparts Fa
 subpart_of c p s = do
   o ← an_object p
   items ← required (a_list 1 (20000 - length s.classes)) (codes "classes") o
-  classes ← each (with_class c) items s.classes
+  classes ← each (class_of c) items s.classes
   Ok (record { spans = s.spans ++ span (length s.classes) (length classes) ∷ []; classes = classes })
 
 -- the configurations that have been read, each as the span of its subparts
@@ -167,30 +157,24 @@ config_of c p s = do
   subparts ← each (subpart_of c) items s.subparts
   Ok (record { spans = s.spans ++ span (length s.subparts.spans) (length subparts.spans) ∷ []; subparts = subparts })
 
--- a course, after those with these ids, and the configurations with its own
-unfoldable pub course_of : Context → List ℕ → Part → Configs → Result (CoursePart × Configs) Fault
-course_of c before p s = do
-  o ← an_object p
-  id ← required (a_number 0 4294967295) (codes "id") o
-  ids ← new_id id before o
-  items ← required (a_list 1 no_limit) (codes "configs") o
-  configs ← each (config_of c) items s
-  Ok (record { id = id; configs = span (length s.spans) (length configs.spans) }, configs)
-
--- the ids of courses
-abbrev pub course_ids : List CoursePart → List ℕ
-course_ids courses = map (λ c. c.id) courses
-
 -- the courses that have been read with all that is in them
 pub record Tree : Type 0 where
   pub courses : List CoursePart
   pub configs : Configs
 
--- the courses that have been read, and one more
-abbrev pub with_course : Context → Part → Tree → Result Tree Fault
-with_course c p t =
-    course_of c (course_ids t.courses) p t.configs >>= λ read.
-    Ok (record { courses = t.courses ++ read.0 ∷ []; configs = read.1 })
+-- the ids of courses
+abbrev pub course_ids : List CoursePart → List ℕ
+course_ids courses = map (λ c. c.id) courses
+
+-- a course, after those that have been read
+unfoldable pub course_of : Context → Part → Tree → Result Tree Fault
+course_of c p s = do
+  o ← an_object p
+  id ← required (a_number 0 4294967295) (codes "id") o
+  ids ← new_id id (course_ids s.courses) o
+  items ← required (a_list 1 no_limit) (codes "configs") o
+  configs ← each (config_of c) items s.configs
+  Ok (record { courses = s.courses ++ record { id = id; configs = span (length s.configs.spans) (length configs.spans) } ∷ []; configs = configs })
 
 -- no course has been read
 abbrev pub no_tree : Tree
@@ -198,4 +182,4 @@ no_tree = record { courses = []; configs = record { spans = []; subparts = recor
 
 -- all courses of a list
 unfoldable pub courses_in : Context → List Part → Result Tree Fault
-courses_in c items = each (with_course c) items no_tree
+courses_in c items = each (course_of c) items no_tree

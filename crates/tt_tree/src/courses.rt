@@ -6,7 +6,7 @@ ghost use Rattle.tt_fields.specs.Answer.{Gives, part_of};
 ghost use Rattle.tt_fields.specs.List.{items_of};
 ghost use Rattle.tt_tree.specs.Context.{context_of, IsContext};
 ghost use Rattle.tt_tree.specs.Read.{classes_read, subparts_read, configs_read, tree_read, IsChoiceAmong, IsClassAmong, AreClasses, IsSubparts, IsConfigs, IsTree};
-ghost use Rattle.tt_tree.specs.Tables.{room_choice_of, rooms_where, rooms_of, class_of, with_class, span, subpart_of, config_of, course_of, with_course, courses_in, Subparts as SubpartsSeen, Configs as ConfigsSeen, Tree as TreeSeen};
+ghost use Rattle.tt_tree.specs.Tables.{room_choice_of, rooms_where, rooms_of, class_of, span, subpart_of, config_of, course_of, courses_in, Subparts as SubpartsSeen, Configs as ConfigsSeen, Tree as TreeSeen};
 ghost use Rattle.tt_tree.specs.Whole.{HasClasses};
 
 use crate::context::Context;
@@ -103,50 +103,18 @@ fn read_class_rooms(
     rooms_if(alloc, room, context, object)
 }
 
-/// A class. Its id is added to those of the classes before.
-#[tactic(auto, unfolding(crate::specs::Tables::class_of))]
-fn class(
-    alloc: Global,
-    context: &Context<'_>,
-    object: &Part<'_>,
-    ids: &mut IndexSet<u32>,
-) -> Result<ClassPart, ProblemFault>
-    requires { IsContext context.now }
-    ensures reads { Gives (λ class. class) result
-        (class_of (context_of context.now) ids.old.keys (part_of object.now)) }
-    ensures ids { IfOk result (λ class. ids.new.keys ≡ ids.old.keys ++ class.id ∷ []) }
-    ensures distinct { IfOk result (λ _. IsDistinct nat_eq ids.new.keys) }
-    ensures valid { IfOk result (λ class. IsClassAmong context.now class) }
-{
-    as_object(object)?;
-    let id = number(&*object, "id", 0, u32::MAX)?;
-    add_id(object, id, ids)?;
-    let limit = optional_number(&*object, "limit", 0, u32::MAX)?;
-    let parent = optional_reference(&context.classes, &*object, "parent")?;
-    let rooms = read_class_rooms(alloc, context, object)?;
-    let items = list(&*object, "times", 1, 1000)?;
-    let times = read_each(alloc, context, &items)?;
-    Ok(ClassPart {
-        id,
-        limit,
-        parent,
-        times: Row::from_vec(times),
-        rooms,
-    })
-}
-
 impl NextTable<Classes> for Context<'_> {
     ghost Seen = { List ClassSeen };
 
     ghost seen = { classes_read };
 
-    ghost reads = { λ c. with_class (context_of c) };
+    ghost reads = { λ c. class_of (context_of c) };
 
     ghost most = { λ c. 20000 };
 
     ghost valid = { λ c place s. IsContext c × AreClasses c s };
 
-    #[tactic(auto, using(crate::proofs::Pushed::with_class_read, crate::proofs::Pushed::with_class_fails, crate::proofs::Pushed::classes_push))]
+    #[tactic(auto, using(crate::proofs::Pushed::classes_push), unfolding(crate::specs::Tables::class_of))]
     fn read_next(
         &self,
         alloc: Global,
@@ -154,8 +122,21 @@ impl NextTable<Classes> for Context<'_> {
         item: &Part<'_>,
         before: &mut Classes,
     ) -> Result<(), ProblemFault> {
-        let class = class(alloc, self, item, &mut before.ids)?;
-        before.classes.push(class)?;
+        as_object(item)?;
+        let id = number(&*item, "id", 0, u32::MAX)?;
+        add_id(item, id, &mut before.ids)?;
+        let limit = optional_number(&*item, "limit", 0, u32::MAX)?;
+        let parent = optional_reference(&self.classes, &*item, "parent")?;
+        let rooms = read_class_rooms(alloc, self, item)?;
+        let items = list(&*item, "times", 1, 1000)?;
+        let times = read_each(alloc, self, &items)?;
+        before.classes.push(ClassPart {
+            id,
+            limit,
+            parent,
+            times: Row::from_vec(times),
+            rooms,
+        })?;
         Ok(())
     }
 }
@@ -233,53 +214,18 @@ impl NextTable<Configs> for Context<'_> {
     }
 }
 
-/// A course. Its id is added to those of the courses before, and its configurations to theirs.
-#[tactic(auto, using(crate::proofs::Whole::more_configs), unfolding(crate::specs::Tables::course_of))]
-fn course(
-    alloc: Global,
-    context: &Context<'_>,
-    object: &Part<'_>,
-    ids: &mut IndexSet<u32>,
-    configs: &mut Configs,
-) -> Result<CoursePart, ProblemFault>
-    requires context { IsContext context.now }
-    requires configs { IsConfigs context.now configs.old }
-    ensures reads { Gives (λ course. (course, configs_read configs.new)) result
-        (course_of (context_of context.now) ids.old.keys (part_of object.now) (configs_read configs.old)) }
-    ensures ids { IfOk result (λ course. ids.new.keys ≡ ids.old.keys ++ course.id ∷ []) }
-    ensures distinct { IfOk result (λ _. IsDistinct nat_eq ids.new.keys) }
-    ensures configs { IfOk result (λ _. IsConfigs context.now configs.new) }
-    ensures span { IfOk result (λ course. course.configs ≡ span (length configs.old.spans.items) (length configs.new.spans.items)) }
-    ensures more { IfOk result (λ _. length configs.old.spans.items < length configs.new.spans.items) }
-{
-    as_object(object)?;
-    let id = number(&*object, "id", 0, u32::MAX)?;
-    add_id(object, id, ids)?;
-    let first = configs.spans.len();
-    let items = list(&*object, "configs", 1, usize::MAX)?;
-    read_onto(alloc, context, &items, configs)?;
-    let after = configs.spans.len();
-    Ok(CoursePart {
-        id,
-        configs: Span {
-            first: first as u32,
-            after: after as u32,
-        },
-    })
-}
-
 impl NextTable<Tree> for Context<'_> {
     ghost Seen = { TreeSeen };
 
     ghost seen = { tree_read };
 
-    ghost reads = { λ c. with_course (context_of c) };
+    ghost reads = { λ c. course_of (context_of c) };
 
     ghost most = { λ c. 2 ^ 64 };
 
     ghost valid = { λ c place t. IsContext c × IsTree c t };
 
-    #[tactic(auto, using(crate::proofs::Pushed::with_course_read, crate::proofs::Pushed::with_course_fails, crate::proofs::Pushed::tree_push))]
+    #[tactic(auto, using(crate::proofs::Whole::more_configs, crate::proofs::Pushed::tree_push), unfolding(crate::specs::Tables::course_of))]
     fn read_next(
         &self,
         alloc: Global,
@@ -287,8 +233,20 @@ impl NextTable<Tree> for Context<'_> {
         item: &Part<'_>,
         before: &mut Tree,
     ) -> Result<(), ProblemFault> {
-        let course = course(alloc, self, item, &mut before.ids, &mut before.configs)?;
-        before.courses.push(course)?;
+        as_object(item)?;
+        let id = number(&*item, "id", 0, u32::MAX)?;
+        add_id(item, id, &mut before.ids)?;
+        let first = before.configs.spans.len();
+        let items = list(&*item, "configs", 1, usize::MAX)?;
+        read_onto(alloc, self, &items, &mut before.configs)?;
+        let after = before.configs.spans.len();
+        before.courses.push(CoursePart {
+            id,
+            configs: Span {
+                first: first as u32,
+                after: after as u32,
+            },
+        })?;
         Ok(())
     }
 }

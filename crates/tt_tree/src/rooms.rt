@@ -6,7 +6,7 @@ ghost use Rattle.tt_fields.specs.Answer.{Gives, part_of};
 ghost use Rattle.tt_fields.specs.List.{items_of};
 ghost use Rattle.tt_tree.specs.Context.{context_of, IsContext, HasIds};
 ghost use Rattle.tt_tree.specs.Read.{rooms_read, IsTravelAmong, IsRooms};
-ghost use Rattle.tt_tree.specs.Tables.{travel_of, room_of, with_room, rooms_in, Rooms as RoomsSeen};
+ghost use Rattle.tt_tree.specs.Tables.{travel_of, room_of, rooms_in, Rooms as RoomsSeen};
 
 use crate::context::Context;
 use indexmap::IndexSet;
@@ -70,50 +70,18 @@ struct RoomTable<'a> {
     count: u32,
 }
 
-/// The room at a place. Its id is added to those of the rooms before, and its travel is set.
-#[tactic(auto, unfolding(crate::specs::Tables::room_of))]
-fn room(
-    alloc: Global,
-    entries: &EntryTable<'_>,
-    object: &Part<'_>,
-    ids: &mut IndexSet<u32>,
-    travel: &mut Travel,
-) -> Result<RoomPart, ProblemFault>
-    requires context { IsContext entries.now.context }
-    requires from { entries.now.from < entries.now.count }
-    requires travel { IsTravelAmong entries.now.context entries.now.count travel.old }
-    ensures reads { Gives (λ room. (room, travel.new)) result
-        (room_of (context_of entries.now.context) ids.old.keys entries.now.from (part_of object.now) travel.old) }
-    ensures ids { IfOk result (λ room. ids.new.keys ≡ ids.old.keys ++ room.id ∷ []) }
-    ensures distinct { IfOk result (λ _. IsDistinct nat_eq ids.new.keys) }
-    ensures travel { IfOk result (λ _. IsTravelAmong entries.now.context entries.now.count travel.new) }
-    ensures valid { IfOk result (λ room. IsValidRoom entries.now.context.nr_days entries.now.context.nr_weeks room) }
-{
-    as_object(object)?;
-    let id = number(&*object, "id", 0, u32::MAX)?;
-    add_id(object, id, ids)?;
-    let items = list_or_none(&*object, "travel", 4000)?;
-    read_onto(alloc, entries, &items, travel)?;
-    let unavailable = list_or_none(&*object, "unavailable", 1000)?;
-    let closed = read_each(alloc, &entries.context, &unavailable)?;
-    Ok(RoomPart {
-        id,
-        closed: Row::from_vec(closed),
-    })
-}
-
 impl NextTable<Rooms> for RoomTable<'_> {
     ghost Seen = { RoomsSeen };
 
     ghost seen = { rooms_read };
 
-    ghost reads = { λ t. with_room (context_of t.context) };
+    ghost reads = { λ t. room_of (context_of t.context) };
 
     ghost most = { λ t. t.count };
 
     ghost valid = { λ t place s. IsContext t.context × IsRooms t.context t.count s × (length s.rooms.items ≡ place) };
 
-    #[tactic(auto, using(crate::proofs::Pushed::with_room_read, crate::proofs::Pushed::with_room_fails, crate::proofs::Pushed::rooms_push))]
+    #[tactic(auto, using(crate::proofs::Pushed::rooms_push), unfolding(crate::specs::Tables::room_of))]
     fn read_next(
         &self,
         alloc: Global,
@@ -126,8 +94,17 @@ impl NextTable<Rooms> for RoomTable<'_> {
             count: self.count,
             from: place as u32,
         };
-        let room = room(alloc, &entries, item, &mut before.ids, &mut before.travel)?;
-        before.rooms.push(room)?;
+        as_object(item)?;
+        let id = number(&*item, "id", 0, u32::MAX)?;
+        add_id(item, id, &mut before.ids)?;
+        let items = list_or_none(&*item, "travel", 4000)?;
+        read_onto(alloc, &entries, &items, &mut before.travel)?;
+        let unavailable = list_or_none(&*item, "unavailable", 1000)?;
+        let closed = read_each(alloc, &self.context, &unavailable)?;
+        before.rooms.push(RoomPart {
+            id,
+            closed: Row::from_vec(closed),
+        })?;
         Ok(())
     }
 }
