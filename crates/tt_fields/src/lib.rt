@@ -6,6 +6,7 @@
 mod answer;
 mod document;
 mod kinds;
+mod lists;
 mod part;
 mod trail;
 
@@ -16,6 +17,7 @@ pub use kinds::{
     list, list_or_none, number, object, optional_number, optional_reference, reference, required,
     text, truth_or, weeks,
 };
+pub use lists::{ItemTable, NextTable, read_each, read_onto};
 pub use part::{Fault, Part, no_json, whole};
 pub use trail::Trail;
 

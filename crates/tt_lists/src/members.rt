@@ -1,53 +1,43 @@
-ghost use Rattle.std.specs.Prelude.{◌+◌, ◌≤◌, length, nat_eq, All, IfOk, OnOk};
+ghost use Rattle.std.specs.Prelude.{ℕ, ◌+◌, ◌≤◌, ◌^◌, List, length, nat_eq, All, IfOk, OnOk};
 ghost use Rattle.std.specs.List.{IsDistinct};
 ghost use Rattle.tt_fields.specs.Answer.{Gives, part_of};
-ghost use Rattle.tt_fields.specs.Kinds.{each};
 ghost use Rattle.tt_fields.specs.List.{items_of, known_of, IsAmong, IsFew};
 ghost use Rattle.tt_lists.specs.Tables.{member_of, members_of};
 
 use indexmap::IndexSet;
 use std::alloc::Global;
 use tt_base::Row;
-use tt_fields::{Items, Known, Part, ProblemFault, item_reference};
+use tt_fields::{Items, Known, NextTable, Part, ProblemFault, item_reference, read_onto};
 
-/// Adds the place that a reference names, unless it stood before.
-#[tactic(auto, unfolding(crate::specs::Tables::member_of))]
-fn member(
-    known: &Known<'_>,
-    item: &Part<'_>,
-    members: &mut IndexSet<u32>,
-) -> Result<(), ProblemFault>
-    requires few { IsFew known.now }
-    requires known { All (IsAmong known.now) members.old.keys }
-    ensures reads { Gives (λ _. members.new.keys) result
-        (member_of (known_of known.now) (part_of item.now) members.old.keys) }
-    ensures known { OnOk result (All (IsAmong known.now) members.new.keys) }
-    ensures one { OnOk result (length members.new.keys ≤ length members.old.keys + 1) }
-{
-    let place = item_reference(known, &*item)?;
-    members.insert(place)?;
-    Ok(())
+/// The references of a list, which are looked up among these ids.
+#[derive(Clone, Copy)]
+struct ReferenceTable<'a> {
+    known: Known<'a>,
 }
 
-/// Adds the places that a list of references names, each unless it stood before.
-#[tactic(auto, using(tt_fields::proofs::Walk::threads_more, tt_fields::proofs::Walk::threads_fault, tt_fields::proofs::Walk::threads_all))]
-fn each_member(
-    known: &Known<'_>,
-    items: &Items<'_>,
-    members: &mut IndexSet<u32>,
-) -> Result<(), ProblemFault>
-    requires few { IsFew known.now }
-    requires known { All (IsAmong known.now) members.old.keys }
-    ensures reads { Gives (λ _. members.new.keys) result
-        (each (member_of (known_of known.now)) (items_of items.now) members.old.keys) }
-    ensures known { OnOk result (All (IsAmong known.now) members.new.keys) }
-    ensures count { OnOk result (length members.new.keys ≤ length members.old.keys + length items.now.values.now) }
-{
-    for (i, value) in items.values.iter().enumerate() {
-        let item = (&*items).item(i, value);
-        member(known, &item, members)?;
+impl NextTable<IndexSet<u32>> for ReferenceTable<'_> {
+    ghost Seen = { List ℕ };
+
+    ghost seen = { λ members. members.keys };
+
+    ghost reads = { λ t. member_of (known_of t.known) };
+
+    ghost most = { λ t. 2 ^ 64 };
+
+    ghost valid = { λ t place members. IsFew t.known × All (IsAmong t.known) members.keys × (length members.keys ≤ place) };
+
+    #[tactic(auto, unfolding(crate::specs::Tables::member_of))]
+    fn read_next(
+        &self,
+        _alloc: Global,
+        _place: usize,
+        item: &Part<'_>,
+        before: &mut IndexSet<u32>,
+    ) -> Result<(), ProblemFault> {
+        let place = item_reference(&self.known, &*item)?;
+        before.insert(place)?;
+        Ok(())
     }
-    Ok(())
 }
 
 /// The places that a list of references names, without repeats.
@@ -63,7 +53,12 @@ pub fn distinct_places(
     ensures count { IfOk result (λ members. length members ≤ length items.now.values.now) }
 {
     let mut members = IndexSet::new(alloc);
-    each_member(known, items, &mut members)?;
+    read_onto(
+        alloc,
+        &ReferenceTable { known: *known },
+        items,
+        &mut members,
+    )?;
     let list = members.iter().copied().collect(alloc)?;
     Ok(Row::from_vec(list))
 }

@@ -9,8 +9,8 @@ use crate::members::distinct_places;
 use std::alloc::Global;
 use tt_base::Row;
 use tt_fields::{
-    Fault, Items, Known, Part, ProblemFault, as_object, as_text, fault, list, number, required,
-    truth_or,
+    Fault, ItemTable, Items, Known, Part, ProblemFault, as_object, as_text, fault, list, number,
+    read_each, required, truth_or,
 };
 use tt_problem::{DistKind, Rule};
 use tt_types::read_type;
@@ -40,30 +40,38 @@ fn read_penalty<'a>(required: bool, object: &'a Part<'a>) -> Result<u32, Fault<'
     }
 }
 
-/// A distribution.
-#[tactic(auto, unfolding(crate::specs::Tables::rule_of))]
-fn rule(alloc: Global, known: &Known<'_>, object: &Part<'_>) -> Result<Rule, ProblemFault>
-    requires { IsFew known.now }
-    ensures reads { Gives (λ rule. rule) result (rule_of (known_of known.now) (part_of object.now)) }
-    ensures valid { IfOk result (λ rule. IsRuleAmong known.now rule) }
-{
-    as_object(object)?;
-    let kind = read_kind(&*object)?;
-    let required = truth_or(false, &*object, "required")?;
-    let penalty = read_penalty(required, &*object)?;
-    let items = list(&*object, "classes", 0, 2000)?;
-    let members = distinct_places(alloc, known, &items)?;
-    Ok(Rule {
-        kind,
-        required,
-        penalty,
-        members,
-    })
+/// The distributions, whose classes are looked up among these ids.
+#[derive(Clone, Copy)]
+struct RuleTable<'a> {
+    classes: Known<'a>,
+}
+
+impl ItemTable<Rule> for RuleTable<'_> {
+    ghost reads = { λ t. rule_of (known_of t.classes) };
+
+    ghost valid = { λ t rule. IsRuleAmong t.classes rule };
+
+    ghost ready = { λ t. IsFew t.classes };
+
+    #[tactic(auto, unfolding(crate::specs::Tables::rule_of))]
+    fn read_item(&self, alloc: Global, item: &Part<'_>) -> Result<Rule, ProblemFault> {
+        as_object(item)?;
+        let kind = read_kind(&*item)?;
+        let required = truth_or(false, &*item, "required")?;
+        let penalty = read_penalty(required, &*item)?;
+        let items = list(&*item, "classes", 0, 2000)?;
+        let members = distinct_places(alloc, &self.classes, &items)?;
+        Ok(Rule {
+            kind,
+            required,
+            penalty,
+            members,
+        })
+    }
 }
 
 /// The distributions of a list, in its order. `known` has the ids of the classes, once they are
 /// known. Faults: 31, 32, 34, 37 and 39.
-#[tactic(auto, using(tt_fields::proofs::Walk::collects_more, tt_fields::proofs::Walk::collects_fault, tt_fields::proofs::Walk::collects_all))]
 pub fn read_rules(
     alloc: Global,
     known: &Known<'_>,
@@ -74,10 +82,6 @@ pub fn read_rules(
     ensures valid { IfOk result (λ rules. All (IsRuleAmong known.now) rules) }
     ensures count { IfOk result (λ rules. length rules ≡ length items.now.values.now) }
 {
-    let mut rules = Vec::new(alloc);
-    for (i, value) in items.values.iter().enumerate() {
-        let item = (&*items).item(i, value);
-        rules.push(rule(alloc, known, &item)?)?;
-    }
+    let rules = read_each(alloc, &RuleTable { classes: *known }, items)?;
     Ok(Row::from_vec(rules))
 }

@@ -22,7 +22,6 @@ use Rattle.tt_tree.specs.declared.courses as courses
 use Rattle.tt_tree.specs.Context.{Context, context_of}
 use Rattle.tt_tree.specs.Tables.{Rooms, Tree, rooms_in, courses_in}
 use Rattle.tt_tree.specs.Read.{rooms_read, tree_read, IsRooms, IsTree, IsClassAmong, IsChoiceAmong}
-use Rattle.tt_tree.specs.Whole.{IsWhole, HasRoomIds}
 use Rattle.tt_lists.specs.Tables.{rules_of, students_of}
 use Rattle.tt_lists.specs.Valid.{IsRuleAmong, IsStudentAmong}
 use Rattle.tt_read.specs.declared.passes as passes
@@ -80,12 +79,14 @@ module _ (p : Parts) where
 
 pub linked : (s : passes.Shape.Shape) (c : context.Context.Context) (k : Known) (r : rooms.Rooms.Rooms) (t : courses.Tree.Tree) (rules : List Rule) (students : List StudentPart)
     → IsShape s → context_of c ≡ known (shape_read s) → known_of k ≡ Some s.course_ids.keys
-    → IsRooms c r → HasRoomIds (rooms_read r) → length r.rooms.items ≡ length s.rooms.values.now → r.travel.rooms ≡ length s.rooms.values.now
-    → IsTree c t → IsWhole (tree_read t) → length t.courses.items ≡ length s.courses.values.now → courses_in (context_of c) (items_of s.courses) ≡ Ok (tree_read t)
+    → IsRooms c (length s.rooms.values.now) r → length r.rooms.items ≡ length s.rooms.values.now
+    → IsTree c t → length t.courses.items ≡ length s.courses.values.now → courses_in (context_of c) (items_of s.courses) ≡ Ok (tree_read t)
     → All (IsRuleAmong c.classes) rules → length rules ≡ length s.distributions.values.now
     → All (IsStudentAmong k) students → IsDistinct nat_eq (map (λ x. x.id) students) → length students ≡ length s.students.values.now
     → IsLinked (parts_with (shape_read s) (rooms_read r) (tree_read t) rules students)
-linked s c k r t rules students shape same courses_known ok_rooms room_ids room_count table ok_tree whole course_count read ok_rules rule_count ok_students student_ids student_count =
+linked s c k r t rules students shape same courses_known ok_rooms room_count ok_tree course_count read ok_rules rule_count ok_students student_ids student_count =
+    let ok_configs = ok_tree.configs in
+    let ok_subparts = ok_configs.subparts in
     let p : Parts = parts_with (shape_read s) (rooms_read r) (tree_read t) rules students in
     let days : c.nr_days ≡ p.nr_days = ap (λ (x : Context). x.nr_days) same in
     let weeks : c.nr_weeks ≡ p.nr_weeks = ap (λ (x : Context). x.nr_weeks) same in
@@ -99,33 +100,33 @@ linked s c k r t rules students shape same courses_known ok_rooms room_ids room_
     let rules_valid : All (IsValidRule p) rules = All-weaker (IsRuleAmong c.classes) (IsValidRule p) (rule_valid p c.classes classes_below) rules ok_rules in
     let students_valid : All (IsValidStudent p) students = All-weaker (IsStudentAmong k) (IsValidStudent p) (student_valid p k courses_below) students ok_students in
     record {
-      few_classes = ok_tree.classes;
+      few_classes = ok_subparts.few_classes;
       few_rules = omega (arith, rule_count, shape.few_distributions);
       rules = rules_valid;
       short = All-weaker (IsRuleAmong c.classes) (λ (x : Rule). length x.members ≤ 2000) (λ x h. h.few) rules ok_rules;
-      courses = whole.courses;
-      configs = whole.configs;
-      few_subparts = omega (arith, ok_tree.subparts, ok_tree.classes);
+      courses = ok_tree.courses;
+      configs = ok_configs.spans;
+      few_subparts = ok_subparts.few;
       few_students = omega (arith, student_count, shape.few_students);
       students = students_valid;
       valid = λ cells members links seats. record {
         term = shape.term;
         weights = shape.weights;
-        courses = whole.courses;
-        configs = whole.configs;
-        subparts = whole.subparts;
-        classes = All-weaker (IsClassAmong c) (IsValidClass p) (class_valid p c days weeks rooms_below classes_below) t.classes.items ok_tree.valid.each;
+        courses = ok_tree.courses;
+        configs = ok_configs.spans;
+        subparts = ok_subparts.spans;
+        classes = All-weaker (IsClassAmong c) (IsValidClass p) (class_valid p c days weeks rooms_below classes_below) t.configs.subparts.classes.classes.items ok_subparts.classes.each;
         rooms = subst (λ d. All (IsValidRoom d p.nr_weeks) p.rooms) days (subst (λ w. All (IsValidRoom c.nr_days w) p.rooms) weeks ok_rooms.valid);
-        travel = ok_rooms.travel;
-        travel_rooms = table ∙ sym room_count;
+        travel = ok_rooms.travel.sound;
+        travel_rooms = ok_rooms.travel.rooms ∙ sym room_count;
         rules = rules_valid;
         students = students_valid;
-        course_ids = subst (IsDistinct nat_eq) whole.course_ids whole.distinct_courses;
-        class_ids = subst (IsDistinct nat_eq) whole.class_ids whole.distinct_classes;
-        room_ids = subst (IsDistinct nat_eq) room_ids.ids room_ids.distinct;
+        course_ids = subst (IsDistinct nat_eq) ok_tree.ids ok_tree.distinct;
+        class_ids = subst (IsDistinct nat_eq) ok_subparts.classes.ids ok_subparts.classes.distinct;
+        room_ids = subst (IsDistinct nat_eq) ok_rooms.ids ok_rooms.distinct;
         student_ids = student_ids;
         few_courses = omega (arith, course_count, shape.few_courses);
-        few_classes = ok_tree.classes;
+        few_classes = ok_subparts.few_classes;
         few_rooms = omega (arith, room_count, shape.few_rooms);
         few_rules = omega (arith, rule_count, shape.few_distributions);
         few_students = omega (arith, student_count, shape.few_students);

@@ -12,7 +12,7 @@ use Rattle.tt_fields.specs.Path.{at}
 use Rattle.tt_fields.specs.Answer.{Part, Fault, fault, ◌>>=◌}
 use Rattle.tt_fields.specs.Kinds.{a_number, an_object, a_list, required, or_else}
 use Rattle.tt_tree.specs.Context.{Context}
-use Rattle.tt_tree.specs.Tables.{Rooms, Tree, rooms_in, courses_in}
+use Rattle.tt_tree.specs.Tables.{Rooms, Tree, rooms_in, courses_in, room_ids, course_ids, class_ids}
 use Rattle.tt_lists.specs.Tables.{rules_of, students_of}
 use Rattle.tt_fields.specs.Text.{json_of}
 use Rattle.tt_read.specs.declared.term.Term.{Term}
@@ -71,10 +71,10 @@ shape_of p = do
     term = term;
     weights = weights;
     rooms = room_items;
-    room_ids = rooms.ids;
+    room_ids = room_ids rooms.rooms;
     courses = course_items;
-    course_ids = tree.course_ids;
-    class_ids = tree.class_ids;
+    course_ids = course_ids tree.courses;
+    class_ids = class_ids tree.configs.subparts.classes;
     distributions = rule_items;
     students = student_items;
   })
@@ -92,9 +92,9 @@ parts_with s rooms tree rules students = record {
   nr_weeks = s.term.nr_weeks;
   weights = s.weights;
   courses = tree.courses;
-  configs = tree.configs;
-  subparts = tree.subparts;
-  classes = tree.classes;
+  configs = tree.configs.spans;
+  subparts = tree.configs.subparts.spans;
+  classes = tree.configs.subparts.classes;
   rooms = rooms.rooms;
   travel = rooms.travel;
   rules = rules;

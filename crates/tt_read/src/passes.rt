@@ -17,7 +17,7 @@ use tt_fields::{
 };
 use tt_lists::{read_rules, read_students};
 use tt_problem::{Parts, Rule, StudentPart, Weights};
-use tt_tree::{Context, Rooms, Tree, read_courses, read_rooms};
+use tt_tree::{Classes, Configs, Context, Rooms, Subparts, Tree, read_courses, read_rooms};
 
 /// The days of a week and the weeks of the term.
 #[tactic(auto, unfolding(crate::specs::Tables::term_of))]
@@ -92,10 +92,13 @@ pub fn first_pass<'a>(alloc: Global, object: &'a Part<'a>) -> Result<Shape<'a>, 
     let Rooms { ids: room_ids, .. } = read_rooms(alloc, &context, &rooms)?;
     let courses = list(object, "courses", 0, 20_000)?;
     let Tree {
-        course_ids,
-        class_ids,
+        ids: course_ids,
+        configs,
         ..
     } = read_courses(alloc, &context, &courses)?;
+    let Configs { subparts, .. } = configs;
+    let Subparts { classes, .. } = subparts;
+    let Classes { ids: class_ids, .. } = classes;
     let distributions = list_or_none(object, "distributions", 20_000)?;
     read_rules(alloc, &Known::none(), &distributions)?;
     let students = list_or_none(object, "students", 100_000)?;
@@ -137,14 +140,28 @@ fn parts_with(
 ) -> Parts
     ensures { result ≡ parts_of_all (shape_read shape.now) (rooms_read rooms) (tree_read tree) rules students }
 {
+    let Tree {
+        courses,
+        configs,
+        ..
+    } = tree;
+    let Configs {
+        spans: configs,
+        subparts,
+    } = configs;
+    let Subparts {
+        spans: subparts,
+        classes,
+    } = subparts;
+    let Classes { classes, .. } = classes;
     Parts {
         nr_days: shape.term.nr_days,
         nr_weeks: shape.term.nr_weeks,
         weights: shape.weights,
-        courses: Row::from_vec(tree.courses),
-        configs: Row::from_vec(tree.configs),
-        subparts: Row::from_vec(tree.subparts),
-        classes: Row::from_vec(tree.classes),
+        courses: Row::from_vec(courses),
+        configs: Row::from_vec(configs),
+        subparts: Row::from_vec(subparts),
+        classes: Row::from_vec(classes),
         rooms: Row::from_vec(rooms.rooms),
         travel: rooms.travel,
         rules,

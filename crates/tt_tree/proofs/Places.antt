@@ -1,15 +1,15 @@
 -- Places of what is referred to.
-use Rattle.std.proofs.Common.{◌≡◌, ℕ, suc, ◌<◌, ◌≤◌, List, [], ◌∷◌, length, Option, Some, None, Result, Ok, Err, refl, sym, ap, ◌∙◌, arith}
+use Rattle.std.proofs.Common.{◌≡◌, ℕ, suc, ◌<◌, ◌≤◌, List, length, Option, Some, None, Result, Ok, Err, refl, sym, ap, ◌∙◌, arith}
 use Rattle.std.specs.Prelude.{IfOk, IfSome, option_map, codes}
 use Rattle.std.proofs.lemmas.Result.{IfOk-at_ok}
-use Rattle.serde_json.specs.Data.{Data, Items, no_items, item}
+use Rattle.serde_json.specs.Data.{Items, no_items, item}
 use Rattle.serde_json.specs.Find.{as_object}
 use Rattle.serde_json.specs.Events.{items_len}
 use Rattle.serde_json.specs.View.{items_view}
 use Rattle.serde_json.specs.declared.value.Value.{Value}
 use Rattle.tt_fields.specs.declared.kinds.Known.{Known}
 use Rattle.tt_fields.specs.Path.{at}
-use Rattle.tt_fields.specs.Answer.{Part, Fault, fault, ◌>>=◌}
+use Rattle.tt_fields.specs.Answer.{Part, Fault, ◌>>=◌}
 use Rattle.tt_fields.specs.Kinds.{a_number, items_at, place_of, by_kind, a_reference, required, read_or_absent, value_at}
 use Rattle.tt_fields.specs.List.{known_of, IsAmong}
 use Rattle.tt_fields.proofs.Walk.{items_count}

@@ -1,5 +1,5 @@
 -- The tables of rooms and courses, one line for each key, in the order in which they are read.
-use Rattle.std.specs.Prelude.{ℕ, ◌+◌, ◌-◌, ◌==◌, ◌||◌, List, [], ◌∷◌, ◌++◌, length, Bool, true, false, Result, Ok, codes, nat_lt, if◌then◌else◌}
+use Rattle.std.specs.Prelude.{ℕ, ◌+◌, ◌-◌, ◌==◌, ◌||◌, List, [], ◌∷◌, ◌++◌, length, map, Bool, true, false, Result, Ok, codes, nat_lt, if◌then◌else◌}
 use Rattle.tt_bits.specs.declared.times.Time.{Time}
 use Rattle.tt_bits.specs.Sets.{days_text, weeks_text}
 use Rattle.tt_bits.specs.Times as bits
@@ -56,27 +56,30 @@ travel_of c from p table = do
   slots ← required (a_number 0 65535) (codes "value") o
   Ok (with_travel table from to slots)
 
--- the rooms that have been read, their ids, and the travel between all rooms as far as it has been read
+-- the rooms that have been read, and the travel between all rooms as far as it has been read
 pub record Rooms : Type 0 where
-  pub ids : List ℕ
   pub rooms : List RoomPart
   pub travel : Table
+
+-- the ids of rooms
+abbrev pub room_ids : List RoomPart → List ℕ
+room_ids rooms = map (λ r. r.id) rooms
 
 -- a room, after those that have been read
 unfoldable pub room_of : Context → Part → Rooms → Result Rooms Fault
 room_of c p s = do
   o ← an_object p
   id ← required (a_number 0 4294967295) (codes "id") o
-  ids ← new_id id s.ids o
+  ids ← new_id id (room_ids s.rooms) o
   entries ← or_else [] (a_list 0 4000) (codes "travel") o
   travel ← each (travel_of c (length s.rooms)) entries s.travel
   unavailable ← or_else [] (a_list 0 1000) (codes "unavailable") o
   closed ← list_of (closed_of c) unavailable
-  Ok (record { ids = ids; rooms = s.rooms ++ record { id = id; closed = closed } ∷ []; travel = travel })
+  Ok (record { rooms = s.rooms ++ record { id = id; closed = closed } ∷ []; travel = travel })
 
 -- none of `count` rooms has been read
 abbrev pub no_rooms : ℕ → Rooms
-no_rooms count = record { ids = []; rooms = []; travel = no_travel count }
+no_rooms count = record { rooms = []; travel = no_travel count }
 
 -- all rooms of a list, and the travel between them
 unfoldable pub rooms_in : Context → List Part → Result Rooms Fault
@@ -103,27 +106,22 @@ rooms_of c o = do
   room ← or_else true a_truth (codes "room") o
   rooms_where room c o
 
--- the courses that have been read with all that is in them, and the ids of courses and classes
-pub record Tree : Type 0 where
-  pub course_ids : List ℕ
-  pub class_ids : List ℕ
-  pub courses : List CoursePart
-  pub configs : List Span
-  pub subparts : List Span
-  pub classes : List ClassPart
+-- the ids of classes
+abbrev pub class_ids : List ClassPart → List ℕ
+class_ids classes = map (λ c. c.id) classes
 
 -- a class, after those that have been read
-unfoldable pub class_of : Context → Part → Tree → Result Tree Fault
-class_of c p s = do
+unfoldable pub class_of : Context → Part → List ClassPart → Result (List ClassPart) Fault
+class_of c p before = do
   o ← an_object p
   id ← required (a_number 0 4294967295) (codes "id") o
-  ids ← new_id id s.class_ids o
+  ids ← new_id id (class_ids before) o
   limit ← optional (a_number 0 4294967295) (codes "limit") o
   parent ← optional (a_reference c.classes) (codes "parent") o
   rooms ← rooms_of c o
   items ← required (a_list 1 1000) (codes "times") o
   times ← list_of (choice_of c) items
-  Ok (record s { class_ids = ids; classes = s.classes ++ record { id = id; limit = limit; parent = parent; times = times; rooms = rooms } ∷ [] })
+  Ok (before ++ record { id = id; limit = limit; parent = parent; times = times; rooms = rooms } ∷ [])
 
 -- the places from `first` up to `after`
 abbrev pub span : ℕ → ℕ → Span
@@ -133,35 +131,54 @@ span first after = record { first = first; after = after }
 abbrev pub no_limit : ℕ
 no_limit = 18446744073709551615
 
+-- the subparts that have been read, each as the span of its classes
+pub record Subparts : Type 0 where
+  pub spans : List Span
+  pub classes : List ClassPart
+
 -- a subpart, whose classes are at most 20,000 together with those that have been read
-unfoldable pub subpart_of : Context → Part → Tree → Result Tree Fault
+unfoldable pub subpart_of : Context → Part → Subparts → Result Subparts Fault
 subpart_of c p s = do
   o ← an_object p
   items ← required (a_list 1 (20000 - length s.classes)) (codes "classes") o
-  t ← each (class_of c) items s
-  Ok (record t { subparts = t.subparts ++ span (length s.classes) (length t.classes) ∷ [] })
+  classes ← each (class_of c) items s.classes
+  Ok (record { spans = s.spans ++ span (length s.classes) (length classes) ∷ []; classes = classes })
+
+-- the configurations that have been read, each as the span of its subparts
+pub record Configs : Type 0 where
+  pub spans : List Span
+  pub subparts : Subparts
 
 -- a configuration
-unfoldable pub config_of : Context → Part → Tree → Result Tree Fault
+unfoldable pub config_of : Context → Part → Configs → Result Configs Fault
 config_of c p s = do
   o ← an_object p
   items ← required (a_list 1 no_limit) (codes "subparts") o
-  t ← each (subpart_of c) items s
-  Ok (record t { configs = t.configs ++ span (length s.subparts) (length t.subparts) ∷ [] })
+  subparts ← each (subpart_of c) items s.subparts
+  Ok (record { spans = s.spans ++ span (length s.subparts.spans) (length subparts.spans) ∷ []; subparts = subparts })
+
+-- the courses that have been read with all that is in them
+pub record Tree : Type 0 where
+  pub courses : List CoursePart
+  pub configs : Configs
+
+-- the ids of courses
+abbrev pub course_ids : List CoursePart → List ℕ
+course_ids courses = map (λ c. c.id) courses
 
 -- a course, after those that have been read
 unfoldable pub course_of : Context → Part → Tree → Result Tree Fault
 course_of c p s = do
   o ← an_object p
   id ← required (a_number 0 4294967295) (codes "id") o
-  ids ← new_id id s.course_ids o
+  ids ← new_id id (course_ids s.courses) o
   items ← required (a_list 1 no_limit) (codes "configs") o
-  t ← each (config_of c) items (record s { course_ids = ids })
-  Ok (record t { courses = t.courses ++ record { id = id; configs = span (length s.configs) (length t.configs) } ∷ [] })
+  configs ← each (config_of c) items s.configs
+  Ok (record { courses = s.courses ++ record { id = id; configs = span (length s.configs.spans) (length configs.spans) } ∷ []; configs = configs })
 
 -- no course has been read
 abbrev pub no_tree : Tree
-no_tree = record { course_ids = []; class_ids = []; courses = []; configs = []; subparts = []; classes = [] }
+no_tree = record { courses = []; configs = record { spans = []; subparts = record { spans = []; classes = [] } } }
 
 -- all courses of a list
 unfoldable pub courses_in : Context → List Part → Result Tree Fault

@@ -1,67 +1,71 @@
-ghost use Rattle.std.specs.Prelude.{◌≡◌, ◌+◌, ◌≤◌, length, All, IfOk, OnOk};
-ghost use Rattle.tt_fields.specs.Answer.{Reads, Gives, part_of};
-ghost use Rattle.tt_fields.specs.Kinds.{each, list_of};
+ghost use Rattle.std.specs.Prelude.{◌≡◌, ◌<◌, ◌≤◌, ◌^◌, List, [], ◌∷◌, ◌++◌, length, nat_eq, All, IfOk, OnOk};
+ghost use Rattle.std.specs.List.{IsDistinct};
+ghost use Rattle.tt_problem.specs.Spans.{Covers};
+ghost use Rattle.tt_problem.specs.declared.parts.ClassPart.{ClassPart as ClassSeen};
+ghost use Rattle.tt_fields.specs.Answer.{Gives, part_of};
 ghost use Rattle.tt_fields.specs.List.{items_of};
 ghost use Rattle.tt_tree.specs.Context.{context_of, IsContext};
-ghost use Rattle.tt_tree.specs.Read.{tree_read, IsTree, AreClasses, IsChoiceAmong};
-ghost use Rattle.tt_tree.specs.Tables.{room_choice_of, rooms_where, rooms_of, class_of, subpart_of, config_of, course_of, courses_in};
-ghost use Rattle.tt_tree.specs.Whole.{IsWhole, HasClasses};
+ghost use Rattle.tt_tree.specs.Read.{classes_read, subparts_read, configs_read, tree_read, IsChoiceAmong, IsClassAmong, AreClasses, IsSubparts, IsConfigs, IsTree};
+ghost use Rattle.tt_tree.specs.Tables.{room_choice_of, rooms_where, rooms_of, class_of, span, subpart_of, config_of, course_of, courses_in, Subparts as SubpartsSeen, Configs as ConfigsSeen, Tree as TreeSeen};
+ghost use Rattle.tt_tree.specs.Whole.{HasClasses};
 
 use crate::context::Context;
-use crate::times::each_choice;
 use indexmap::IndexSet;
-use std::alloc::Global;
+use std::alloc::{AllocError, Global};
 use tt_base::Row;
 use tt_fields::{
-    Fault, Items, Part, ProblemFault, add_id, as_object, known_id, list, list_or_none, number,
-    optional_number, optional_reference, truth_or,
+    ItemTable, Items, NextTable, Part, ProblemFault, add_id, as_object, known_id, list,
+    list_or_none, number, optional_number, optional_reference, read_each, read_onto, truth_or,
 };
 use tt_problem::{ClassPart, CoursePart, RoomChoice, Span};
 
-/// The courses that have been read with all that is in them, and the ids of courses and classes.
+/// The classes that have been read, and their ids.
 #[derive(Drop)]
-pub struct Tree {
-    pub course_ids: IndexSet<u32>,
-    pub class_ids: IndexSet<u32>,
-    pub courses: Vec<CoursePart>,
-    pub configs: Vec<Span>,
-    pub subparts: Vec<Span>,
+pub struct Classes {
+    pub ids: IndexSet<u32>,
     pub classes: Vec<ClassPart>,
 }
 
-#[tactic(auto, unfolding(crate::specs::Tables::room_choice_of))]
-fn room_choice<'a>(context: &Context<'_>, object: &'a Part<'a>) -> Result<RoomChoice, Fault<'a>>
-    requires { IsContext context.now }
-    ensures reads { Reads (λ r. r) result (room_choice_of (context_of context.now) (part_of object.now)) }
-    ensures valid { IfOk result (λ r. IsChoiceAmong context.now.rooms r) }
-{
-    as_object(object)?;
-    let room = known_id(&context.rooms, object, "id")?;
-    let penalty = number(object, "penalty", 0, 1_000_000)?;
-    Ok(RoomChoice { room, penalty })
+/// The subparts that have been read, each as the span of its classes.
+#[derive(Drop)]
+pub struct Subparts {
+    pub spans: Vec<Span>,
+    pub classes: Classes,
 }
 
-#[tactic(auto, using(tt_fields::proofs::Walk::collects_more, tt_fields::proofs::Walk::collects_fault, tt_fields::proofs::Walk::collects_all, tt_fields::proofs::Walk::passed_on))]
-fn each_room_choice(
-    alloc: Global,
-    context: &Context<'_>,
-    items: &Items<'_>,
-) -> Result<Row<RoomChoice>, ProblemFault>
-    requires { IsContext context.now }
-    ensures reads { Gives (λ rooms. rooms) result
-        (list_of (room_choice_of (context_of context.now)) (items_of items.now)) }
-    ensures count { IfOk result (λ rooms. length rooms ≡ length items.now.values.now) }
-    ensures valid { IfOk result (λ rooms. All (IsChoiceAmong context.now.rooms) rooms) }
-{
-    let mut rooms = Vec::new(alloc);
-    for (i, value) in items.values.iter().enumerate() {
-        let item = (&*items).item(i, value);
-        let room = room_choice(context, &item)?;
-        rooms.push(room)?;
+/// The configurations that have been read, each as the span of its subparts.
+#[derive(Drop)]
+pub struct Configs {
+    pub spans: Vec<Span>,
+    pub subparts: Subparts,
+}
+
+/// The courses that have been read with all that is in them, and their ids.
+#[derive(Drop)]
+pub struct Tree {
+    pub ids: IndexSet<u32>,
+    pub courses: Vec<CoursePart>,
+    pub configs: Configs,
+}
+
+/// A room of a class.
+impl ItemTable<RoomChoice> for Context<'_> {
+    ghost reads = { λ c. room_choice_of (context_of c) };
+
+    ghost valid = { λ c room. IsChoiceAmong c.rooms room };
+
+    ghost ready = { λ c. IsContext c };
+
+    #[tactic(auto, unfolding(crate::specs::Tables::room_choice_of))]
+    fn read_item(&self, _alloc: Global, item: &Part<'_>) -> Result<RoomChoice, ProblemFault> {
+        as_object(item)?;
+        let room = known_id(&self.rooms, &*item, "id")?;
+        let penalty = number(&*item, "penalty", 0, 1_000_000)?;
+        Ok(RoomChoice { room, penalty })
     }
-    Ok(Row::from_vec(rooms))
 }
 
+/// The rooms of a class that may need one, none for one that needs none.
 fn rooms_if(
     alloc: Global,
     room: bool,
@@ -76,12 +80,13 @@ fn rooms_if(
 {
     if room {
         let items = list_or_none(&*object, "rooms", 1000)?;
-        each_room_choice(alloc, context, &items)
+        Ok(Row::from_vec(read_each(alloc, context, &items)?))
     } else {
         Ok(Row::from_vec(Vec::new(alloc)))
     }
 }
 
+/// The rooms of a class, which are skipped where its `room` is false.
 #[tactic(auto, unfolding(crate::specs::Tables::rooms_of))]
 fn read_class_rooms(
     alloc: Global,
@@ -98,207 +103,156 @@ fn read_class_rooms(
     rooms_if(alloc, room, context, object)
 }
 
-#[tactic(auto, using(crate::proofs::Pushed::classes_push), unfolding(crate::specs::Tables::class_of))]
-fn class(
-    alloc: Global,
-    context: &Context<'_>,
-    object: &Part<'_>,
-    tree: &mut Tree,
-) -> Result<(), ProblemFault>
-    requires context { IsContext context.now }
-    requires valid { AreClasses context.now tree.old.classes.items }
-    ensures reads { Gives (λ _. tree_read tree.new) result
-        (class_of (context_of context.now) (part_of object.now) (tree_read tree.old)) }
-    ensures one { OnOk result (length tree.new.classes.items ≡ length tree.old.classes.items + 1) }
-    ensures valid { OnOk result (AreClasses context.now tree.new.classes.items) }
-    ensures same { OnOk result ((tree.new.subparts ≡ tree.old.subparts) × (tree.new.configs ≡ tree.old.configs)) }
-{
-    as_object(object)?;
-    let id = number(&*object, "id", 0, u32::MAX)?;
-    add_id(object, id, &mut tree.class_ids)?;
-    let limit = optional_number(&*object, "limit", 0, u32::MAX)?;
-    let parent = optional_reference(&context.classes, &*object, "parent")?;
-    let rooms = read_class_rooms(alloc, context, object)?;
-    let items = list(&*object, "times", 1, 1000)?;
-    let times = each_choice(alloc, context, &items)?;
-    tree.classes.push(ClassPart {
-        id,
-        limit,
-        parent,
-        times,
-        rooms,
-    })?;
-    Ok(())
-}
+impl NextTable<Classes> for Context<'_> {
+    ghost Seen = { List ClassSeen };
 
-#[tactic(auto, using(tt_fields::proofs::Walk::threads_more, tt_fields::proofs::Walk::threads_fault, tt_fields::proofs::Walk::threads_all))]
-fn each_class(
-    alloc: Global,
-    context: &Context<'_>,
-    items: &Items<'_>,
-    tree: &mut Tree,
-) -> Result<(), ProblemFault>
-    requires context { IsContext context.now }
-    requires valid { AreClasses context.now tree.old.classes.items }
-    ensures reads { Gives (λ _. tree_read tree.new) result
-        (each (class_of (context_of context.now)) (items_of items.now) (tree_read tree.old)) }
-    ensures count { OnOk result (length tree.new.classes.items ≡ length tree.old.classes.items + length items.now.values.now) }
-    ensures valid { OnOk result (AreClasses context.now tree.new.classes.items) }
-    ensures same { OnOk result ((tree.new.subparts ≡ tree.old.subparts) × (tree.new.configs ≡ tree.old.configs)) }
-{
-    for (i, value) in items.values.iter().enumerate() {
-        let item = (&*items).item(i, value);
-        class(alloc, context, &item, tree)?;
+    ghost seen = { classes_read };
+
+    ghost reads = { λ c. class_of (context_of c) };
+
+    ghost most = { λ c. 20000 };
+
+    ghost valid = { λ c place s. IsContext c × AreClasses c s };
+
+    #[tactic(auto, using(crate::proofs::Pushed::classes_push), unfolding(crate::specs::Tables::class_of))]
+    fn read_next(
+        &self,
+        alloc: Global,
+        _place: usize,
+        item: &Part<'_>,
+        before: &mut Classes,
+    ) -> Result<(), ProblemFault> {
+        as_object(item)?;
+        let id = number(&*item, "id", 0, u32::MAX)?;
+        add_id(item, id, &mut before.ids)?;
+        let limit = optional_number(&*item, "limit", 0, u32::MAX)?;
+        let parent = optional_reference(&self.classes, &*item, "parent")?;
+        let rooms = read_class_rooms(alloc, self, item)?;
+        let items = list(&*item, "times", 1, 1000)?;
+        let times = read_each(alloc, self, &items)?;
+        before.classes.push(ClassPart {
+            id,
+            limit,
+            parent,
+            times: Row::from_vec(times),
+            rooms,
+        })?;
+        Ok(())
     }
-    Ok(())
 }
 
-#[tactic(auto, unfolding(crate::specs::Tables::subpart_of))]
-fn subpart(
-    alloc: Global,
-    context: &Context<'_>,
-    object: &Part<'_>,
-    tree: &mut Tree,
-) -> Result<(), ProblemFault>
-    requires context { IsContext context.now }
-    requires tree { IsTree context.now tree.old }
-    ensures reads { Gives (λ _. tree_read tree.new) result
-        (subpart_of (context_of context.now) (part_of object.now) (tree_read tree.old)) }
-    ensures tree { OnOk result (IsTree context.now tree.new) }
-    ensures one { OnOk result (length tree.new.subparts.items ≡ length tree.old.subparts.items + 1) }
-    ensures same { OnOk result (tree.new.configs ≡ tree.old.configs) }
+/// Appends the span from `first` up to `after`.
+#[tactic(auto, using(crate::proofs::Pushed::covers_more, crate::proofs::Pushed::spans_few))]
+fn push_span(spans: &mut Vec<Span>, first: usize, after: usize) -> Result<(), AllocError>
+    requires covers { Covers spans.old.items first }
+    requires some { first < after }
+    requires few { after ≤ 20000 }
+    ensures pushed { OnOk result (spans.new.items ≡ spans.old.items ++ span first after ∷ []) }
+    ensures covers { OnOk result (Covers spans.new.items after) }
+    ensures few { OnOk result (length spans.new.items ≤ 20000) }
 {
-    as_object(object)?;
-    let first = tree.classes.len();
-    let items = list(&*object, "classes", 1, 20_000 - first)?;
-    each_class(alloc, context, &items, tree)?;
-    let after = tree.classes.len();
-    tree.subparts.push(Span {
+    spans.push(Span {
         first: first as u32,
         after: after as u32,
     })?;
     Ok(())
 }
 
-#[tactic(auto, using(tt_fields::proofs::Walk::threads_more, tt_fields::proofs::Walk::threads_fault, tt_fields::proofs::Walk::threads_all))]
-fn each_subpart(
-    alloc: Global,
-    context: &Context<'_>,
-    items: &Items<'_>,
-    tree: &mut Tree,
-) -> Result<(), ProblemFault>
-    requires context { IsContext context.now }
-    requires tree { IsTree context.now tree.old }
-    ensures reads { Gives (λ _. tree_read tree.new) result
-        (each (subpart_of (context_of context.now)) (items_of items.now) (tree_read tree.old)) }
-    ensures tree { OnOk result (IsTree context.now tree.new) }
-    ensures count { OnOk result (length tree.new.subparts.items ≡ length tree.old.subparts.items + length items.now.values.now) }
-    ensures same { OnOk result (tree.new.configs ≡ tree.old.configs) }
-{
-    for (i, value) in items.values.iter().enumerate() {
-        let item = (&*items).item(i, value);
-        subpart(alloc, context, &item, tree)?;
+impl NextTable<Subparts> for Context<'_> {
+    ghost Seen = { SubpartsSeen };
+
+    ghost seen = { subparts_read };
+
+    ghost reads = { λ c. subpart_of (context_of c) };
+
+    ghost most = { λ c. 2 ^ 64 };
+
+    ghost valid = { λ c place s. IsContext c × IsSubparts c s };
+
+    #[tactic(auto, using(crate::proofs::Whole::more_classes), unfolding(crate::specs::Tables::subpart_of))]
+    fn read_next(
+        &self,
+        alloc: Global,
+        _place: usize,
+        item: &Part<'_>,
+        before: &mut Subparts,
+    ) -> Result<(), ProblemFault> {
+        as_object(item)?;
+        let first = before.classes.classes.len();
+        let items = list(&*item, "classes", 1, 20_000 - first)?;
+        read_onto(alloc, self, &items, &mut before.classes)?;
+        push_span(&mut before.spans, first, before.classes.classes.len())?;
+        Ok(())
     }
-    Ok(())
 }
 
-#[tactic(auto, unfolding(crate::specs::Tables::config_of))]
-fn config(
-    alloc: Global,
-    context: &Context<'_>,
-    object: &Part<'_>,
-    tree: &mut Tree,
-) -> Result<(), ProblemFault>
-    requires context { IsContext context.now }
-    requires tree { IsTree context.now tree.old }
-    ensures reads { Gives (λ _. tree_read tree.new) result
-        (config_of (context_of context.now) (part_of object.now) (tree_read tree.old)) }
-    ensures tree { OnOk result (IsTree context.now tree.new) }
-{
-    as_object(object)?;
-    let first = tree.subparts.len();
-    let items = list(&*object, "subparts", 1, usize::MAX)?;
-    each_subpart(alloc, context, &items, tree)?;
-    let after = tree.subparts.len();
-    tree.configs.push(Span {
-        first: first as u32,
-        after: after as u32,
-    })?;
-    Ok(())
-}
+impl NextTable<Configs> for Context<'_> {
+    ghost Seen = { ConfigsSeen };
 
-#[tactic(auto, using(tt_fields::proofs::Walk::threads_more, tt_fields::proofs::Walk::threads_fault, tt_fields::proofs::Walk::threads_all))]
-fn each_config(
-    alloc: Global,
-    context: &Context<'_>,
-    items: &Items<'_>,
-    tree: &mut Tree,
-) -> Result<(), ProblemFault>
-    requires context { IsContext context.now }
-    requires tree { IsTree context.now tree.old }
-    ensures reads { Gives (λ _. tree_read tree.new) result
-        (each (config_of (context_of context.now)) (items_of items.now) (tree_read tree.old)) }
-    ensures tree { OnOk result (IsTree context.now tree.new) }
-{
-    for (i, value) in items.values.iter().enumerate() {
-        let item = (&*items).item(i, value);
-        config(alloc, context, &item, tree)?;
+    ghost seen = { configs_read };
+
+    ghost reads = { λ c. config_of (context_of c) };
+
+    ghost most = { λ c. 2 ^ 64 };
+
+    ghost valid = { λ c place s. IsContext c × IsConfigs c s };
+
+    #[tactic(auto, using(crate::proofs::Whole::more_subparts), unfolding(crate::specs::Tables::config_of))]
+    fn read_next(
+        &self,
+        alloc: Global,
+        _place: usize,
+        item: &Part<'_>,
+        before: &mut Configs,
+    ) -> Result<(), ProblemFault> {
+        as_object(item)?;
+        let first = before.subparts.spans.len();
+        let items = list(&*item, "subparts", 1, usize::MAX)?;
+        read_onto(alloc, self, &items, &mut before.subparts)?;
+        push_span(&mut before.spans, first, before.subparts.spans.len())?;
+        Ok(())
     }
-    Ok(())
 }
 
-#[tactic(auto, unfolding(crate::specs::Tables::course_of))]
-fn course(
-    alloc: Global,
-    context: &Context<'_>,
-    object: &Part<'_>,
-    tree: &mut Tree,
-) -> Result<(), ProblemFault>
-    requires context { IsContext context.now }
-    requires tree { IsTree context.now tree.old }
-    ensures reads { Gives (λ _. tree_read tree.new) result
-        (course_of (context_of context.now) (part_of object.now) (tree_read tree.old)) }
-    ensures tree { OnOk result (IsTree context.now tree.new) }
-{
-    as_object(object)?;
-    let id = number(&*object, "id", 0, u32::MAX)?;
-    add_id(object, id, &mut tree.course_ids)?;
-    let first = tree.configs.len();
-    let items = list(&*object, "configs", 1, usize::MAX)?;
-    each_config(alloc, context, &items, tree)?;
-    let after = tree.configs.len();
-    tree.courses.push(CoursePart {
-        id,
-        configs: Span {
-            first: first as u32,
-            after: after as u32,
-        },
-    })?;
-    Ok(())
-}
+impl NextTable<Tree> for Context<'_> {
+    ghost Seen = { TreeSeen };
 
-#[tactic(auto, using(tt_fields::proofs::Walk::threads_more, tt_fields::proofs::Walk::threads_fault, tt_fields::proofs::Walk::threads_all))]
-fn each_course(
-    alloc: Global,
-    context: &Context<'_>,
-    items: &Items<'_>,
-    tree: &mut Tree,
-) -> Result<(), ProblemFault>
-    requires context { IsContext context.now }
-    requires tree { IsTree context.now tree.old }
-    ensures reads { Gives (λ _. tree_read tree.new) result
-        (each (course_of (context_of context.now)) (items_of items.now) (tree_read tree.old)) }
-    ensures tree { OnOk result (IsTree context.now tree.new) }
-{
-    for (i, value) in items.values.iter().enumerate() {
-        let item = (&*items).item(i, value);
-        course(alloc, context, &item, tree)?;
+    ghost seen = { tree_read };
+
+    ghost reads = { λ c. course_of (context_of c) };
+
+    ghost most = { λ c. 2 ^ 64 };
+
+    ghost valid = { λ c place t. IsContext c × IsTree c t };
+
+    #[tactic(auto, using(crate::proofs::Whole::more_configs, crate::proofs::Pushed::tree_push), unfolding(crate::specs::Tables::course_of))]
+    fn read_next(
+        &self,
+        alloc: Global,
+        _place: usize,
+        item: &Part<'_>,
+        before: &mut Tree,
+    ) -> Result<(), ProblemFault> {
+        as_object(item)?;
+        let id = number(&*item, "id", 0, u32::MAX)?;
+        add_id(item, id, &mut before.ids)?;
+        let first = before.configs.spans.len();
+        let items = list(&*item, "configs", 1, usize::MAX)?;
+        read_onto(alloc, self, &items, &mut before.configs)?;
+        let after = before.configs.spans.len();
+        before.courses.push(CoursePart {
+            id,
+            configs: Span {
+                first: first as u32,
+                after: after as u32,
+            },
+        })?;
+        Ok(())
     }
-    Ok(())
 }
 
 /// All courses of a list, with all that is in them.
-#[tactic(auto, unfolding(crate::specs::Tables::courses_in))]
+#[tactic(auto, using(crate::proofs::Pushed::none_distinct), unfolding(crate::specs::Tables::courses_in))]
 pub fn read_courses(
     alloc: Global,
     context: &Context<'_>,
@@ -307,18 +261,26 @@ pub fn read_courses(
     requires { IsContext context.now }
     ensures reads { Gives tree_read result (courses_in (context_of context.now) (items_of items.now)) }
     ensures tree { IfOk result (λ tree. IsTree context.now tree) }
-    ensures whole { IfOk result (λ tree. IsWhole (tree_read tree)) }
     ensures count { IfOk result (λ tree. length tree.courses.items ≡ length items.now.values.now) }
-    ensures classes { IfOk result (λ tree. HasClasses (items_of items.now) (length tree.class_ids.keys)) }
+    ensures classes { IfOk result (λ tree. HasClasses (items_of items.now) (length tree.configs.subparts.classes.ids.keys)) }
 {
-    let mut tree = Tree {
-        course_ids: IndexSet::new(alloc),
-        class_ids: IndexSet::new(alloc),
-        courses: Vec::new(alloc),
-        configs: Vec::new(alloc),
-        subparts: Vec::new(alloc),
+    let classes = Classes {
+        ids: IndexSet::new(alloc),
         classes: Vec::new(alloc),
     };
-    each_course(alloc, context, items, &mut tree)?;
+    let subparts = Subparts {
+        spans: Vec::new(alloc),
+        classes,
+    };
+    let configs = Configs {
+        spans: Vec::new(alloc),
+        subparts,
+    };
+    let mut tree = Tree {
+        ids: IndexSet::new(alloc),
+        courses: Vec::new(alloc),
+        configs,
+    };
+    read_onto(alloc, context, items, &mut tree)?;
     Ok(tree)
 }

@@ -8,7 +8,7 @@ mod rooms;
 mod times;
 
 pub use context::Context;
-pub use courses::{Tree, read_courses};
+pub use courses::{Classes, Configs, Subparts, Tree, read_courses};
 pub use rooms::{Rooms, read_rooms};
 
 #[cfg(test)]

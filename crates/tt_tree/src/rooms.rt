@@ -1,20 +1,20 @@
-ghost use Rattle.std.specs.Prelude.{◌≡◌, ◌+◌, ◌<◌, ◌≤◌, length, map, All, IfOk, OnOk};
-ghost use Rattle.tt_travel.specs.Table.{IsTravel};
+ghost use Rattle.std.specs.Prelude.{◌≡◌, ◌<◌, ◌≤◌, [], ◌∷◌, ◌++◌, length, nat_eq, IfOk, OnOk};
+ghost use Rattle.std.specs.List.{IsDistinct};
+ghost use Rattle.tt_travel.specs.Table.{Table};
 ghost use Rattle.tt_problem.specs.Valid.{IsValidRoom};
-ghost use Rattle.tt_fields.specs.Answer.{Reads, Gives, part_of};
-ghost use Rattle.tt_fields.specs.Kinds.{each};
+ghost use Rattle.tt_fields.specs.Answer.{Gives, part_of};
 ghost use Rattle.tt_fields.specs.List.{items_of};
 ghost use Rattle.tt_tree.specs.Context.{context_of, IsContext, HasIds};
-ghost use Rattle.tt_tree.specs.Read.{rooms_read, IsRooms};
-ghost use Rattle.tt_tree.specs.Tables.{travel_of, room_of, rooms_in};
-ghost use Rattle.tt_tree.specs.Whole.{HasRoomIds};
+ghost use Rattle.tt_tree.specs.Read.{rooms_read, IsTravelAmong, IsRooms};
+ghost use Rattle.tt_tree.specs.Tables.{travel_of, room_of, rooms_in, Rooms as RoomsSeen};
 
 use crate::context::Context;
-use crate::times::each_closed;
 use indexmap::IndexSet;
 use std::alloc::Global;
+use tt_base::Row;
 use tt_fields::{
-    Fault, Items, Part, ProblemFault, add_id, as_object, list_or_none, number, reference,
+    Items, NextTable, Part, ProblemFault, add_id, as_object, list_or_none, number, read_each,
+    read_onto, reference,
 };
 use tt_problem::RoomPart;
 use tt_travel::Travel;
@@ -28,105 +28,89 @@ pub struct Rooms {
     pub travel: Travel,
 }
 
-#[tactic(auto, unfolding(crate::specs::Tables::travel_of))]
-fn entry<'a>(
-    context: &Context<'_>,
+/// The entries in the travel of the room at a place, one of so many rooms.
+#[derive(Clone, Copy)]
+struct EntryTable<'a> {
+    context: Context<'a>,
+    count: u32,
     from: u32,
-    object: &'a Part<'a>,
-    travel: &mut Travel,
-) -> Result<(), Fault<'a>>
-    requires context { IsContext context.now }
-    requires known { HasIds context.now.rooms travel.old.rooms }
-    requires from { from < travel.old.rooms }
-    requires sound { IsTravel travel.old }
-    ensures reads { Reads (λ _. travel.new) result
-        (travel_of (context_of context.now) from (part_of object.now) travel.old) }
-    ensures rooms { travel.new.rooms ≡ travel.old.rooms }
-    ensures sound { IsTravel travel.new }
-{
-    as_object(object)?;
-    let to = reference(&context.rooms, object, "room")?;
-    let slots = number(object, "value", 0, 65_535)? as u16;
-    travel.set(from, to, slots);
-    Ok(())
 }
 
-#[tactic(auto, using(tt_fields::proofs::Walk::threads_more, tt_fields::proofs::Walk::threads_fault, tt_fields::proofs::Walk::threads_all, tt_fields::proofs::Walk::passed_on))]
-fn each_entry(
-    context: &Context<'_>,
-    from: u32,
-    items: &Items<'_>,
-    travel: &mut Travel,
-) -> Result<(), ProblemFault>
-    requires context { IsContext context.now }
-    requires known { HasIds context.now.rooms travel.old.rooms }
-    requires from { from < travel.old.rooms }
-    requires sound { IsTravel travel.old }
-    ensures reads { Gives (λ _. travel.new) result
-        (each (travel_of (context_of context.now) from) (items_of items.now) travel.old) }
-    ensures rooms { OnOk result (travel.new.rooms ≡ travel.old.rooms) }
-    ensures sound { OnOk result (IsTravel travel.new) }
-{
-    for (i, value) in items.values.iter().enumerate() {
-        let item = (&*items).item(i, value);
-        entry(context, from, &item, travel)?;
+impl NextTable<Travel> for EntryTable<'_> {
+    ghost Seen = { Table };
+
+    ghost seen = { λ travel. travel };
+
+    ghost reads = { λ t. travel_of (context_of t.context) t.from };
+
+    ghost most = { λ t. 4000 };
+
+    ghost valid = { λ t place travel. IsContext t.context × (t.from < t.count) × IsTravelAmong t.context t.count travel };
+
+    #[tactic(auto, unfolding(crate::specs::Tables::travel_of))]
+    fn read_next(
+        &self,
+        _alloc: Global,
+        _place: usize,
+        item: &Part<'_>,
+        before: &mut Travel,
+    ) -> Result<(), ProblemFault> {
+        as_object(item)?;
+        let to = reference(&self.context.rooms, &*item, "room")?;
+        let slots = number(&*item, "value", 0, 65_535)? as u16;
+        before.set(self.from, to, slots);
+        Ok(())
     }
-    Ok(())
 }
 
-#[tactic(auto, using(crate::proofs::Pushed::rooms_push), unfolding(crate::specs::Tables::room_of))]
-fn room(
-    alloc: Global,
-    context: &Context<'_>,
-    object: &Part<'_>,
-    seen: &mut Rooms,
-) -> Result<(), ProblemFault>
-    requires context { IsContext context.now }
-    requires rooms { IsRooms context.now seen.old }
-    requires place { length seen.old.rooms.items < seen.old.travel.rooms }
-    ensures reads { Gives (λ _. rooms_read seen.new) result
-        (room_of (context_of context.now) (part_of object.now) (rooms_read seen.old)) }
-    ensures rooms { OnOk result (IsRooms context.now seen.new) }
-    ensures one { OnOk result (length seen.new.rooms.items ≡ length seen.old.rooms.items + 1) }
-    ensures table { OnOk result (seen.new.travel.rooms ≡ seen.old.travel.rooms) }
-{
-    as_object(object)?;
-    let id = number(&*object, "id", 0, u32::MAX)?;
-    add_id(object, id, &mut seen.ids)?;
-    let from = seen.rooms.len() as u32;
-    let entries = list_or_none(&*object, "travel", 4000)?;
-    each_entry(context, from, &entries, &mut seen.travel)?;
-    let unavailable = list_or_none(&*object, "unavailable", 1000)?;
-    let closed = each_closed(alloc, context, &unavailable)?;
-    seen.rooms.push(RoomPart { id, closed })?;
-    Ok(())
+/// The rooms of a list of so many.
+#[derive(Clone, Copy)]
+struct RoomTable<'a> {
+    context: Context<'a>,
+    count: u32,
 }
 
-#[tactic(auto, using(tt_fields::proofs::Walk::threads_more, tt_fields::proofs::Walk::threads_fault, tt_fields::proofs::Walk::threads_all))]
-fn each_room(
-    alloc: Global,
-    context: &Context<'_>,
-    items: &Items<'_>,
-    seen: &mut Rooms,
-) -> Result<(), ProblemFault>
-    requires context { IsContext context.now }
-    requires rooms { IsRooms context.now seen.old }
-    requires places { length seen.old.rooms.items + length items.now.values.now ≤ seen.old.travel.rooms }
-    ensures reads { Gives (λ _. rooms_read seen.new) result
-        (each (room_of (context_of context.now)) (items_of items.now) (rooms_read seen.old)) }
-    ensures rooms { OnOk result (IsRooms context.now seen.new) }
-    ensures count { OnOk result (length seen.new.rooms.items ≡ length seen.old.rooms.items + length items.now.values.now) }
-    ensures table { OnOk result (seen.new.travel.rooms ≡ seen.old.travel.rooms) }
-{
-    for (i, value) in items.values.iter().enumerate() {
-        let item = (&*items).item(i, value);
-        room(alloc, context, &item, seen)?;
+impl NextTable<Rooms> for RoomTable<'_> {
+    ghost Seen = { RoomsSeen };
+
+    ghost seen = { rooms_read };
+
+    ghost reads = { λ t. room_of (context_of t.context) };
+
+    ghost most = { λ t. t.count };
+
+    ghost valid = { λ t place s. IsContext t.context × IsRooms t.context t.count s × (length s.rooms.items ≡ place) };
+
+    #[tactic(auto, using(crate::proofs::Pushed::rooms_push), unfolding(crate::specs::Tables::room_of))]
+    fn read_next(
+        &self,
+        alloc: Global,
+        place: usize,
+        item: &Part<'_>,
+        before: &mut Rooms,
+    ) -> Result<(), ProblemFault> {
+        let entries = EntryTable {
+            context: self.context,
+            count: self.count,
+            from: place as u32,
+        };
+        as_object(item)?;
+        let id = number(&*item, "id", 0, u32::MAX)?;
+        add_id(item, id, &mut before.ids)?;
+        let items = list_or_none(&*item, "travel", 4000)?;
+        read_onto(alloc, &entries, &items, &mut before.travel)?;
+        let unavailable = list_or_none(&*item, "unavailable", 1000)?;
+        let closed = read_each(alloc, &self.context, &unavailable)?;
+        before.rooms.push(RoomPart {
+            id,
+            closed: Row::from_vec(closed),
+        })?;
+        Ok(())
     }
-    Ok(())
 }
 
 /// All rooms of a list, and the travel between them.
-#[tactic(auto, using(crate::proofs::Places::items_length), unfolding(crate::specs::Tables::rooms_in))]
+#[tactic(auto, using(crate::proofs::Places::items_length, crate::proofs::Pushed::none_distinct), unfolding(crate::specs::Tables::rooms_in))]
 pub fn read_rooms(
     alloc: Global,
     context: &Context<'_>,
@@ -136,17 +120,19 @@ pub fn read_rooms(
     requires few { length items.now.values.now ≤ 2500 }
     requires known { HasIds context.now.rooms (length items.now.values.now) }
     ensures reads { Gives rooms_read result (rooms_in (context_of context.now) (items_of items.now)) }
-    ensures rooms { IfOk result (λ rooms. IsRooms context.now rooms) }
-    ensures ids { IfOk result (λ rooms. HasRoomIds (rooms_read rooms)) }
+    ensures rooms { IfOk result (λ rooms. IsRooms context.now (length items.now.values.now) rooms) }
     ensures count { IfOk result (λ rooms. length rooms.rooms.items ≡ length items.now.values.now) }
-    ensures table { IfOk result (λ rooms. rooms.travel.rooms ≡ length items.now.values.now) }
 {
-    let travel = Travel::new(alloc, items.len() as u32)?;
-    let mut seen = Rooms {
+    let count = items.len() as u32;
+    let mut rooms = Rooms {
         ids: IndexSet::new(alloc),
         rooms: Vec::new(alloc),
-        travel,
+        travel: Travel::new(alloc, count)?,
     };
-    each_room(alloc, context, items, &mut seen)?;
-    Ok(seen)
+    let table = RoomTable {
+        context: *context,
+        count,
+    };
+    read_onto(alloc, &table, items, &mut rooms)?;
+    Ok(rooms)
 }

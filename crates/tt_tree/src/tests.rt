@@ -48,12 +48,14 @@ fn courses_are_read(rt: HostRuntime) -> Result<(), Fail> {
         return Err(Fail::from("no list"));
     };
     let tree = read_courses(alloc, &context(), &items)?;
+    let subparts = &tree.configs.subparts;
+    let classes = &subparts.classes;
     assert_eq!(rt; tree.courses.len(), 1);
-    assert_eq!(rt; tree.configs.len(), 1);
-    assert_eq!(rt; tree.subparts.len(), 1);
-    assert_eq!(rt; tree.class_ids.get_index_of(&2), Some(1));
-    assert_eq!(rt; tree.classes.len(), 2);
-    assert_eq!(rt; tree.classes[0].rooms.len(), 1);
-    assert_eq!(rt; tree.classes[1].limit, Some(30));
+    assert_eq!(rt; tree.configs.spans.len(), 1);
+    assert_eq!(rt; subparts.spans.len(), 1);
+    assert_eq!(rt; classes.ids.get_index_of(&2), Some(1));
+    assert_eq!(rt; classes.classes.len(), 2);
+    assert_eq!(rt; classes.classes[0].rooms.len(), 1);
+    assert_eq!(rt; classes.classes[1].limit, Some(30));
     Ok(())
 }

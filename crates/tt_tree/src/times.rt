@@ -1,18 +1,16 @@
-ghost use Rattle.std.specs.Prelude.{◌≡◌, All, length, IfOk};
+ghost use Rattle.std.specs.Prelude.{IfOk};
 ghost use Rattle.tt_problem.specs.Valid.{IsTimeOf, IsValidTime};
-ghost use Rattle.tt_fields.specs.Answer.{Reads, Gives, part_of};
-ghost use Rattle.tt_fields.specs.Kinds.{list_of};
-ghost use Rattle.tt_fields.specs.List.{items_of};
+ghost use Rattle.tt_fields.specs.Answer.{Reads, part_of};
 ghost use Rattle.tt_tree.specs.Context.{context_of, IsContext};
 ghost use Rattle.tt_tree.specs.Tables.{length_after, time_in, choice_of, closed_of};
 
 use crate::context::Context;
 use std::alloc::Global;
-use tt_base::Row;
 use tt_bits::Time;
-use tt_fields::{Fault, Items, Part, ProblemFault, as_object, fault, fault_at, number};
+use tt_fields::{Fault, ItemTable, Part, ProblemFault, as_object, fault, fault_at, number};
 use tt_problem::TimeChoice;
 
+/// The length of a time that begins at `start`. Faults: 31, 32, and 36 where there is no such time.
 #[tactic(auto, unfolding(crate::specs::Tables::length_after))]
 fn length_from<'a>(object: &'a Part<'a>, start: u16) -> Result<u16, Fault<'a>>
     ensures { Reads (λ n. n) result (length_after start (part_of object.now)) }
@@ -25,6 +23,7 @@ fn length_from<'a>(object: &'a Part<'a>, start: u16) -> Result<u16, Fault<'a>>
     }
 }
 
+/// The time that an object has, without its penalty. Faults: 31, 32, 35 and 36.
 #[tactic(auto, unfolding(crate::specs::Tables::time_in))]
 fn read_time<'a>(context: &Context<'_>, object: &'a Part<'a>) -> Result<Time, Fault<'a>>
     requires { IsContext context.now }
@@ -41,66 +40,34 @@ fn read_time<'a>(context: &Context<'_>, object: &'a Part<'a>) -> Result<Time, Fa
     }
 }
 
-#[tactic(auto, unfolding(crate::specs::Tables::choice_of))]
-fn choice<'a>(context: &Context<'_>, object: &'a Part<'a>) -> Result<TimeChoice, Fault<'a>>
-    requires { IsContext context.now }
-    ensures reads { Reads (λ t. t) result (choice_of (context_of context.now) (part_of object.now)) }
-    ensures valid { IfOk result (λ t. IsValidTime context.now.nr_days context.now.nr_weeks t) }
-{
-    as_object(object)?;
-    let time = read_time(context, object)?;
-    let penalty = number(object, "penalty", 0, 1_000_000)?;
-    Ok(TimeChoice { time, penalty })
-}
+/// A time of a class.
+impl ItemTable<TimeChoice> for Context<'_> {
+    ghost reads = { λ c. choice_of (context_of c) };
 
-#[tactic(auto, unfolding(crate::specs::Tables::closed_of))]
-fn closed<'a>(context: &Context<'_>, object: &'a Part<'a>) -> Result<Time, Fault<'a>>
-    requires { IsContext context.now }
-    ensures reads { Reads (λ t. t) result (closed_of (context_of context.now) (part_of object.now)) }
-    ensures valid { IfOk result (λ t. IsTimeOf context.now.nr_days context.now.nr_weeks t) }
-{
-    as_object(object)?;
-    read_time(context, object)
-}
+    ghost valid = { λ c time. IsValidTime c.nr_days c.nr_weeks time };
 
-#[tactic(auto, using(tt_fields::proofs::Walk::collects_more, tt_fields::proofs::Walk::collects_fault, tt_fields::proofs::Walk::collects_all, tt_fields::proofs::Walk::passed_on))]
-pub fn each_choice(
-    alloc: Global,
-    context: &Context<'_>,
-    items: &Items<'_>,
-) -> Result<Row<TimeChoice>, ProblemFault>
-    requires { IsContext context.now }
-    ensures reads { Gives (λ times. times) result
-        (list_of (choice_of (context_of context.now)) (items_of items.now)) }
-    ensures count { IfOk result (λ times. length times ≡ length items.now.values.now) }
-    ensures valid { IfOk result (λ times. All (IsValidTime context.now.nr_days context.now.nr_weeks) times) }
-{
-    let mut times = Vec::new(alloc);
-    for (i, value) in items.values.iter().enumerate() {
-        let item = (&*items).item(i, value);
-        let time = choice(context, &item)?;
-        times.push(time)?;
+    ghost ready = { λ c. IsContext c };
+
+    #[tactic(auto, unfolding(crate::specs::Tables::choice_of))]
+    fn read_item(&self, _alloc: Global, item: &Part<'_>) -> Result<TimeChoice, ProblemFault> {
+        as_object(item)?;
+        let time = read_time(self, &*item)?;
+        let penalty = number(&*item, "penalty", 0, 1_000_000)?;
+        Ok(TimeChoice { time, penalty })
     }
-    Ok(Row::from_vec(times))
 }
 
-#[tactic(auto, using(tt_fields::proofs::Walk::collects_more, tt_fields::proofs::Walk::collects_fault, tt_fields::proofs::Walk::collects_all, tt_fields::proofs::Walk::passed_on))]
-pub fn each_closed(
-    alloc: Global,
-    context: &Context<'_>,
-    items: &Items<'_>,
-) -> Result<Row<Time>, ProblemFault>
-    requires { IsContext context.now }
-    ensures reads { Gives (λ times. times) result
-        (list_of (closed_of (context_of context.now)) (items_of items.now)) }
-    ensures count { IfOk result (λ times. length times ≡ length items.now.values.now) }
-    ensures valid { IfOk result (λ times. All (IsTimeOf context.now.nr_days context.now.nr_weeks) times) }
-{
-    let mut times = Vec::new(alloc);
-    for (i, value) in items.values.iter().enumerate() {
-        let item = (&*items).item(i, value);
-        let time = closed(context, &item)?;
-        times.push(time)?;
+/// An unavailable time of a room.
+impl ItemTable<Time> for Context<'_> {
+    ghost reads = { λ c. closed_of (context_of c) };
+
+    ghost valid = { λ c time. IsTimeOf c.nr_days c.nr_weeks time };
+
+    ghost ready = { λ c. IsContext c };
+
+    #[tactic(auto, unfolding(crate::specs::Tables::closed_of))]
+    fn read_item(&self, _alloc: Global, item: &Part<'_>) -> Result<Time, ProblemFault> {
+        as_object(item)?;
+        Ok(read_time(self, &*item)?)
     }
-    Ok(Row::from_vec(times))
 }
