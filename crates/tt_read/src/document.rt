@@ -44,6 +44,3 @@ pub fn read(alloc: Global, bytes: &[u8]) -> Result<Problem, ProblemFault>
     let parts = parts_in(alloc, bytes)?;
     Ok(Problem::build(alloc, parts)?)
 }
-
-#[cfg(test)]
-mod tests;
