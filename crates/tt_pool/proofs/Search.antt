@@ -1,0 +1,70 @@
+-- A walk that looks for an item.
+use Rattle.std.proofs.Common.{◌≡◌, ◌≢◌, ◌∙◌, sym, ap, ℕ, ◌+◌, ◌-◌, ◌<◌, ◌≤◌, List, length, get_or, map, arith, true, false, below_more, inl, inr, [], ◌∷◌}
+use Rattle.std.specs.Prelude.{◌==◌}
+use Rattle.std.specs.List.{position_or_len}
+use Rattle.std.proofs.lemmas.Bool.{cases_eq}
+use Rattle.std.proofs.lemmas.Bool.Decides.{nat_tests}
+use Rattle.std.proofs.lemmas.List.{length-map, get_or-map}
+use Rattle.std.proofs.lemmas.List.Sums.{position_or_len_is}
+use Rattle.tt_pool.specs.declared.Node.{Node}
+use Rattle.tt_pool.specs.declared.Chain.{Chain}
+use Rattle.tt_pool.specs.Chains.{next_of, item_of, after, chain_of, uses, IsSearched}
+use Rattle.tt_pool.proofs.Paths.{uses_other, after_more, path-get_or, length-path}
+
+pub tests_true : (x y : ℕ) → x ≡ y → (x == y) ≡ true
+tests_true x y e = grind (arith, nat_tests)
+
+pub tests_false : (x y : ℕ) → x ≢ y → (x == y) ≡ false
+tests_false x y ne = grind (arith, nat_tests)
+
+item-get_or : (nodes : List Node) (chain : Chain) (k : ℕ) → k < chain.len
+    → get_or (map (item_of nodes) (chain_of nodes chain)) k 0 ≡ item_of nodes (after nodes k chain.first.0)
+item-get_or nodes chain k lt =
+    get_or-map (item_of nodes) (chain_of nodes chain) k 0 0 (rw length-path lt)
+    ∙ ap (item_of nodes) (path-get_or nodes k chain.len chain.first.0 lt)
+
+length-items : (nodes : List Node) (chain : Chain) → length (map (item_of nodes) (chain_of nodes chain)) ≡ chain.len
+length-items nodes chain = length-map (chain_of nodes chain) (item_of nodes) ∙ length-path nodes chain.len chain.first.0
+
+none_before : (nodes : List Node) (chain : Chain) (at before node item : ℕ) → IsSearched nodes chain.first.0 at before node item → at ≤ chain.len
+    → (k : ℕ) → k < at → (get_or (map (item_of nodes) (chain_of nodes chain)) k 0 == item) ≡ false
+none_before nodes chain at before node item s le k lt =
+    rw (item-get_or nodes chain k (omega arith)) (tests_false _ _ (s.others k lt))
+
+pub place_found : (nodes : List Node) (chain : Chain) (at before node item : ℕ) → IsSearched nodes chain.first.0 at before node item
+    → at < chain.len → item_of nodes node ≡ item
+    → at ≡ position_or_len (λ x. x == item) (map (item_of nodes) (chain_of nodes chain))
+place_found nodes chain at before node item s lt is =
+    let all = length-items nodes chain in
+    sym (position_or_len_is (λ (x : ℕ). x == item) (map (item_of nodes) (chain_of nodes chain)) at 0 (omega arith)
+    (none_before nodes chain at before node item s (omega arith))
+    (λ here. rw (item-get_or nodes chain at lt) (tests_true _ _ (ap (item_of nodes) (sym s.node_is) ∙ is))))
+
+pub place_none : (nodes : List Node) (chain : Chain) (at before node item : ℕ) → IsSearched nodes chain.first.0 at before node item
+    → at ≤ chain.len → chain.len ≤ at
+    → chain.len ≡ position_or_len (λ x. x == item) (map (item_of nodes) (chain_of nodes chain))
+place_none nodes chain at before node item s le ge =
+    let all = length-items nodes chain in
+    let e : chain.len ≡ at = omega arith in
+    e ∙ sym (position_or_len_is (λ (x : ℕ). x == item) (map (item_of nodes) (chain_of nodes chain)) at 0 (omega arith)
+    (none_before nodes chain at before node item s le)
+    (λ here. absurd (omega arith)))
+
+pub searched_more : (nodes : List Node) (first at before node item : ℕ) → IsSearched nodes first at before node item → item_of nodes node ≢ item
+    → IsSearched nodes first (at + 1) node (next_of nodes node) item
+searched_more nodes first at before node item s ne = record {
+  before_is = λ some. let e : at + 1 - 1 ≡ at = omega arith in rw e s.node_is;
+  node_is = ap (next_of nodes) s.node_is ∙ sym (after_more nodes at first);
+  others = below_more _ _ s.others (λ e. ne (ap (item_of nodes) s.node_is ∙ e));
+}
+
+-- an item that stands in a list has a first place there
+pub found_at : (item : ℕ) (xs : List ℕ) → 0 < uses item xs → position_or_len (λ x. x == item) xs < length xs
+found_at item [] used = absurd (omega arith)
+found_at item (x ∷ xs) used = elim (cases_eq x item) [
+  | inl e ↦ rw (tests_true x item e) (omega arith)
+  | inr ne ↦
+      let other = uses_other item x xs ne in
+      let rest = found_at item xs (omega arith) in
+      rw (tests_false x item ne) (omega arith)
+]
