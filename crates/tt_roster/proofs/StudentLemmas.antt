@@ -10,7 +10,7 @@ use Rattle.tt_roster.specs.Lists.{Ascends, has_class, with_class, without_class,
 use Rattle.tt_roster.proofs.ListLemmas.{has-with, has-without, with-without, length-with, length-without}
 
 -- the lists are those of the students who have each class
-abbrev pub AreStudents : List (List ℕ) → List (List ℕ) → Type 0
+abbrev AreStudents : List (List ℕ) → List (List ℕ) → Type 0
 AreStudents lists seats = (class : ℕ) → slice_index_or lists class [] ≡ students_of seats class
 
 -- another class that comes changes nothing

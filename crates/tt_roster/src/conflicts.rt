@@ -98,7 +98,13 @@ pub fn class_conflicts(
 {
     let mut count = 0;
     for student in students {
-        count += conflicts_with(travel, spots, class, spot, rows[student as usize].as_slice());
+        count += conflicts_with(
+            travel,
+            spots,
+            class,
+            spot,
+            rows[student as usize].as_slice(),
+        );
     }
     count
 }
