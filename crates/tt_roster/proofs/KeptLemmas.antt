@@ -164,26 +164,26 @@ pub seated : (p : Parts) (rows : List ListedClasses) (spots : List (Option Spot)
     → has_class class (list_of (map classes_in rows) student) ≡ false → length (list_of (map classes_in rows) student) < slice_index (map most_in rows) student
     → row ≡ get_or rows student row → new.classes ≡ with_class class row.classes → new.most ≡ row.most
     → more ≡ option_map_or (λ x. conflicts_with p.travel spots class x row.classes) (spot_at spots class) 0
-    → (conflicts + more < 2 ^ 64) × (map classes_in (slice_set rows student new) ≡ slice_set (map classes_in rows) student (with_class class (list_of (map classes_in rows) student))) × IsRosterOf p (seen (slice_set rows student new) spots (conflicts + more))
+    → (conflicts + more < 2 ^ 64) × IsRosterOf p (seen (slice_set rows student new) spots (conflicts + more))
 seated p rows spots conflicts student class more row new valid fits within class_within free spare at_row classes most is =
     let inside : student < length rows = omega (arith, fits.students, length-map rows classes_in) in
     let there = row_list_is rows student row inside at_row in
     let after = IsRosterOf-seat p (seen rows spots conflicts) student class more valid fits within class_within free spare (rw there is) in
     let seats = seats_set (with_class class) rows student row new inside at_row classes in
-    (after.0, seats, rw (seats, most_same rows student row new inside at_row most) after.1)
+    (after.0, rw (seats, most_same rows student row new inside at_row most) after.1)
 
 -- the same, where a class goes from it
 pub left : (p : Parts) (rows : List ListedClasses) (spots : List (Option Spot)) (conflicts student class less : ℕ) (row new : ListedClasses) → IsValid p → IsRosterOf p (seen rows spots conflicts) → student < length p.students → class < length p.classes
     → has_class class (list_of (map classes_in rows) student) ≡ true
     → row ≡ get_or rows student row → new.classes ≡ without_class class row.classes → new.most ≡ row.most
     → less ≡ option_map_or (λ x. conflicts_with p.travel spots class x row.classes) (spot_at spots class) 0
-    → (less ≤ conflicts) × (map classes_in (slice_set rows student new) ≡ slice_set (map classes_in rows) student (without_class class (list_of (map classes_in rows) student))) × IsRosterOf p (seen (slice_set rows student new) spots (conflicts - less))
+    → (less ≤ conflicts) × IsRosterOf p (seen (slice_set rows student new) spots (conflicts - less))
 left p rows spots conflicts student class less row new valid fits within class_within has at_row classes most is =
     let inside : student < length rows = omega (arith, fits.students, length-map rows classes_in) in
     let there = row_list_is rows student row inside at_row in
     let after = IsRosterOf-leave p (seen rows spots conflicts) student class less valid fits within class_within has (rw there is) in
     let seats = seats_set (without_class class) rows student row new inside at_row classes in
-    (after.0, seats, rw (seats, most_same rows student row new inside at_row most) after.1)
+    (after.0, rw (seats, most_same rows student row new inside at_row most) after.1)
 
 room_within : (p : Parts) (o : Option ℕ) → IsValid p → IsRoomOf p.travel o → IfSome o (λ room. room < length p.rooms)
 room_within p None valid within = tt
