@@ -134,8 +134,7 @@ AreCounted-take h p spare clashes less cells x is cells_are kept full =
       },
     )
 
--- the clashes that are counted class by class are those with the placed classes
-pub clashing_all : (h : List (Option Spot)) (x : Spot) (except : ℕ) → count_by (λ s. option_map_or (clash x) s false) (take (length h) (slice_set h except None)) ≡ clashing h x except
-clashing_all h x except =
-    ap (λ l. count_by (λ s. option_map_or (clash x) s false) l) (take_all (length h) (slice_set h except None) (omega (arith, length-set h except None)))
-    ∙ sym (count_by-placed (clash x) (slice_set h except None))
+-- no more clashes than classes
+pub few_clashing : (h : List (Option Spot)) (x : Spot) (except : ℕ) → clashing h x except ≤ length h
+few_clashing h x except =
+    omega (arith, count_by-le-length (clash x) (placed (slice_set h except None)), length-placed (slice_set h except None), length-set h except None)

@@ -1,6 +1,6 @@
 -- The classes of each room, while classes come and go.
 use Rattle.std.proofs.Common.{◌≡◌, ◌≢◌, ◌∙◌, ℕ, ◌+◌, ◌<◌, Bool, true, false, cond, List, [], ◌∷◌, Option, Some, None, length, count_by, sum_by, refl, sym, ap, zero, suc, inl, inr, arith}
-use Rattle.std.specs.Prelude.{slice_set, slice_index_or, replicate, nat_lt, is_some, ◌==◌}
+use Rattle.std.specs.Prelude.{slice_set, slice_index_or, replicate, nat_lt, is_some, ◌==◌, All}
 use Rattle.std.specs.List.{insert, remove, position_or_len}
 use Rattle.std.specs.Option.{option_map_or}
 use Rattle.std.proofs.Math.ListN.{get_or-eq_default}
@@ -14,7 +14,7 @@ use Rattle.tt_bits.proofs.SpotLemmas.{count_by-placed, full_within}
 use Rattle.tt_pool.specs.Places.{places_where}
 use Rattle.tt_pool.specs.Pools.{Pooled, list_at}
 use Rattle.tt_pool.proofs.Search.{tests_true, tests_false}
-use Rattle.tt_pool.proofs.PlaceLemmas.{places-more, places-less, places-same, places-found}
+use Rattle.tt_pool.proofs.PlaceLemmas.{places-more, places-less, places-same, places-found, places-within}
 use Rattle.tt_occupancy.specs.Rooms.{is_in_room, has_room, classes_in, AreListed}
 use Rattle.tt_occupancy.specs.Clashes.{clash, clashes_at, clashing}
 
@@ -206,3 +206,11 @@ AreListed-leave h p x room old new kept full is lists spare =
   ];
   spare = omega (arith, spare, kept.spare, count-change h p None true false inside (ap has_room full ∙ rw is refl) refl, length-set h p None);
 }
+
+-- the classes in a room are classes
+pub classes-within : (h : List (Option Spot)) (room : Option ℕ) → All (λ class. class < length h) (classes_in h room)
+classes-within h room = places-within (is_in_room room) 0 (length h) h (omega arith)
+
+-- a count of what is still to come, after its first
+pub count_step : (p : ℕ → Bool) (xs : List ℕ) (x : ℕ) (rest : List ℕ) (b : Bool) → xs ≡ x ∷ rest → p x ≡ b → count_by p xs ≡ cond b 1 0 + count_by p rest
+count_step p xs x rest b e is = ap (count_by p) e ∙ rw (← is) (sum_by-cons (λ y. cond (p y) 1 0) x rest)

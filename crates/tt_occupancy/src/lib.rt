@@ -163,9 +163,11 @@ impl Occupancy {
     fn in_room_of(&self, spot: &Spot) -> Option<Items>
         ensures { option_map_or (λ classes. classes) result [] ≡ classes_in self.now.spots spot.now.room }
     {
-        match spot.room {
-            Some(room) if room < self.rooms => Some(self.by_room.items(room)),
-            _ => None,
+        let room = spot.room?;
+        if room < self.rooms {
+            Some(self.by_room.items(room))
+        } else {
+            None
         }
     }
 }
