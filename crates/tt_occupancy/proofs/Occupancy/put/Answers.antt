@@ -1,15 +1,24 @@
-use Rattle.std.proofs.Common.{rules, ◌≡◌, ℕ, ◌+◌, ◌-◌, ◌<◌, ◌≤◌, Some, None, IsSome, IfOk, IfSome, length, replicate, slice_set, slice_index_or, false, ◌||◌, [], ◌*◌, ◌/◌, ◌%◌, Bool, true, nat_eq, nat_lt, List, ◌∷◌, ◌++◌, bit_and, bit_or, Fits, w8, w32, w64, Bor, MutBor}
-use Rattle.std.specs.Option.{option_map_or}
-use Rattle.tt_bits.specs.Spots.{spot_at, IsEmptyAt, IsBelow}
-use Rattle.tt_pool.specs.Pools.{list_at}
-use Rattle.tt_occupancy.specs.Rooms.{classes_in, AreListed}
-use Rattle.tt_occupancy.specs.Clashes.{clash, clashes_at, clash_pairs, clashing, room_cells}
+use Rattle.std.proofs.Common.{◌≡◌, ◌∙◌, ◌<◌, ◌+◌, ◌^◌, Some, arith, refl, rules}
+use Rattle.std.specs.Prelude.{slice_set}
+use Rattle.std.specs.Vec.{with_items}
+use Rattle.std.proofs.lemmas.List.{with_items_is}
+use Rattle.tt_occupancy.specs.Clashes.{room_cells}
+use Rattle.tt_occupancy.proofs.ClashLemmas.{AreCounted-put}
 use Rattle.tt_occupancy.proofs.Occupancy.put.Goals as goal
 
--- src/lib.rt:90:9
 pub overflow_add-self : goal.overflow_add-self
-overflow_add-self c = ?
+overflow_add-self c =
+    let kept = c.self.inside in
+    let fits : kept.clashes + c.clashes_with-more.result < 2 ^ 64 = (AreCounted-put kept.spots.items c.args.class kept.spare kept.clashes c.clashes_with-more.result (room_cells c.args.spot) c.args.spot (search rules) refl c.self.invariant.counted (search rules) (search rules)).0 in
+    omega arith
 
--- src/lib.rt:79:5
 pub invariant_of-self : goal.invariant_of-self
-invariant_of-self c = ?
+invariant_of-self c =
+    let kept = c.self.inside in
+    let items = with_items_is kept.spots c.enter.new.spots (search rules) in
+    let spots : c.enter.new.spots ≡ slice_set kept.spots.items c.args.class (Some c.args.spot) = search rules in
+    record {
+      counted = rw (items, spots) (AreCounted-put kept.spots.items c.args.class kept.spare kept.clashes c.clashes_with-more.result c.room_cells.result c.args.spot (search rules) c.room_cells.ensures.cells c.self.invariant.counted (search rules) (search rules)).1;
+      listed = rw items c.enter.ensures.listed;
+      rooms = c.enter.ensures.rooms ∙ c.self.invariant.rooms;
+    }
