@@ -1,15 +1,15 @@
 -- Clashes while classes come and go.
-use Rattle.std.proofs.Common.{◌≡◌, ◌∙◌, ℕ, ◌+◌, ◌-◌, ◌*◌, ◌<◌, ◌≤◌, ◌^◌, Bool, cond, false, List, [], ◌∷◌, Option, Some, None, length, count_by, take, refl, sym, ap, zero, suc, arith}
+use Rattle.std.proofs.Common.{◌≡◌, ◌∙◌, ℕ, ◌+◌, ◌-◌, ◌*◌, ◌<◌, ◌≤◌, ◌^◌, Bool, cond, List, [], ◌∷◌, Option, Some, None, length, count_by, refl, sym, ap, zero, suc, arith}
 use Rattle.std.specs.Prelude.{slice_set, replicate, ◌==◌}
 use Rattle.std.proofs.lemmas.Bool.Decides.{nat_tests}
 use Rattle.std.specs.Option.{option_map_or}
 use Rattle.std.proofs.lemmas.List.Sums.{sum_by-cons, sum_by-set, count_by-le-length}
-use Rattle.std.proofs.lemmas.List.{length-replicate, length-set, take_all}
+use Rattle.std.proofs.lemmas.List.{length-replicate, length-set}
 use Rattle.tt_bits.specs.declared.times.Spot.{Spot}
 use Rattle.tt_bits.specs.Pairs.{is_one_room}
 use Rattle.tt_bits.specs.Spots.{spot_at, IsEmptyAt, placed}
 use Rattle.tt_bits.proofs.TimeLemmas.{overlaps-sym}
-use Rattle.tt_bits.proofs.SpotLemmas.{set_back, set_empty, emptied, full_within, length-placed, count-placed-set, count_by-placed}
+use Rattle.tt_bits.proofs.SpotLemmas.{set_back, set_empty, emptied, full_within, length-placed, count-placed-set}
 use Rattle.tt_occupancy.specs.Kept.{AreCounted}
 use Rattle.tt_occupancy.specs.Clashes.{clash, clash_pairs, clashing, room_cells, cells_taken}
 

@@ -1,5 +1,5 @@
-use Rattle.std.proofs.Common.{ap, refl, sym, ◌∙◌, rules, arith}
-use Rattle.tt_occupancy.specs.Rooms.{AreListed, has_room}
+use Rattle.std.proofs.Common.{ap, refl, rules}
+use Rattle.tt_occupancy.specs.Rooms.{has_room}
 use Rattle.tt_occupancy.proofs.RoomLemmas.{spare_for, AreListed-same, AreListed-enter}
 use Rattle.tt_occupancy.proofs.enter.Goals as goal
 

@@ -1,9 +1,7 @@
-use Rattle.std.proofs.Common.{◌≡◌, ◌∙◌, ◌+◌, ◌<◌, ◌^◌, ℕ, Bool, cond, true, false, count_by, length, None, [], ◌∷◌, ap, sym, rules, arith}
+use Rattle.std.proofs.Common.{◌≡◌, ◌∙◌, ◌<◌, ◌^◌, true, false, count_by, length, None, [], ◌∷◌, ap, rules, arith}
 use Rattle.std.proofs.lemmas.List.Elements.{All-rest}
-use Rattle.std.proofs.lemmas.List.Sums.{count_by-le-length}
-use Rattle.tt_pool.proofs.PlaceLemmas.{places-within}
-use Rattle.tt_occupancy.specs.Rooms.{is_in_room, classes_in}
-use Rattle.tt_occupancy.specs.Clashes.{clashes_at, clashing}
+use Rattle.tt_occupancy.specs.Rooms.{classes_in}
+use Rattle.tt_occupancy.specs.Clashes.{clashes_at}
 use Rattle.tt_occupancy.proofs.ClashLemmas.{few_clashing}
 use Rattle.tt_occupancy.proofs.RoomLemmas.{clashing_in_room, classes-within, count_step}
 use Rattle.tt_occupancy.proofs.Occupancy.clashes_with.Goals as goal

@@ -1,6 +1,4 @@
-use Rattle.std.proofs.Common.{◌≡◌, None, [], sym, rules}
-use Rattle.std.specs.Option.{option_map_or}
-use Rattle.tt_occupancy.specs.Rooms.{classes_in}
+use Rattle.std.proofs.Common.{◌≡◌, None, sym, rules}
 use Rattle.tt_occupancy.proofs.RoomLemmas.{none_in_no_room}
 use Rattle.tt_occupancy.proofs.Occupancy.in_room_of.Goals as goal
 

@@ -1,4 +1,4 @@
-use Rattle.std.proofs.Common.{◌≡◌, ◌<◌, ℕ, Bool, true, false, None, [], ◌∷◌, length, refl, rules}
+use Rattle.std.proofs.Common.{◌≡◌, ◌<◌, true, false, None, [], ◌∷◌, length, refl, rules}
 use Rattle.std.proofs.lemmas.List.Elements.{All-rest}
 use Rattle.tt_occupancy.specs.Rooms.{classes_in}
 use Rattle.tt_occupancy.specs.Clashes.{clashes_at}

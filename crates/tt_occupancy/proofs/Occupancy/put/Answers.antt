@@ -1,6 +1,5 @@
 use Rattle.std.proofs.Common.{◌≡◌, ◌∙◌, ◌<◌, ◌+◌, ◌^◌, Some, arith, refl, rules}
 use Rattle.std.specs.Prelude.{slice_set}
-use Rattle.std.specs.Vec.{with_items}
 use Rattle.std.proofs.lemmas.List.{with_items_is}
 use Rattle.tt_occupancy.specs.Clashes.{room_cells}
 use Rattle.tt_occupancy.proofs.ClashLemmas.{AreCounted-put}
