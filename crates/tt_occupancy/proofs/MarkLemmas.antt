@@ -11,7 +11,7 @@ pub record AreMarked (test : ℕ → Bool) (old new : List Bool) (rest : List �
   pub done : (k : ℕ) → count_by (λ y. y == k) rest ≡ 0 → slice_index_or new k false ≡ (slice_index_or old k false || test k)
   pub kept : (k : ℕ) → test k ≡ false → slice_index_or new k false ≡ slice_index_or old k false
 
-or_false : (a b : Bool) → b ≡ false → a ≡ (a || b)
+pub or_false : (a b : Bool) → b ≡ false → a ≡ (a || b)
 or_false true b e = refl
 or_false false b e = sym e
 

@@ -159,20 +159,27 @@ spare_for h p x room pool kept empty is =
       length-set h p (Some x),
     )
 
+-- one list becomes that of its room, where nobody comes into another room or leaves it
+lists-changed : (h : List (Option Spot)) (p : ℕ) (s : Option Spot) (room : ℕ) (old new : Pooled) (list : List ℕ) → AreListed h old → p < length h → room < length old.lists
+    → ((other : ℕ) → other ≢ room → is_in_room (Some other) s ≡ is_in_room (Some other) (spot_at h p))
+    → new.lists ≡ slice_set old.lists room list → list ≡ classes_in (slice_set h p s) (Some room)
+    → (other : ℕ) → list_at new other ≡ classes_in (slice_set h p s) (Some other)
+lists-changed h p s room old new list kept inside within others lists is other =
+    ap (λ (l : List (List ℕ)). slice_index_or l other []) lists
+    ∙ elim (cases_eq other room) [
+      | inl same ↦ rw same (get_or-set_same old.lists room list [] within ∙ is)
+      | inr ne ↦ get_or-set_other old.lists room other list [] ne ∙ kept.lists other ∙ sym (places-same (is_in_room (Some other)) 0 p h s None inside (others other ne))
+    ]
+
+-- what is kept when a class comes into a room
 pub AreListed-enter : (h : List (Option Spot)) (p : ℕ) (x : Spot) (room : ℕ) (old new : Pooled) → AreListed h old → IsEmptyAt h p → x.room ≡ Some room → room < length old.lists
     → new.lists ≡ slice_set old.lists room (insert (list_at old room) (position_or_len (nat_lt p) (list_at old room)) p)
     → new.spare + 1 ≡ old.spare → AreListed (slice_set h p (Some x)) new
 AreListed-enter h p x room old new kept empty is within lists spare = record {
-  lists = λ other. ap (λ (l : List (List ℕ)). slice_index_or l other []) lists ∙ elim (cases_eq other room) [
-    | inl same ↦ rw same (
-        get_or-set_same old.lists room (insert (list_at old room) (position_or_len (nat_lt p) (list_at old room)) p) [] within
-        ∙ ap (λ (l : List ℕ). insert l (position_or_len (nat_lt p) l) p) (kept.lists room)
-        ∙ sym (rw (from_zero p) at (places-more (is_in_room (Some room)) 0 p h (Some x) None empty.0 (in_its_room x room is) (ap (is_in_room (Some room)) empty.1))))
-    | inr ne ↦
-        get_or-set_other old.lists room other (insert (list_at old room) (position_or_len (nat_lt p) (list_at old room)) p) [] ne
-        ∙ kept.lists other
-        ∙ sym (places-same (is_in_room (Some other)) 0 p h (Some x) None empty.0 (in_no_other x room other is ne ∙ sym (ap (is_in_room (Some other)) empty.1)))
-  ];
+  lists = lists-changed h p (Some x) room old new _ kept empty.0 within
+      (λ other ne. in_no_other x room other is ne ∙ sym (ap (is_in_room (Some other)) empty.1)) lists
+      (ap (λ (l : List ℕ). insert l (position_or_len (nat_lt p) l) p) (kept.lists room)
+      ∙ sym (rw (from_zero p) at (places-more (is_in_room (Some room)) 0 p h (Some x) None empty.0 (in_its_room x room is) (ap (is_in_room (Some room)) empty.1))));
   spare = omega (arith, spare, kept.spare, count-change h p (Some x) false true empty.0 (ap has_room empty.1) (rw is refl), length-set h p (Some x));
 }
 
@@ -189,23 +196,18 @@ is_listed h p x room pool kept full is =
       found,
     )
 
+-- what is kept when a class leaves a room
 pub AreListed-leave : (h : List (Option Spot)) (p : ℕ) (x : Spot) (room : ℕ) (old new : Pooled) → AreListed h old → spot_at h p ≡ Some x → x.room ≡ Some room
     → new.lists ≡ slice_set old.lists room (remove (list_at old room) (position_or_len (λ y. y == p) (list_at old room)))
     → new.spare ≡ old.spare + 1 → AreListed (slice_set h p None) new
 AreListed-leave h p x room old new kept full is lists spare =
     let inside = full_within h p (rw full refl) in record {
-  lists = λ other. ap (λ (l : List (List ℕ)). slice_index_or l other []) lists ∙ elim (cases_eq other room) [
-    | inl same ↦ rw same (
-        get_or-set_same old.lists room (remove (list_at old room) (position_or_len (λ y. y == p) (list_at old room))) [] (is_listed h p x room old kept full is).0
-        ∙ ap (λ (l : List ℕ). remove l (position_or_len (λ y. y == p) l)) (kept.lists room)
-        ∙ sym (rw (from_zero p) at (places-less (is_in_room (Some room)) 0 p h None None inside refl (ap (is_in_room (Some room)) full ∙ in_its_room x room is))))
-    | inr ne ↦
-        get_or-set_other old.lists room other (remove (list_at old room) (position_or_len (λ y. y == p) (list_at old room))) [] ne
-        ∙ kept.lists other
-        ∙ sym (places-same (is_in_room (Some other)) 0 p h None None inside (sym (ap (is_in_room (Some other)) full ∙ in_no_other x room other is ne)))
-  ];
-  spare = omega (arith, spare, kept.spare, count-change h p None true false inside (ap has_room full ∙ rw is refl) refl, length-set h p None);
-}
+      lists = lists-changed h p None room old new _ kept inside (is_listed h p x room old kept full is).0
+          (λ other ne. sym (ap (is_in_room (Some other)) full ∙ in_no_other x room other is ne)) lists
+          (ap (λ (l : List ℕ). remove l (position_or_len (λ y. y == p) l)) (kept.lists room)
+          ∙ sym (rw (from_zero p) at (places-less (is_in_room (Some room)) 0 p h None None inside refl (ap (is_in_room (Some room)) full ∙ in_its_room x room is))));
+      spare = omega (arith, spare, kept.spare, count-change h p None true false inside (ap has_room full ∙ rw is refl) refl, length-set h p None);
+    }
 
 -- the classes in a room are classes
 pub classes-within : (h : List (Option Spot)) (room : Option ℕ) → All (λ class. class < length h) (classes_in h room)

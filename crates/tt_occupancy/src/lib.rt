@@ -4,7 +4,6 @@
 ghost use Rattle.std.specs.Prelude.{◌≡◌, ℕ, ◌+◌, ◌-◌, ◌<◌, ◌≤◌, Some, None, IsSome, IfOk, IfSome, length, replicate, slice_set, slice_index_or, false, ◌||◌, []};
 ghost use Rattle.std.specs.Option.{option_map_or};
 ghost use Rattle.tt_bits.specs.Spots.{spot_at, IsEmptyAt, IsBelow};
-ghost use Rattle.tt_pool.specs.Pools.{list_at};
 ghost use Rattle.tt_occupancy.specs.Rooms.{classes_in, AreListed};
 ghost use Rattle.tt_occupancy.specs.Clashes.{clash, clashes_at, clash_pairs, clashing, room_cells};
 
@@ -60,7 +59,7 @@ impl Occupancy {
         ensures spare { IfOk result (λ o. o.spare ≡ links) }
     {
         if classes == u32::MAX {
-            // a pool has fewer nodes
+            // More than a pool finds room for.
             return Err(AllocError);
         }
         let spots = vec![in alloc; None; classes as usize]?;

@@ -1,4 +1,4 @@
-use Rattle.std.proofs.Common.{◌≡◌, ◌∙◌, ◌<◌, ◌^◌, true, false, count_by, length, None, [], ◌∷◌, ap, rules, arith}
+use Rattle.std.proofs.Common.{◌≡◌, ◌∙◌, ◌<◌, ◌^◌, true, false, count_by, length, [], ◌∷◌, ap, rules, arith}
 use Rattle.std.proofs.lemmas.List.Elements.{All-rest}
 use Rattle.tt_occupancy.specs.Rooms.{classes_in}
 use Rattle.tt_occupancy.specs.Clashes.{clashes_at}
@@ -8,8 +8,7 @@ use Rattle.tt_occupancy.proofs.Occupancy.clashes_with.Goals as goal
 
 pub returns-in_default : goal.returns-in_default
 returns-in_default c =
-    let none : c.in_room_of.result ≡ None = search rules in
-    let nobody : [] ≡ classes_in c.args.self.now.spots c.args.spot.room = rw none at c.in_room_of.ensures in
+    let nobody : [] ≡ classes_in c.args.self.now.spots c.args.spot.room = search rules in
     ap (count_by (clashes_at c.args.self.now.spots c.args.spot c.args.except)) nobody ∙ clashing_in_room c.args.self.now.spots c.args.spot c.args.except
 
 pub loop-class-init : goal.loop-class-init

@@ -1,16 +1,15 @@
-use Rattle.std.proofs.Common.{◌≡◌, ◌<◌, true, false, None, [], ◌∷◌, length, refl, rules}
+use Rattle.std.proofs.Common.{◌≡◌, ◌<◌, true, false, [], ◌∷◌, length, refl, rules}
 use Rattle.std.proofs.lemmas.List.Elements.{All-rest}
 use Rattle.tt_occupancy.specs.Rooms.{classes_in}
 use Rattle.tt_occupancy.specs.Clashes.{clashes_at}
 use Rattle.tt_occupancy.proofs.RoomLemmas.{no_clash_unlisted, classes-within}
-use Rattle.tt_occupancy.proofs.MarkLemmas.{AreMarked-start, AreMarked-set, AreMarked-pass}
+use Rattle.tt_occupancy.proofs.MarkLemmas.{or_false, AreMarked-start, AreMarked-set, AreMarked-pass}
 use Rattle.tt_occupancy.proofs.Occupancy.mark.Goals as goal
 
 pub returns-in_default : goal.returns-in_default
 returns-in_default c k lt =
-    let none : c.in_room_of.result ≡ None = search rules in
-    let nobody : [] ≡ classes_in c.args.self.now.spots c.args.spot.room = rw none at c.in_room_of.ensures in
-    (AreMarked-start (clashes_at c.args.self.now.spots c.args.spot c.args.except) c.args.marks.now (classes_in c.args.self.now.spots c.args.spot.room) (no_clash_unlisted c.args.self.now.spots c.args.spot c.args.except)).done k (rw (← nobody) refl)
+    let nobody : [] ≡ classes_in c.args.self.now.spots c.args.spot.room = search rules in
+    or_false _ _ (no_clash_unlisted c.args.self.now.spots c.args.spot c.args.except k (rw (← nobody) refl))
 
 pub loop-class-init : goal.loop-class-init
 loop-class-init c =
