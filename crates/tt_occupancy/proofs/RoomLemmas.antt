@@ -32,7 +32,7 @@ listed_in : (h : List (Option Spot)) (room : Option ℕ) (class : ℕ) → class
 listed_in h room class within is = rw (from_zero class) at (places-found (is_in_room room) 0 class h None within is)
 
 -- a class that is in no list is not in the room
-pub is_elsewhere : (h : List (Option Spot)) (room : Option ℕ) (class : ℕ) → count_by (λ y. y == class) (classes_in h room) ≡ 0 → is_in_room room (spot_at h class) ≡ false
+is_elsewhere : (h : List (Option Spot)) (room : Option ℕ) (class : ℕ) → count_by (λ y. y == class) (classes_in h room) ≡ 0 → is_in_room room (spot_at h class) ≡ false
 is_elsewhere h room class unused =
     elim (cases_lt class (length h)) [
       | inl within ↦ elim (cases_Bool (is_in_room room (spot_at h class))) [
@@ -48,6 +48,7 @@ unfolding clash
 no_clash x None e = refl
 no_clash x (Some y) e = rw e refl
 
+-- an emptied place has no spot
 emptied_at : (h : List (Option Spot)) (p : ℕ) → spot_at (slice_set h p None) p ≡ None
 emptied_at [] p = refl
 emptied_at (s ∷ h) zero = refl
@@ -126,6 +127,7 @@ count-change h p s was is within had has =
       ap {B = ℕ} (λ (b : Bool). cond b 1 0) has,
     )
 
+-- a class without a room is in none
 no_room_in : (room : ℕ) (o : Option ℕ) → is_some o ≡ false → is_one_room (Some room) o ≡ false
 no_room_in room None e = refl
 no_room_in room (Some a) e = absurd (cc e)

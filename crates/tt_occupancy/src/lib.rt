@@ -158,7 +158,7 @@ impl Occupancy {
         }
     }
 
-    /// The placed classes that have the room of a spot, in order, or none where no class has it.
+    /// The placed classes in the room of a spot, in order. `None` stands for no classes.
     fn in_room_of(&self, spot: &Spot) -> Option<Items>
         ensures { option_map_or (λ classes. classes) result [] ≡ classes_in self.now.spots spot.now.room }
     {
