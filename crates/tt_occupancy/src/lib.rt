@@ -128,7 +128,7 @@ impl Occupancy {
     pub fn clashes_with(&self, spot: Spot, except: u32) -> u64
         ensures { result ≡ clashing self.now.spots spot except }
     {
-        let Some(classes) = self.in_room_of(&spot) else {
+        let Some(classes) = self.classes_in(spot.room) else {
             return 0;
         };
         let spots = self.spots.as_slice();
@@ -147,7 +147,7 @@ impl Occupancy {
         ensures { (class : ℕ) → class < length marks.old → slice_index_or marks.new class false
             ≡ (slice_index_or marks.old class false || clashes_at self.now.spots spot except class) }
     {
-        let Some(classes) = self.in_room_of(&spot) else {
+        let Some(classes) = self.classes_in(spot.room) else {
             return;
         };
         let spots = self.spots.as_slice();
@@ -158,11 +158,11 @@ impl Occupancy {
         }
     }
 
-    /// The placed classes in the room of a spot, in order. `None` stands for no classes.
-    fn in_room_of(&self, spot: &Spot) -> Option<Items>
-        ensures { option_map_or (λ classes. classes) result [] ≡ classes_in self.now.spots spot.now.room }
+    /// The placed classes that have a room, in order. `None` stands for no classes.
+    pub fn classes_in(&self, room: Option<u32>) -> Option<Items>
+        ensures { option_map_or (λ classes. classes) result [] ≡ classes_in self.now.spots room }
     {
-        let room = spot.room?;
+        let room = room?;
         if room < self.rooms {
             Some(self.by_room.items(room))
         } else {
