@@ -5,7 +5,6 @@ use Rattle.std.specs.List.{range_with_len, AllByRecursion}
 use Rattle.std.proofs.lemmas.List.{drop_more, drop_all, length-take, get_or_past, get_or_default, same_lists}
 use Rattle.std.proofs.lemmas.List.Elements.{recursion_from_All}
 use Rattle.std.proofs.lemmas.List.Folds.{list_any_at}
-use Rattle.std.proofs.lemmas.List.Sums.{count_by-le-length}
 use Rattle.std.proofs.lemmas.Bool.{cases_Bool, cases_lt, eq-eqb, ne_eqb, false≢true}
 use Rattle.std.proofs.lemmas.Bool.Decides.{eqb_tells}
 use Rattle.tt_clash.specs.ConflictSet.{is_in}
@@ -90,10 +89,6 @@ listed-within marks order count listed k e lt =
       | inl within ↦ within
       | inr past ↦ absurd (false≢true (sym (get_or_past marks d false past) ∙ listed.each d ∙ there))
     ]
-
--- no more are listed than there are
-pub listed-few : (marks : List Bool) (order : List ℕ) (count : ℕ) → IsListed marks order count → count ≤ length marks
-listed-few marks order count listed = omega (arith, listed.counted, count_by-le-length (λ (b : Bool). b) marks)
 
 -- a mark taken off: those that are left are of the classes listed later
 pub clear-more : (marks : List Bool) (listed : List ℕ) (i m : ℕ) → ((d : ℕ) → get_or marks d false ≡ true → is_in (drop i listed) d ≡ true) → i < length listed → m ≡ get_or listed i 0 → m < length marks
