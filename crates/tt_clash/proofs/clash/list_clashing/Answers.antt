@@ -13,7 +13,7 @@ returns-clause-list c =
     let test = clashes p c.args.spots.now c.args.class c.args.spot in
     let up : length (rules_of p c.args.class) ≤ c.loop-with.with-index = rw (← c.rules_of-rules.ensures.value) c.loop-with-test.false in
     let each : (d : ℕ) → get_or c.loop-with.marks d false ≡ test d = λ d. c.loop-with.invariant.marks d
-        ∙ ap (λ rules. clashes_below p c.args.spots.now c.args.class c.args.spot rules d) (take_all c.loop-with.with-index (rules_of p c.args.class) up) in
+    ∙ ap (λ rules. clashes_below p c.args.spots.now c.args.class c.args.spot rules d) (take_all c.loop-with.with-index (rules_of p c.args.class) up) in
     let long : length c.loop-with.marks ≡ length c.args.spots.now = omega (arith, c.loop-with.auto.marks, c.requires.marks) in
     c.loop-with.invariant.listed.list ∙ marked-filter test c.loop-with.marks each ∙ ap (λ (n : ℕ). filter test (range_with_len 0 n)) long
 
