@@ -2,6 +2,7 @@ pub mod MixedLemmas
 pub mod LentLemmas
 pub mod FrontLemmas
 pub mod MarkLemmas
+pub mod OrderLemmas
 pub mod LoanLemmas
 pub mod WalkLemmas
 pub mod ListedLemmas
@@ -14,5 +15,4 @@ pub mod AmountLemmas
 pub mod ForcedLemmas
 pub mod SetLemmas
 pub mod PlaceLemmas
-pub mod RoomLemmas
 pub mod Examples

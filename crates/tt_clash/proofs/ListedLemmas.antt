@@ -1,16 +1,16 @@
 -- Marked classes listed, and marks taken off.
-use Rattle.std.proofs.Common.{◌≡◌, ◌≢◌, ℕ, ◌+◌, ◌<◌, ◌≤◌, zero, suc, Bool, true, false, cond, List, [], ◌∷◌, ◌++◌, length, get_or, take, drop, filter, count_by, nat_eq, refl, ap, sym, ◌∙◌, arith, inl, inr, All, get_or-set_same, get_or-set_other}
+use Rattle.std.proofs.Common.{◌≡◌, ◌≢◌, ℕ, ◌+◌, ◌<◌, ◌≤◌, zero, suc, Bool, true, false, List, [], ◌∷◌, length, get_or, take, drop, filter, nat_eq, refl, ap, sym, ◌∙◌, arith, inl, inr, All, get_or-set_same, get_or-set_other}
 use Rattle.std.specs.Prelude.{slice_set}
 use Rattle.std.specs.List.{range_with_len, AllByRecursion}
-use Rattle.std.proofs.lemmas.List.{drop_more, drop_all, map-id, get_or_past, get_or_default, take_all, take_more_set, same_lists, append-nil}
+use Rattle.std.proofs.lemmas.List.{drop_more, drop_all, length-take, get_or_past, get_or_default, same_lists}
 use Rattle.std.proofs.lemmas.List.Elements.{recursion_from_All}
 use Rattle.std.proofs.lemmas.List.Folds.{list_any_at}
-use Rattle.std.proofs.lemmas.List.FromFn.{filter_of_map_range_with_len_more}
-use Rattle.std.proofs.lemmas.List.Sums.{count_by-le-length, sum_by-cons}
 use Rattle.std.proofs.lemmas.Bool.{cases_Bool, cases_lt, eq-eqb, ne_eqb, false≢true}
 use Rattle.std.proofs.lemmas.Bool.Decides.{eqb_tells}
 use Rattle.tt_clash.specs.ConflictSet.{is_in}
-use Rattle.tt_clash.specs.Marks.{IsListed}
+use Rattle.tt_pool.specs.Places.{places_where}
+use Rattle.tt_pool.proofs.PlaceLemmas.{length-places}
+use Rattle.tt_clash.specs.Marks.{IsListed, AreListed}
 
 -- a class below those of a range isn't among them
 in-below : (p : ℕ → Bool) (a n d : ℕ) → d < a → is_in (filter p (range_with_len a n)) d ≡ false
@@ -57,28 +57,28 @@ marked-each marks d =
       | inr past ↦ get_or_past marks d false past ∙ sym (in-above (λ e. get_or marks e false) 0 (length marks) d (omega arith))
     ]
 
--- all classes walked: the marked ones are listed
-pub listed-all : (marks : List Bool) (order : List ℕ) (count n : ℕ) → length marks ≤ n → n ≤ length marks → take count order ≡ marked_below marks n → count ≡ count_by (λ b. b) (take n marks) → IsListed marks order count
-listed-all marks order count n up down is counted =
-    let whole : n ≡ length marks = omega arith in
+-- the places of the marks are the classes that pass a test that the marks tell
+places-filter : (test : ℕ → Bool) (from : ℕ) (marks : List Bool) → ((k : ℕ) → get_or marks k false ≡ test (from + k)) → places_where (λ b. b) from marks ≡ filter test (range_with_len from (length marks))
+places-filter test from [] each = refl
+places-filter test from (b ∷ marks) each =
+    let none : from + 0 ≡ from = omega arith in
+    let here : b ≡ test from = rw none at (each 0) in
+    let rest = places-filter test (from + 1) marks (λ k. let on : from + 1 + k ≡ from + suc k = omega arith in rw on (each (suc k))) in
+    elim (cases_Bool b) [
+      | inl marked ↦ let passes : test from ≡ true = sym here ∙ marked in rw (marked, passes) (ap (λ l. from ∷ l) rest)
+      | inr unmarked ↦ let fails : test from ≡ false = sym here ∙ unmarked in rw (unmarked, fails) rest
+    ]
+
+pub marked-filter : (test : ℕ → Bool) (marks : List Bool) → ((d : ℕ) → get_or marks d false ≡ test d) → places_where (λ b. b) 0 marks ≡ filter test (range_with_len 0 (length marks))
+marked-filter test marks each = places-filter test 0 marks (λ d. each d ∙ ap test (omega arith))
+
+pub is-listed : (marks : List Bool) (order : List ℕ) (count : ℕ) → AreListed marks order count → IsListed marks order count
+is-listed marks order count listed =
     record {
-      counted = counted ∙ ap (count_by (λ b. b)) (take_all n marks up);
-      each = λ d. marked-each marks d ∙ ap (λ m. is_in (marked_below marks m) d) (sym whole) ∙ ap (λ l. is_in l d) (sym is);
+      counted = omega (arith, listed.few, length-take count order, ap length listed.list, length-places (λ b. b) 0 marks);
+      each = λ d. marked-each marks d
+          ∙ ap (λ l. is_in l d) (sym (listed.list ∙ marked-filter (λ e. get_or marks e false) marks (λ e. refl)));
     }
-
-marked-more : (marks : List Bool) (n : ℕ) → marked_below marks (n + 1) ≡ marked_below marks n ++ cond (get_or marks n false) (n ∷ []) []
-marked-more marks n =
-    let p = λ (d : ℕ). get_or marks d false in
-    let e = filter_of_map_range_with_len_more p (λ (d : ℕ). d) 0 n n (omega arith) in
-    rw (← map-id (range_with_len 0 (n + 1)), ← map-id (range_with_len 0 n)) e
-
--- one more class, marked or not
-pub marked-yes : (marks : List Bool) (order : List ℕ) (count n : ℕ) → take count order ≡ marked_below marks n → count < length order → get_or marks n false ≡ true → take (count + 1) (slice_set order count n) ≡ marked_below marks (n + 1)
-marked-yes marks order count n is room marked =
-    take_more_set order count n room ∙ rw (marked-more marks n, marked, is) refl
-
-pub marked-no : (marks : List Bool) (order : List ℕ) (count n : ℕ) → take count order ≡ marked_below marks n → get_or marks n false ≡ false → take count order ≡ marked_below marks (n + 1)
-marked-no marks order count n is unmarked = is ∙ rw (marked-more marks n, unmarked) (sym (append-nil (marked_below marks n)))
 
 -- a listed class is one of those with marks
 pub listed-within : (marks : List Bool) (order : List ℕ) (count : ℕ) → IsListed marks order count → All (λ d. d < length marks) (take count order)
@@ -89,10 +89,6 @@ listed-within marks order count listed k e lt =
       | inl within ↦ within
       | inr past ↦ absurd (false≢true (sym (get_or_past marks d false past) ∙ listed.each d ∙ there))
     ]
-
--- no more are listed than there are
-pub listed-few : (marks : List Bool) (order : List ℕ) (count : ℕ) → IsListed marks order count → count ≤ length marks
-listed-few marks order count listed = omega (arith, listed.counted, count_by-le-length (λ (b : Bool). b) marks)
 
 -- a mark taken off: those that are left are of the classes listed later
 pub clear-more : (marks : List Bool) (listed : List ℕ) (i m : ℕ) → ((d : ℕ) → get_or marks d false ≡ true → is_in (drop i listed) d ≡ true) → i < length listed → m ≡ get_or listed i 0 → m < length marks
@@ -121,26 +117,16 @@ clear-all marks listed i each up k e lt =
 pub all-unmarked : (xs ys : List Bool) → length xs ≡ length ys → All (λ b. b ≡ false) xs → All (λ b. b ≡ false) ys → xs ≡ ys
 all-unmarked xs ys same none_x none_y = same_lists xs ys same (λ k d lt. none_x k d lt ∙ sym (none_y k d (omega arith)))
 
--- no mark: none is listed, and none passes a test that the marks tell
-at-unmarked : (marks : List Bool) (d : ℕ) → All (λ b. b ≡ false) marks → get_or marks d false ≡ false
+-- no mark, and none is listed
+pub at-unmarked : (marks : List Bool) (d : ℕ) → All (λ b. b ≡ false) marks → get_or marks d false ≡ false
 at-unmarked marks d none = elim (cases_lt d (length marks)) [ inl within ↦ none d false within | inr past ↦ get_or_past marks d false past ]
 
-count-unmarked : (marks : List Bool) → AllByRecursion (λ b. b ≡ false) marks → count_by (λ b. b) marks ≡ 0
-count-unmarked [] none = refl
-count-unmarked (b ∷ marks) none =
-    let e = sum_by-cons (λ (m : Bool). cond {A = ℕ} m 1 0) b marks in
-    let here : cond {A = ℕ} b 1 0 ≡ 0 = rw none.0 refl in
-    omega (arith, e, here, count-unmarked marks none.1)
+none-marked : (from : ℕ) (marks : List Bool) → AllByRecursion (λ b. b ≡ false) marks → [] ≡ places_where (λ b. b) from marks
+none-marked from [] none = refl
+none-marked from (b ∷ marks) none = let here = none.0 in rw here (none-marked (from + 1) marks none.1)
 
-pub none-listed : (marks : List Bool) (order : List ℕ) → All (λ b. b ≡ false) marks → IsListed marks order 0
+pub none-listed : (marks : List Bool) (order : List ℕ) → All (λ b. b ≡ false) marks → AreListed marks order 0
 none-listed marks order none = record {
-  counted = sym (count-unmarked marks (recursion_from_All (λ (b : Bool). b ≡ false) marks none));
-  each = λ d. at-unmarked marks d none;
+  list = none-marked 0 marks (recursion_from_All (λ (b : Bool). b ≡ false) marks none);
+  few = omega arith;
 }
-
-filter-none : (test : ℕ → Bool) (xs : List ℕ) → ((d : ℕ) → test d ≡ false) → filter test xs ≡ []
-filter-none test [] none = refl
-filter-none test (d ∷ ds) none = let here = none d in rw here (filter-none test ds none)
-
-pub none-passes : (marks : List Bool) (test : ℕ → Bool) (n : ℕ) → All (λ b. b ≡ false) marks → ((d : ℕ) → get_or marks d false ≡ test d) → [] ≡ filter test (range_with_len 0 n)
-none-passes marks test n none each = sym (filter-none test (range_with_len 0 n) (λ d. sym (each d) ∙ at-unmarked marks d none))

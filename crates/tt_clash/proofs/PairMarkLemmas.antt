@@ -1,24 +1,22 @@
 -- Classes marked one after the other.
-use Rattle.std.proofs.Common.{◌≡◌, ◌≢◌, ℕ, ◌+◌, ◌<◌, ◌≤◌, Bool, true, false, not, ◌&&◌, ◌||◌, List, [], ◌∷◌, ◌++◌, Option, Some, None, All, length, get_or, take, nat_eq, refl, ap, sym, ◌∙◌, arith, inl, inr, get_or-set_same, get_or-set_other}
-use Rattle.std.specs.Prelude.{◌==◌, slice_set, slice_get, slice_index}
+use Rattle.std.proofs.Common.{◌≡◌, ◌≢◌, ℕ, ◌+◌, ◌<◌, ◌≤◌, Bool, true, false, not, ◌&&◌, ◌||◌, List, [], ◌∷◌, ◌++◌, Option, Some, None, length, get_or, nat_eq, refl, ap, sym, ◌∙◌, arith, inl, inr, get_or-set_same, get_or-set_other}
+use Rattle.std.specs.Prelude.{◌==◌, slice_set, slice_index}
 use Rattle.std.specs.List.{list_any, range_with_len}
 use Rattle.std.specs.Option.{option_map_or}
 use Rattle.std.proofs.lemmas.List.{map-id, get_or_past}
 use Rattle.std.proofs.lemmas.List.FromFn.{map-range_with_len_more}
-use Rattle.std.proofs.lemmas.List.Folds.{list_any-append, list_any_more}
-use Rattle.std.proofs.lemmas.Bool.{cases_lt, eq-eqb}
+use Rattle.std.proofs.lemmas.List.Folds.{list_any-append}
+use Rattle.std.proofs.lemmas.Bool.{eq-eqb}
 use Rattle.std.proofs.lemmas.Bool.Decides.{eqb_tells}
 use Rattle.tt_bits.specs.declared.times.Spot.{Spot}
 use Rattle.tt_bits.specs.declared.pairs.PairKind.{PairKind}
 use Rattle.tt_travel.specs.Table.{Table}
 use Rattle.tt_bits.specs.Spots.{spot_at}
-use Rattle.tt_problem.specs.declared.parts.Rule.{Rule}
 use Rattle.tt_problem.specs.declared.parts.RulePlace.{RulePlace}
 use Rattle.tt_problem.specs.declared.parts.Parts.{Parts}
-use Rattle.tt_clash.specs.Rules.{required_pair}
 use Rattle.tt_clash.specs.ConflictSet.{passes, breaks_at, breaks_rule}
 use Rattle.tt_occupancy.specs.Clashes.{clash}
-use Rattle.tt_clash.specs.Marks.{clashes_in_room, breaks_with, clashes_in_rule}
+use Rattle.tt_clash.specs.Marks.{breaks_with}
 
 or-assoc : (a b c : Bool) → ((a || b) || c) ≡ (a || (b || c))
 or-assoc true b c = refl
@@ -126,43 +124,6 @@ rule-no start marks t kind members spots c place x q m d at is no_m =
     ∙ or-assoc (get_or start d false) _ _
     ∙ ap (λ b. get_or start d false || b) (rule-step t kind members spots c place x q m d at)
 
-pub rule-none : (start : List Bool) (t : Table) (kind : PairKind) (members : List ℕ) (spots : List (Option Spot)) (c place : ℕ) (x : Spot) (d : ℕ)
-    → get_or start d false ≡ (get_or start d false || rule_below t kind members spots c place x 0 d)
-rule-none start t kind members spots c place x d = let none = no_test (not (d == c)) (spot_at spots d) in rw none (sym (or-false (get_or start d false)))
-
 -- the rules walked up to one
 abbrev pub clashes_below : Parts → List (Option Spot) → ℕ → Spot → List RulePlace → ℕ → Bool
 clashes_below p spots c x rules d = passes spots c (λ y. clash x y || list_any (breaks_rule p x d y) rules) d
-
-pub clashes-none : (p : Parts) (spots : List (Option Spot)) (c : ℕ) (x : Spot) (d : ℕ) (start now : List Bool) → All (λ b. b ≡ false) start → get_or now d false ≡ (get_or start d false || clashes_in_room spots c x d)
-    → get_or now d false ≡ clashes_below p spots c x [] d
-clashes-none p spots c x d start now none is =
-    let no_mark : get_or start d false ≡ false = at_past start none in
-    is ∙ rw no_mark (same_test (not (d == c)) (spot_at spots d) _ _ (λ y. sym (or-false (clash x y))))
-  where
-    at_past : (marks : List Bool) → All (λ b. b ≡ false) marks → get_or marks d false ≡ false
-    at_past marks each = elim (cases_lt d (length marks)) [ inl within ↦ each d false within | inr past ↦ get_or_past marks d false past ]
-
-clashes-step : (p : Parts) (spots : List (Option Spot)) (c : ℕ) (x : Spot) (rules : List RulePlace) (i d : ℕ) (e : RulePlace) → i < length rules
-    → (clashes_below p spots c x (take i rules) d || passes spots c (λ y. breaks_rule p x d y (get_or rules i e)) d) ≡ clashes_below p spots c x (take (i + 1) rules) d
-clashes-step p spots c x rules i d e within =
-    passes-either spots c (λ y. clash x y || list_any (breaks_rule p x d y) (take i rules)) (λ y. breaks_rule p x d y (get_or rules i e)) d
-    ∙ same_test (not (d == c)) (spot_at spots d) _ _
-    (λ y. or-assoc (clash x y) _ _ ∙ ap (λ b. clash x y || b) (sym (list_any_more (breaks_rule p x d y) rules i e within)))
-
--- a required pair rule marks the classes that break it
-pub clashes-rule : (p : Parts) (spots : List (Option Spot)) (c : ℕ) (x : Spot) (rules : List RulePlace) (i d : ℕ) (e r : RulePlace) (rule : Rule) (kind : PairKind) (before now : List Bool) (members : List ℕ) (t : Table) → i < length rules → r ≡ get_or rules i e
-    → slice_get p.rules r.rule ≡ Some rule → required_pair rule ≡ Some kind → members ≡ rule.members → t ≡ p.travel → get_or before d false ≡ clashes_below p spots c x (take i rules) d
-    → get_or now d false ≡ (get_or before d false || clashes_in_rule t kind members spots c r.place x d) → get_or now d false ≡ clashes_below p spots c x (take (i + 1) rules) d
-clashes-rule p spots c x rules i d e r rule kind before now members t within at rule_is pair members_is t_is was is =
-    is ∙ rw (was, members_is, t_is) (ap (λ b. clashes_below p spots c x (take i rules) d || b) (same_test (not (d == c)) (spot_at spots d) _ _ (λ y. rw (← at, rule_is, pair) refl))
-    ∙ clashes-step p spots c x rules i d e within)
-
--- another marks none
-pub clashes-skip : (p : Parts) (spots : List (Option Spot)) (c : ℕ) (x : Spot) (rules : List RulePlace) (i d : ℕ) (e r : RulePlace) (rule : Rule) (before : List Bool) → i < length rules → r ≡ get_or rules i e
-    → slice_get p.rules r.rule ≡ Some rule → required_pair rule ≡ None → get_or before d false ≡ clashes_below p spots c x (take i rules) d
-    → get_or before d false ≡ clashes_below p spots c x (take (i + 1) rules) d
-clashes-skip p spots c x rules i d e r rule before within at rule_is other was =
-    was ∙ sym (or-false (clashes_below p spots c x (take i rules) d))
-    ∙ ap (λ b. clashes_below p spots c x (take i rules) d || b) (sym (same_test (not (d == c)) (spot_at spots d) _ _ (λ y. rw (← at, rule_is, other) refl) ∙ no_test (not (d == c)) (spot_at spots d)))
-    ∙ clashes-step p spots c x rules i d e within

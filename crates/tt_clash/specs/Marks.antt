@@ -1,9 +1,10 @@
 -- What the code keeps: marks by class, and the marked classes listed. Proofs alone need it.
-use Rattle.std.specs.Prelude.{◌≡◌, ℕ, Bool, false, not, is_some, ◌&&◌, ◌||◌, ◌==◌, List, Option, None, if◌then◌else◌, slice_index_or, take, count_by}
+use Rattle.std.specs.Prelude.{◌≡◌, ℕ, ◌≤◌, Bool, false, not, is_some, ◌&&◌, ◌||◌, ◌==◌, List, Option, None, if◌then◌else◌, slice_index_or, take, length, count_by}
 use Rattle.tt_bits.specs.declared.times.Spot.{Spot}
 use Rattle.tt_bits.specs.declared.pairs.PairKind.{PairKind}
 use Rattle.tt_bits.specs.Spots.{spot_at}
 use Rattle.tt_travel.specs.Table.{Table}
+use Rattle.tt_pool.specs.Places.{places_where}
 use Rattle.tt_occupancy.specs.Clashes.{clash}
 use Rattle.tt_clash.specs.ConflictSet.{is_in, passes, breaks_at, breaks_pair}
 
@@ -39,3 +40,8 @@ may_go spots c marks d = not (d == c) && not (slice_index_or marks d false) && i
 pub record IsListed (marks : List Bool) (order : List ℕ) (count : ℕ) : Type 0 where
   pub counted : count ≡ count_by (λ b. b) marks
   pub each : (d : ℕ) → slice_index_or marks d false ≡ is_in (take count order) d
+
+-- the first `count` classes of `order` are the marked ones, in order
+pub record AreListed (marks : List Bool) (order : List ℕ) (count : ℕ) : Type 0 where
+  pub list : take count order ≡ places_where (λ b. b) 0 marks
+  pub few : count ≤ length order

@@ -1,13 +1,13 @@
-ghost use Rattle.std.specs.Prelude.{◌≡◌, ℕ, ◌<◌, ◌≤◌, All, IfSome, ◌||◌, false, slice_index_or, length, take, filter};
-ghost use Rattle.std.specs.List.{range_with_len};
+ghost use Rattle.std.specs.Prelude.{◌≡◌, ℕ, ◌<◌, ◌≤◌, All, ◌||◌, true, false, slice_index_or, slice_set, length, take, nat_lt};
+ghost use Rattle.std.specs.List.{position_or_len};
 ghost use Rattle.tt_bits.specs.Spots.{IsBelow};
 ghost use Rattle.tt_travel.specs.Table.{IsRoomOf};
 ghost use Rattle.tt_measure.specs.Held.{AreRoomsOf};
 ghost use Rattle.tt_problem.specs.RulePlaces.{rules_of};
-ghost use Rattle.tt_clash.specs.ConflictSet.{clashes, clashing, conflict_set, is_in};
+ghost use Rattle.tt_clash.specs.ConflictSet.{clashing, conflict_set, is_in};
 ghost use Rattle.tt_clash.specs.Freed.{IsFreeAlone, IsFreedRule};
 ghost use Rattle.tt_clash.specs.Groups.{amounts_of, SameGroups, AreGroupsOf};
-ghost use Rattle.tt_clash.specs.Marks.{IsListed, clashes_in_room, clashes_in_rule, breaks_with};
+ghost use Rattle.tt_clash.specs.Marks.{IsListed, AreListed, clashes_in_room, clashes_in_rule, breaks_with};
 
 use crate::group::make_room;
 use crate::rules::{is_required_group, required_pair, rules_of};
@@ -70,8 +70,8 @@ pub fn conflicts<M: Measure>(
     count
 }
 
-/// Marks and lists the classes that clash with the class at the spot. The answer is how many they
-/// are.
+/// Marks and lists the classes that clash with the class at the spot, in order. The answer is how
+/// many they are.
 fn list_clashing(
     problem: &Problem,
     spots: &[Option<Spot>],
@@ -93,37 +93,12 @@ fn list_clashing(
     ensures listed { IsListed marks.new order.new result }
     ensures few { result ≤ length order.new }
 {
-    problem.validity();
-    if !mark_clashing(problem, spots, occupancy, class, spot, marks) {
-        return 0;
-    }
-    list_marked(marks, order)
-}
-
-/// Marks the classes that clash with the class at the spot. Where the answer is false, there is none.
-fn mark_clashing(
-    problem: &Problem,
-    spots: &[Option<Spot>],
-    occupancy: &Occupancy,
-    class: u32,
-    spot: Spot,
-    marks: &mut [bool],
-) -> bool
-    requires class { class < length problem.now.classes }
-    requires spots { length spots.now ≡ length problem.now.classes }
-    requires room { IsRoomOf problem.now.travel spot.room }
-    requires rooms { AreRoomsOf problem.now.travel spots.now }
-    requires occupancy { occupancy.now.spots ≡ spots.now }
-    requires marks { length marks.old ≡ length spots.now }
-    requires unmarked { All (λ b. b ≡ false) marks.old }
-    ensures marks { (d : ℕ) → slice_index_or marks.new d false ≡ clashes problem.now spots.now class spot d }
-    ensures none { result ≡ false → marks.new ≡ marks.old }
-{
-    let mut some = mark_room(occupancy, class, spot, marks);
-    for with in rules_of(problem, class) {
+    let rules = rules_of(problem, class);
+    let mut count = list_room(occupancy, class, spot, marks, order);
+    for with in rules {
         let rule = problem.rule(with.rule);
         if let Some(kind) = required_pair(rule) {
-            some |= mark_pairs(
+            count = list_pairs(
                 problem.travel(),
                 kind,
                 rule.members.as_slice(),
@@ -132,29 +107,56 @@ fn mark_clashing(
                 with.place,
                 spot,
                 marks,
+                order,
+                count,
             );
         }
     }
-    some
+    count
 }
 
-/// Marks the placed classes but one that overlap the spot in its room. Where the answer is false,
-/// there is none.
-fn mark_room(occupancy: &Occupancy, except: u32, spot: Spot, marks: &mut [bool]) -> bool
+/// Marks and lists the placed classes but one that overlap the spot in its room. The answer is how
+/// many they are.
+fn list_room(
+    occupancy: &Occupancy,
+    except: u32,
+    spot: Spot,
+    marks: &mut [bool],
+    order: &mut [u32],
+) -> u32
     requires marks { length marks.old ≡ length occupancy.now.spots }
-    ensures marks { (d : ℕ) → slice_index_or marks.new d false ≡ (slice_index_or marks.old d false || clashes_in_room occupancy.now.spots except spot d) }
-    ensures none { result ≡ false → marks.new ≡ marks.old }
+    requires unmarked { All (λ b. b ≡ false) marks.old }
+    requires few { length marks.old ≤ 20000 }
+    requires order { length order.old ≡ length marks.old }
+    ensures marks { (d : ℕ) → slice_index_or marks.new d false ≡ clashes_in_room occupancy.now.spots except spot d }
+    ensures listed { AreListed marks.new order.new result }
 {
-    if occupancy.clashes_with(spot, except) == 0 {
-        return false;
+    let spots = occupancy.spots();
+    let mut count = 0;
+    for other in 0..spots.len() {
+        if clashes_in_room(spots, except, spot, other as u32) {
+            count = list_one(marks, order, count, other as u32);
+        }
     }
-    occupancy.mark(spot, except, marks);
-    true
+    count
 }
 
-/// Marks the classes that break a pair rule with the class at the spot. Where the answer is false,
-/// there is none.
-fn mark_pairs(
+/// Whether a class but one is placed and overlaps the spot in its room.
+#[tactic(auto, unfolding(tt_occupancy::specs::Clashes::clash))]
+fn clashes_in_room(spots: &[Option<Spot>], except: u32, spot: Spot, class: u32) -> bool
+    requires { class < length spots.now }
+    ensures { result ≡ clashes_in_room spots.now except spot class }
+{
+    class != except
+        && match spots[class as usize] {
+            Some(other) => spot.shares_room(&other) && spot.time.overlaps(&other.time),
+            None => false,
+        }
+}
+
+/// Marks and lists the classes that break a pair rule with the class at the spot. The answer is how
+/// many are listed now.
+fn list_pairs(
     travel: &Travel,
     kind: PairKind,
     members: &[u32],
@@ -163,24 +165,28 @@ fn mark_pairs(
     place: u32,
     spot: Spot,
     marks: &mut [bool],
-) -> bool
+    order: &mut [u32],
+    listed: u32,
+) -> u32
     requires members { All (λ d. d < length spots.now) members.now }
     requires room { IsRoomOf travel.now spot.room }
     requires rooms { AreRoomsOf travel.now spots.now }
     requires marks { length marks.old ≡ length spots.now }
+    requires few { length marks.old ≤ 20000 }
+    requires order { length order.old ≡ length marks.old }
+    requires listed { AreListed marks.old order.old listed }
     ensures marks { (d : ℕ) → slice_index_or marks.new d false
         ≡ (slice_index_or marks.old d false || clashes_in_rule travel.now kind members.now spots.now class place spot d) }
-    ensures none { result ≡ false → marks.new ≡ marks.old }
+    ensures listed { AreListed marks.new order.new result }
 {
-    let mut some = false;
+    let mut count = listed;
     for other in 0..members.len() {
         let member = members[other];
         if breaks_with(travel, kind, spots, class, place, spot, other, member) {
-            marks[member as usize] = true;
-            some = true;
+            count = list_one(marks, order, count, member);
         }
     }
-    some
+    count
 }
 
 /// Whether a member but the class is placed and breaks a pair rule with the class at the spot.
@@ -212,22 +218,38 @@ fn breaks_with(
     }
 }
 
-/// Lists the marked classes in order. The answer is how many they are.
-fn list_marked(marks: &[bool], order: &mut [u32]) -> u32
-    requires few { length marks.now ≤ 20000 }
-    requires order { length order.old ≡ length marks.now }
-    ensures list { take result order.new ≡ filter (λ d. slice_index_or marks.now d false) (range_with_len 0 (length marks.now)) }
-    ensures listed { IsListed marks.now order.new result }
-    ensures few { result ≤ length order.new }
+/// Marks the class and puts it at its place among those listed, where it isn't marked yet. The
+/// answer is how many are listed now.
+fn list_one(marks: &mut [bool], order: &mut [u32], count: u32, class: u32) -> u32
+    requires class { class < length marks.old }
+    requires few { length marks.old ≤ 20000 }
+    requires order { length order.old ≡ length marks.old }
+    requires listed { AreListed marks.old order.old count }
+    ensures marks { marks.new ≡ slice_set marks.old class true }
+    ensures listed { AreListed marks.new order.new result }
 {
-    let mut count = 0;
-    for class in 0..marks.len() {
-        if marks[class] {
-            order[count] = class as u32;
-            count += 1;
+    if marks[class as usize] {
+        return count;
+    }
+    let end = count as usize;
+    let at = place_among(&order[..end], class);
+    order.copy_within(at..end, at + 1);
+    order[at] = class;
+    marks[class as usize] = true;
+    count + 1
+}
+
+/// How many classes are listed before the first that is above the class.
+fn place_among(listed: &[u32], class: u32) -> usize
+    ensures place { result ≡ position_or_len (nat_lt class) listed.now }
+    ensures within { result ≤ length listed.now }
+{
+    for at in 0..listed.len() {
+        if class < listed[at] {
+            return at;
         }
     }
-    count as u32
+    listed.len()
 }
 
 /// Takes the marks off the listed classes.
