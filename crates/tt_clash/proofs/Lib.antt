@@ -16,3 +16,4 @@ pub mod ForcedLemmas
 pub mod SetLemmas
 pub mod PlaceLemmas
 pub mod Examples
+pub mod RoomLemmas
