@@ -1,15 +1,15 @@
 -- Clashes while classes come and go.
-use Rattle.std.proofs.Common.{◌≡◌, ◌∙◌, ℕ, ◌+◌, ◌-◌, ◌*◌, ◌<◌, ◌≤◌, ◌^◌, Bool, cond, false, List, [], ◌∷◌, Option, Some, None, length, count_by, take, refl, sym, ap, zero, suc, arith}
+use Rattle.std.proofs.Common.{◌≡◌, ◌∙◌, ℕ, ◌+◌, ◌-◌, ◌*◌, ◌<◌, ◌≤◌, ◌^◌, Bool, cond, List, [], ◌∷◌, Option, Some, None, length, count_by, refl, sym, ap, zero, suc, arith}
 use Rattle.std.specs.Prelude.{slice_set, replicate, ◌==◌}
 use Rattle.std.proofs.lemmas.Bool.Decides.{nat_tests}
 use Rattle.std.specs.Option.{option_map_or}
 use Rattle.std.proofs.lemmas.List.Sums.{sum_by-cons, sum_by-set, count_by-le-length}
-use Rattle.std.proofs.lemmas.List.{length-replicate, length-set, take_all}
+use Rattle.std.proofs.lemmas.List.{length-replicate, length-set}
 use Rattle.tt_bits.specs.declared.times.Spot.{Spot}
 use Rattle.tt_bits.specs.Pairs.{is_one_room}
 use Rattle.tt_bits.specs.Spots.{spot_at, IsEmptyAt, placed}
 use Rattle.tt_bits.proofs.TimeLemmas.{overlaps-sym}
-use Rattle.tt_bits.proofs.SpotLemmas.{set_back, set_empty, emptied, full_within, length-placed, count-placed-set, count_by-placed}
+use Rattle.tt_bits.proofs.SpotLemmas.{set_back, set_empty, emptied, full_within, length-placed, count-placed-set}
 use Rattle.tt_occupancy.specs.Kept.{AreCounted}
 use Rattle.tt_occupancy.specs.Clashes.{clash, clash_pairs, clashing, room_cells, cells_taken}
 
@@ -134,8 +134,7 @@ AreCounted-take h p spare clashes less cells x is cells_are kept full =
       },
     )
 
--- the clashes that are counted class by class are those with the placed classes
-pub clashing_all : (h : List (Option Spot)) (x : Spot) (except : ℕ) → count_by (λ s. option_map_or (clash x) s false) (take (length h) (slice_set h except None)) ≡ clashing h x except
-clashing_all h x except =
-    ap (λ l. count_by (λ s. option_map_or (clash x) s false) l) (take_all (length h) (slice_set h except None) (omega (arith, length-set h except None)))
-    ∙ sym (count_by-placed (clash x) (slice_set h except None))
+-- no more clashes than classes
+pub few_clashing : (h : List (Option Spot)) (x : Spot) (except : ℕ) → clashing h x except ≤ length h
+few_clashing h x except =
+    omega (arith, count_by-le-length (clash x) (placed (slice_set h except None)), length-placed (slice_set h except None), length-set h except None)

@@ -3,6 +3,7 @@ use Rattle.std.specs.Prelude.{◌≡◌, ℕ, ◌+◌, ◌<◌, ◌^◌, List, O
 use Rattle.tt_bits.specs.declared.times.Spot.{Spot}
 use Rattle.tt_occupancy.specs.declared.Occupancy.TheInside.{Inside}
 use Rattle.tt_occupancy.specs.Occupied.{Occupied}
+use Rattle.tt_occupancy.specs.Rooms.{AreListed}
 use Rattle.tt_occupancy.specs.Clashes.{clash_pairs, cells_taken}
 
 -- what callers see
@@ -15,6 +16,8 @@ pub record AreCounted (spots : List (Option Spot)) (spare clashes : ℕ) : Type 
   pub counted : clashes ≡ clash_pairs spots
   pub links : spare + cells_taken spots < 2 ^ 32
 
--- the counts are those of the spots
-abbrev pub IsKept : Inside → Type 0
-IsKept o = AreCounted o.spots.items o.spare o.clashes
+-- the counts and the lists are those of the spots, and each room has a list
+pub record IsKept (o : Inside) : Type 0 where
+  pub counted : AreCounted o.spots.items o.spare o.clashes
+  pub listed : AreListed o.spots.items o.by_room
+  pub rooms : length o.by_room.lists ≡ o.rooms

@@ -1,9 +1,10 @@
 //! Where classes stand: the spots of the placed classes, and the clashes among them.
 #![tactic(auto)]
 
-ghost use Rattle.std.specs.Prelude.{◌≡◌, ℕ, ◌+◌, ◌-◌, ◌<◌, ◌≤◌, Some, None, IsSome, IfOk, IfSome, length, replicate, slice_set, slice_index_or, false, ◌||◌};
+ghost use Rattle.std.specs.Prelude.{◌≡◌, ℕ, ◌+◌, ◌-◌, ◌<◌, ◌≤◌, Some, None, IsSome, IfOk, IfSome, length, replicate, slice_set, slice_index_or, false, ◌||◌, []};
 ghost use Rattle.std.specs.Option.{option_map_or};
 ghost use Rattle.tt_bits.specs.Spots.{spot_at, IsEmptyAt, IsBelow};
+ghost use Rattle.tt_occupancy.specs.Rooms.{classes_in, AreListed};
 ghost use Rattle.tt_occupancy.specs.Clashes.{clash, clashes_at, clash_pairs, clashing, room_cells};
 
 #[cfg(test)]
@@ -12,11 +13,14 @@ mod tests;
 use std::alloc::{AllocError, Global};
 use std::marker::Model;
 use tt_bits::Spot;
+use tt_pool::{Items, Pool};
 
 /// The spots of the placed classes. Classes and rooms are named by their places in the problem.
 #[derive(Drop)]
 pub struct Occupancy {
     spots: Vec<Option<Spot>>,
+    /// The placed classes of each room, in order.
+    by_room: Pool,
     rooms: u32,
     weeks: u8,
     spare: u32,
@@ -54,9 +58,15 @@ impl Occupancy {
         ensures weeks { IfOk result (λ o. o.weeks ≡ weeks) }
         ensures spare { IfOk result (λ o. o.spare ≡ links) }
     {
+        if classes == u32::MAX {
+            // More than a pool finds room for.
+            return Err(AllocError);
+        }
         let spots = vec![in alloc; None; classes as usize]?;
+        let by_room = Pool::new(alloc, rooms, classes)?;
         Ok(Occupancy {
             spots,
+            by_room,
             rooms,
             weeks,
             spare: links,
@@ -75,10 +85,10 @@ impl Occupancy {
         ensures weeks { self.new.weeks ≡ self.old.weeks }
         ensures spare { self.new.spare ≡ self.old.spare - room_cells spot }
     {
-        let more = clashing(self.spots.as_slice(), &spot, class);
+        let more = self.clashes_with(spot, class);
         self.clashes += more;
         self.spare -= room_cells(&spot);
-        self.spots[class as usize] = Some(spot);
+        enter(self.spots.as_mut_slice(), &mut self.by_room, class, spot);
     }
 
     /// Takes its spot from a class that is placed, and answers it.
@@ -93,10 +103,10 @@ impl Occupancy {
         let Some(spot) = self.spots[class as usize] else {
             unreachable!()
         };
-        let less = clashing(self.spots.as_slice(), &spot, class);
+        let less = self.clashes_with(spot, class);
         self.clashes -= less;
         self.spare += room_cells(&spot);
-        self.spots[class as usize] = None;
+        leave(self.spots.as_mut_slice(), &mut self.by_room, class, spot);
         spot
     }
 
@@ -118,7 +128,17 @@ impl Occupancy {
     pub fn clashes_with(&self, spot: Spot, except: u32) -> u64
         ensures { result ≡ clashing self.now.spots spot except }
     {
-        clashing(self.spots.as_slice(), &spot, except)
+        let Some(classes) = self.classes_in(spot.room) else {
+            return 0;
+        };
+        let spots = self.spots.as_slice();
+        let mut count = 0;
+        for class in classes {
+            if clashes_at(spots, &spot, except, class) {
+                count += 1;
+            }
+        }
+        count
     }
 
     /// Sets the marks of the placed classes but one that overlap the spot in its room.
@@ -127,7 +147,27 @@ impl Occupancy {
         ensures { (class : ℕ) → class < length marks.old → slice_index_or marks.new class false
             ≡ (slice_index_or marks.old class false || clashes_at self.now.spots spot except class) }
     {
-        mark(self.spots.as_slice(), &spot, except, marks)
+        let Some(classes) = self.classes_in(spot.room) else {
+            return;
+        };
+        let spots = self.spots.as_slice();
+        for class in classes {
+            if clashes_at(spots, &spot, except, class) {
+                marks[class as usize] = true;
+            }
+        }
+    }
+
+    /// The placed classes that have a room, in order. `None` stands for no classes.
+    pub fn classes_in(&self, room: Option<u32>) -> Option<Items>
+        ensures { option_map_or (λ classes. classes) result [] ≡ classes_in self.now.spots room }
+    {
+        let room = room?;
+        if room < self.rooms {
+            Some(self.by_room.items(room))
+        } else {
+            None
+        }
     }
 }
 
@@ -143,11 +183,11 @@ fn room_cells(spot: &Spot) -> u32
 }
 
 /// Whether a class that is placed, and isn't `except`, overlaps the spot in its room.
-fn clashes_at(spots: &[Option<Spot>], spot: &Spot, except: u32, class: usize) -> bool
+fn clashes_at(spots: &[Option<Spot>], spot: &Spot, except: u32, class: u32) -> bool
     requires { class < length spots.now }
     ensures { result ≡ clashes_at spots.now spot.now except class }
 {
-    class != except as usize && is_clash(&spots[class], spot)
+    class != except && is_clash(&spots[class as usize], spot)
 }
 
 /// Whether a class is placed and overlaps the spot in its room.
@@ -161,29 +201,33 @@ fn is_clash(other: &Option<Spot>, spot: &Spot) -> bool
     }
 }
 
-/// How many placed classes but one overlap the spot in its room.
-fn clashing(spots: &[Option<Spot>], spot: &Spot, except: u32) -> u64
-    ensures count { result ≡ clashing spots.now spot.now except }
-    ensures few { result ≤ length spots.now }
+/// Gives a class that has no spot this one, and puts it into the list of its room.
+fn enter(spots: &mut [Option<Spot>], by_room: &mut Pool, class: u32, spot: Spot)
+    requires listed { AreListed spots.old by_room.old }
+    requires place { IsEmptyAt spots.old class }
+    requires room { IfSome spot.room (λ room. room < length by_room.old.lists) }
+    ensures spots { spots.new ≡ slice_set spots.old class (Some spot) }
+    ensures listed { AreListed spots.new by_room.new }
+    ensures rooms { length by_room.new.lists ≡ length by_room.old.lists }
 {
-    let mut count = 0;
-    for class in 0..spots.len() {
-        if clashes_at(spots, spot, except, class) {
-            count += 1;
-        }
+    spots[class as usize] = Some(spot);
+    match spot.room {
+        None => {}
+        Some(room) => by_room.insert_in_order(room, class),
     }
-    count
 }
 
-/// Sets the marks of the placed classes but one that overlap the spot in its room.
-fn mark(spots: &[Option<Spot>], spot: &Spot, except: u32, marks: &mut [bool])
-    requires { length marks.old ≡ length spots.now }
-    ensures { (class : ℕ) → class < length marks.old → slice_index_or marks.new class false
-        ≡ (slice_index_or marks.old class false || clashes_at spots.now spot.now except class) }
+/// Takes its spot from a class, and the class out of the list of its room.
+fn leave(spots: &mut [Option<Spot>], by_room: &mut Pool, class: u32, spot: Spot)
+    requires listed { AreListed spots.old by_room.old }
+    requires place { spot_at spots.old class ≡ Some spot }
+    ensures spots { spots.new ≡ slice_set spots.old class None }
+    ensures listed { AreListed spots.new by_room.new }
+    ensures rooms { length by_room.new.lists ≡ length by_room.old.lists }
 {
-    for class in 0..spots.len() {
-        if clashes_at(spots, spot, except, class) {
-            marks[class] = true;
-        }
+    spots[class as usize] = None;
+    match spot.room {
+        None => {}
+        Some(room) => by_room.remove_item(room, class),
     }
 }

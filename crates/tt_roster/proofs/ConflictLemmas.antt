@@ -10,7 +10,8 @@ use Rattle.tt_bits.specs.declared.times.Spot.{Spot}
 use Rattle.tt_travel.specs.Table.{Table, IsRoomOf, IsTravel}
 use Rattle.tt_bits.specs.Spots.{spot_at, IsEmptyAt}
 use Rattle.tt_bits.proofs.SpotLemmas.{set-set, set_back, set_empty, emptied}
-use Rattle.tt_roster.specs.Lists.{has_class, with_class, without_class, Ascends}
+use Rattle.tt_pool.proofs.PlaceLemmas.{sum-places}
+use Rattle.tt_roster.specs.Lists.{has_class, with_class, without_class, list_of, students_of, Ascends}
 use Rattle.tt_roster.specs.Conflicts.{are_in_conflict, conflicts_in, student_conflicts, conflicts_by, conflicts_with, class_conflicts}
 use Rattle.tt_roster.proofs.TimeLemmas.{in_conflict-sym, in_conflict-none}
 use Rattle.tt_roster.proofs.ListLemmas.{has-below, Ascends-with, has-with, with-without, Ascends-without, has-without}
@@ -217,6 +218,16 @@ class_conflicts-most t h class x seats =
   where
     one : (list : List ℕ) → cond (has_class class list) (conflicts_with t h class x list) 0 ≤ length list
     one list = cond_both (has_class class list) (conflicts_with t h class x list) 0 (λ n. n ≤ length list) (λ has. count_by-le-length (λ b. are_in_conflict t (Some x) (spot_at (slice_set h class None) b)) list) (λ other. omega arith)
+
+-- what a student has in conflict with a class at a spot
+abbrev pub conflicts_of_student : Table → List (Option Spot) → List (List ℕ) → ℕ → Spot → ℕ → ℕ
+conflicts_of_student t h seats class x student = conflicts_with t h class x (list_of seats student)
+
+-- the students of the class alone have what all have together
+pub class_conflicts-students : (t : Table) (h : List (Option Spot)) (seats : List (List ℕ)) (class : ℕ) (x : Spot)
+    → sum_by (conflicts_of_student t h seats class x) (students_of seats class) ≡ class_conflicts t h seats class x
+class_conflicts-students t h seats class x =
+    sum-places (has_class class) (conflicts_of_student t h seats class x) (conflicts_with t h class x) 0 seats [] (λ i lt. let start : 0 + i ≡ i = omega arith in rw start refl)
 
 -- the student conflicts with a class emptied, and what it has at its spot
 pub student_conflicts-now : (t : Table) (h : List (Option Spot)) (class after : ℕ) (seats : List (List ℕ)) (o : Option Spot) → spot_at h class ≡ o → IsTravel t → ((c : ℕ) → IfSome (spot_at h c) (λ y. IsRoomOf t y.room))

@@ -21,6 +21,7 @@ use Rattle.tt_roster.specs.Kept.{IsRosterOf}
 use Rattle.tt_roster.specs.Lists.{has_class, with_class, without_class, list_of, Ascends}
 use Rattle.tt_roster.specs.Conflicts.{conflicts_in, student_conflicts, conflicts_by, conflicts_with, class_conflicts}
 use Rattle.tt_roster.proofs.ListLemmas.{Ascends-with, Ascends-without, length-with, length-without}
+use Rattle.tt_roster.proofs.StudentLemmas.{no_list, lengths-seat}
 use Rattle.tt_roster.proofs.ConflictLemmas.{conflicts-seat, conflicts-leave, student_conflicts-set, student_conflicts-most, rooms-set, rooms-emptied}
 
 -- lists that are no longer than their numbers are together no longer than those
@@ -63,6 +64,13 @@ room_set seats most student list within room few s = elim (cases_eq s student) [
   | inl same ↦ rw (same, get_or-set_same seats student list [] within) few
   | inr apart ↦ rw (get_or-set_other seats student s list [] apart) (room s)
 ]
+
+-- where a student has room for a class more, one more seat is left
+pub room_left : (seats : List (List ℕ)) (most : List ℕ) (student class : ℕ) → student < length seats → ((s : ℕ) → length (list_of seats s) ≤ slice_index most s) → length (list_of seats student) < slice_index most student → sum_by length seats + 1 ≤ sum most
+room_left seats most student class lt room spare =
+    let list = list_of seats student in
+    let more = room_set seats most student (with_class class list) lt room (omega (arith, length-with class list, spare)) in
+    omega (arith, within_sum (slice_set seats student (with_class class list)) most more, lengths-seat seats student class lt)
 
 -- what fits, where the list of a student becomes another
 pub IsRosterOf-list : (p : Parts) (r : Rostered) (student : ℕ) (list : List ℕ) (conflicts : ℕ) → IsRosterOf p r → student < length p.students → Ascends 0 (length p.classes) list → length list ≤ slice_index r.most student
@@ -156,26 +164,26 @@ pub seated : (p : Parts) (rows : List ListedClasses) (spots : List (Option Spot)
     → has_class class (list_of (map classes_in rows) student) ≡ false → length (list_of (map classes_in rows) student) < slice_index (map most_in rows) student
     → row ≡ get_or rows student row → new.classes ≡ with_class class row.classes → new.most ≡ row.most
     → more ≡ option_map_or (λ x. conflicts_with p.travel spots class x row.classes) (spot_at spots class) 0
-    → (conflicts + more < 2 ^ 64) × (map classes_in (slice_set rows student new) ≡ slice_set (map classes_in rows) student (with_class class (list_of (map classes_in rows) student))) × IsRosterOf p (seen (slice_set rows student new) spots (conflicts + more))
+    → (conflicts + more < 2 ^ 64) × IsRosterOf p (seen (slice_set rows student new) spots (conflicts + more))
 seated p rows spots conflicts student class more row new valid fits within class_within free spare at_row classes most is =
     let inside : student < length rows = omega (arith, fits.students, length-map rows classes_in) in
     let there = row_list_is rows student row inside at_row in
     let after = IsRosterOf-seat p (seen rows spots conflicts) student class more valid fits within class_within free spare (rw there is) in
-    let seats = seats_set rows student new (with_class class (list_of (map classes_in rows) student)) (classes ∙ ap (with_class class) (sym there)) in
-    (after.0, seats, rw (seats, most_same rows student row new inside at_row most) after.1)
+    let seats = seats_set (with_class class) rows student row new inside at_row classes in
+    (after.0, rw (seats, most_same rows student row new inside at_row most) after.1)
 
 -- the same, where a class goes from it
 pub left : (p : Parts) (rows : List ListedClasses) (spots : List (Option Spot)) (conflicts student class less : ℕ) (row new : ListedClasses) → IsValid p → IsRosterOf p (seen rows spots conflicts) → student < length p.students → class < length p.classes
     → has_class class (list_of (map classes_in rows) student) ≡ true
     → row ≡ get_or rows student row → new.classes ≡ without_class class row.classes → new.most ≡ row.most
     → less ≡ option_map_or (λ x. conflicts_with p.travel spots class x row.classes) (spot_at spots class) 0
-    → (less ≤ conflicts) × (map classes_in (slice_set rows student new) ≡ slice_set (map classes_in rows) student (without_class class (list_of (map classes_in rows) student))) × IsRosterOf p (seen (slice_set rows student new) spots (conflicts - less))
+    → (less ≤ conflicts) × IsRosterOf p (seen (slice_set rows student new) spots (conflicts - less))
 left p rows spots conflicts student class less row new valid fits within class_within has at_row classes most is =
     let inside : student < length rows = omega (arith, fits.students, length-map rows classes_in) in
     let there = row_list_is rows student row inside at_row in
     let after = IsRosterOf-leave p (seen rows spots conflicts) student class less valid fits within class_within has (rw there is) in
-    let seats = seats_set rows student new (without_class class (list_of (map classes_in rows) student)) (classes ∙ ap (without_class class) (sym there)) in
-    (after.0, seats, rw (seats, most_same rows student row new inside at_row most) after.1)
+    let seats = seats_set (without_class class) rows student row new inside at_row classes in
+    (after.0, rw (seats, most_same rows student row new inside at_row most) after.1)
 
 room_within : (p : Parts) (o : Option ℕ) → IsValid p → IsRoomOf p.travel o → IfSome o (λ room. room < length p.rooms)
 room_within p None valid within = tt
@@ -189,11 +197,6 @@ all_empty : (n : ℕ) (c : ℕ) → spot_at (replicate n None) c ≡ None
 all_empty zero c = refl
 all_empty (suc n) zero = refl
 all_empty (suc n) (suc c) = all_empty n c
-
-no_list : (n s : ℕ) → list_of (replicate n []) s ≡ []
-no_list zero s = refl
-no_list (suc n) zero = refl
-no_list (suc n) (suc s) = no_list n s
 
 no_conflicts : (t : Table) (spots : List (Option Spot)) (n : ℕ) → student_conflicts t spots (replicate n []) ≡ 0
 no_conflicts t spots zero = refl

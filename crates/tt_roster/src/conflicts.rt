@@ -1,11 +1,12 @@
-ghost use Rattle.std.specs.Prelude.{◌≡◌, ℕ, ◌<◌, ◌≤◌, length, map, sum_by, All, slice_set, None, Some, IfSome, cond};
+ghost use Rattle.std.specs.Prelude.{◌≡◌, ℕ, ◌<◌, ◌≤◌, length, map, sum_by, All, slice_set, None, Some, IfSome};
 ghost use Rattle.std.specs.Option.{option_map_or};
 ghost use Rattle.tt_travel.specs.Table.{IsRoomOf};
 ghost use Rattle.tt_bits.specs.Spots.{spot_at};
-ghost use Rattle.tt_roster.specs.Lists.{Ascends, has_class};
+ghost use Rattle.tt_roster.specs.Lists.{Ascends, students_of};
 ghost use Rattle.tt_roster.specs.Conflicts.{conflict, are_in_conflict, conflicts_with, class_conflicts};
 ghost use Rattle.tt_roster.specs.Seen.{classes_in};
 
+use crate::items::Items;
 use crate::rows::ClassRow;
 use tt_bits::Spot;
 use tt_travel::Travel;
@@ -78,46 +79,32 @@ pub fn conflicts_now(travel: &Travel, spots: &[Option<Spot>], class: u32, list: 
     }
 }
 
-/// The conflicting pairs with a class at this spot in a row, none where the row doesn't have it.
-fn conflicts_in_row(
-    travel: &Travel,
-    spots: &[Option<Spot>],
-    class: u32,
-    spot: &Spot,
-    row: &ClassRow,
-) -> u64
-    requires rooms { (c : ℕ) → IfSome (spot_at spots.now c) (λ x. IsRoomOf travel.now x.room) }
-    requires room { IsRoomOf travel.now spot.now.room }
-    requires list { Ascends 0 (length spots.now) row.now.classes }
-    ensures count { result ≡ cond (has_class class row.now.classes) (conflicts_with travel.now spots.now class spot.now row.now.classes) 0 }
-    ensures few { result ≤ length row.now.classes }
-{
-    if row.has(class) {
-        conflicts_with(travel, spots, class, spot, row.as_slice())
-    } else {
-        0
-    }
-}
-
 /// The conflicting pairs with a class at this spot, over the students who have it.
-#[tactic(auto, using(crate::proofs::RowLemmas::row_list, crate::proofs::RowLemmas::pairs_more, crate::proofs::RowLemmas::lengths_more))]
 pub fn class_conflicts(
     travel: &Travel,
     spots: &[Option<Spot>],
     class: u32,
     spot: &Spot,
     rows: &[ClassRow],
+    students: Items<'_>,
 ) -> u64
     requires rooms { (c : ℕ) → IfSome (spot_at spots.now c) (λ x. IsRoomOf travel.now x.room) }
     requires room { IsRoomOf travel.now spot.now.room }
     requires lists { All (Ascends 0 (length spots.now)) (map classes_in rows.now) }
     requires few { sum_by length (map classes_in rows.now) ≤ 4000000 }
+    requires students { students ≡ students_of (map classes_in rows.now) class }
     ensures pairs { result ≡ class_conflicts travel.now spots.now (map classes_in rows.now) class spot.now }
     ensures few { result ≤ 4000000 }
 {
     let mut count = 0;
-    for row in rows {
-        count += conflicts_in_row(travel, spots, class, spot, row);
+    for student in students {
+        count += conflicts_with(
+            travel,
+            spots,
+            class,
+            spot,
+            rows[student as usize].as_slice(),
+        );
     }
     count
 }

@@ -12,16 +12,17 @@ use crate::rows::ClassRow;
 use std::alloc::{AllocError, Global};
 use std::marker::Model;
 use tt_bits::Spot;
-use tt_problem::Problem;
+use tt_pool::Pool;
+use tt_problem::{Problem, sums};
 
 /// The classes of each student, and the conflicts among those that are placed. Each call is handed
 /// the problem that the roster is of.
 #[derive(Drop)]
 pub struct Roster {
     rows: Vec<ClassRow>,
+    /// The students of each class, in order.
+    attendees: Pool,
     spots: Vec<Option<Spot>>,
-    /// How many students have each class.
-    counts: Vec<u32>,
     conflicts: u64,
 }
 
@@ -30,28 +31,31 @@ impl Model for Roster {
 
     ghost Value = { Rostered };
 
-    ghost use Rattle.tt_roster.specs.Kept.{rostered, IsCountedUp};
+    ghost use Rattle.tt_roster.specs.Kept.{rostered, IsIndexed};
 
     ghost view = { rostered };
 
-    ghost invariant = { IsCountedUp };
+    ghost invariant = { IsIndexed };
 }
 
 impl Roster {
     /// Nobody has a class, and no class is placed.
+    #[tactic(auto, using(tt_problem::proofs::SpanLemmas::few_subparts))]
     pub fn new(alloc: Global, problem: &Problem) -> Result<Roster, AllocError>
         ensures seats { IfOk result (λ r. r.seats ≡ replicate (length problem.now.students) []) }
         ensures spots { IfOk result (λ r. r.spots ≡ replicate (length problem.now.classes) None) }
         ensures fits { IfOk result (λ r. IsRosterOf problem.now r) }
     {
         problem.validity();
+        let classes = problem.class_count();
+        let seats = sums::seats_of(problem.parts()) as u32;
         let rows = new_rows(alloc, problem)?;
-        let spots = vec![in alloc; None; problem.class_count() as usize]?;
-        let counts = vec![in alloc; 0; problem.class_count() as usize]?;
+        let attendees = Pool::new(alloc, classes, seats)?;
+        let spots = vec![in alloc; None; classes as usize]?;
         Ok(Roster {
             rows,
+            attendees,
             spots,
-            counts,
             conflicts: 0,
         })
     }
@@ -77,8 +81,8 @@ impl Roster {
             row.as_slice(),
         );
         row.insert(class);
+        self.attendees.insert_in_order(class, student);
         self.conflicts += more;
-        self.counts[class as usize] += 1;
     }
 
     /// Takes a class from a student.
@@ -101,8 +105,8 @@ impl Roster {
             row.as_slice(),
         );
         row.remove(class);
+        self.attendees.remove_item(class, student);
         self.conflicts -= less;
-        self.counts[class as usize] -= 1;
     }
 
     /// Gives a class that isn't placed its spot.
@@ -143,7 +147,11 @@ impl Roster {
     pub fn count(&self, class: u32) -> u32
         ensures { result ≡ count_by (has_class class) self.now.seats }
     {
-        self.counts.get(class as usize).copied().unwrap_or(0)
+        if (class as usize) < self.spots.len() {
+            self.attendees.len(class)
+        } else {
+            0
+        }
     }
 
     /// The classes of a student, in the problem's order.
@@ -158,7 +166,11 @@ impl Roster {
     pub fn students(&self, class: u32) -> Items<'_>
         ensures { result ≡ students_of self.now.seats class }
     {
-        Items::of_students(class, self.rows.as_slice())
+        if (class as usize) < self.spots.len() {
+            Items::of_students(self.attendees.items(class))
+        } else {
+            Items::of_classes(&[])
+        }
     }
 
     /// How many pairs of placed classes conflict, over the lists of all students.
@@ -183,6 +195,7 @@ impl Roster {
             class,
             &spot,
             self.rows.as_slice(),
+            self.students(class),
         )
     }
 }
