@@ -1,12 +1,11 @@
 -- What holds once the conflict set is taken out and c has the spot x.
-use Rattle.std.proofs.Common.{◌≡◌, ◌⊎◌, ℕ, true, false, ◌||◌, List, [], ◌∷◌, Option, Some, None, length, take, drop, map, refl, ap, sym, ◌∙◌, arith, inl, inr, nat_eq, Bool, fold, slice_set, get_or, cond, ◌<◌, get_or-set_same, get_or-set_other}
+use Rattle.std.proofs.Common.{◌≡◌, ◌⊎◌, ℕ, true, false, ◌||◌, List, [], ◌∷◌, Option, Some, None, length, take, drop, map, refl, ap, sym, ◌∙◌, arith, inl, inr, nat_eq, Bool, fold, slice_set, get_or, cond, get_or-set_same, get_or-set_other}
 use Rattle.std.specs.Prelude.{◌==◌, All, IfSome, slice_get}
 use Rattle.std.specs.List.{list_any}
 use Rattle.std.specs.Option.{option_map_or}
 use Rattle.std.proofs.lemmas.List.{take-append-drop, length-set, get_or_past}
 use Rattle.std.proofs.lemmas.List.Folds.{list_any-append, list_any_at}
 use Rattle.std.proofs.lemmas.Bool.{cases_Bool, cases_lt, or_left, or_parts, and_from, both_ways}
-use Rattle.std.proofs.lemmas.Bool.{eq-eqb}
 use Rattle.std.proofs.lemmas.Bool.Decides.{eqb_tells}
 use Rattle.tt_bits.specs.declared.times.Spot.{Spot}
 use Rattle.tt_travel.specs.Table.{Table}
@@ -131,20 +130,6 @@ taken_out-at {A = A} (e ∷ set) plan d =
     both : (b : Bool) → cond {A = Option A} b None None ≡ None
     both true = refl
     both false = refl
-
--- the plan after c is forced to x, class by class
-pub forced-at : (spots : List (Option Spot)) (set : List ℕ) (c : ℕ) (x : Spot) (d : ℕ) → c < length spots → spot_at (slice_set (taken_out set spots) c (Some x)) d ≡ spot_with spots c x set d
-forced-at spots set c x d within =
-    elim (eqb_tells d c) [
-      | inl same ↦
-          let is : d ≡ c = same.1 in
-          let equal : nat_eq c c ≡ true = eq-eqb c c refl in
-          let long : c < length (taken_out set spots) = omega (arith, length-taken_out set spots) in
-          rw (is, equal) (get_or-set_same (taken_out set spots) c (Some x) None long)
-      | inr other ↦
-          let apart : nat_eq d c ≡ false = other.0 in
-          get_or-set_other (taken_out set spots) c d (Some x) None other.1 ∙ taken_out-at set spots d ∙ rw apart refl
-    ]
 
 -- a group type whose amount stays at 0
 group-at_0 : (kind : DistKind) → stays_at_0 kind ≡ true → is_group kind ≡ true

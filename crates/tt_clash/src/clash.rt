@@ -131,11 +131,14 @@ fn list_room(
     ensures marks { (d : ℕ) → slice_index_or marks.new d false ≡ clashes_in_room occupancy.now.spots except spot d }
     ensures listed { AreListed marks.new order.new result }
 {
+    let Some(classes) = occupancy.classes_in(spot.room) else {
+        return 0;
+    };
     let spots = occupancy.spots();
     let mut count = 0;
-    for other in 0..spots.len() {
-        if clashes_in_room(spots, except, spot, other as u32) {
-            count = list_one(marks, order, count, other as u32);
+    for other in classes {
+        if clashes_in_room(spots, except, spot, other) {
+            count = list_one(marks, order, count, other);
         }
     }
     count
