@@ -24,8 +24,7 @@ marked-yes test marks m xs rest split passes within before d =
       | inl same ↦ rw (same.1, get_or-set_same marks m true false within) passes
       | inr other ↦
           let apart : nat_eq d m ≡ false = other.0 in
-          let was = before d in
-          rw (get_or-set_other marks m d true false other.1) (rw (split, apart) at was)
+          rw (get_or-set_other marks m d true false other.1) (rw (split, apart) at (before d))
     ]
 
 pub marked-no : (test : ℕ → Bool) (marks : List Bool) (m : ℕ) (xs rest : List ℕ) → xs ≡ m ∷ rest → test m ≡ false → AreMarked test marks xs → AreMarked test marks rest
