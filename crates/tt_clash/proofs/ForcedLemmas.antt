@@ -1,13 +1,11 @@
 -- What holds once the conflict set is taken out and c has the spot x.
-use Rattle.std.proofs.Common.{◌≡◌, ◌⊎◌, ℕ, true, false, ◌||◌, List, [], ◌∷◌, Option, Some, None, length, take, drop, map, refl, ap, sym, ◌∙◌, arith, inl, inr, nat_eq, Bool, fold, slice_set, get_or, cond, ◌<◌, get_or-set_same, get_or-set_other}
+use Rattle.std.proofs.Common.{◌≡◌, ◌⊎◌, ℕ, true, false, ◌||◌, List, [], ◌∷◌, Option, Some, None, length, take, drop, map, refl, ap, sym, ◌∙◌, arith, inl, inr, nat_eq, Bool, get_or}
 use Rattle.std.specs.Prelude.{◌==◌, All, IfSome, slice_get}
 use Rattle.std.specs.List.{list_any}
 use Rattle.std.specs.Option.{option_map_or}
-use Rattle.std.proofs.lemmas.List.{take-append-drop, length-set, get_or_past}
+use Rattle.std.proofs.lemmas.List.{take-append-drop}
 use Rattle.std.proofs.lemmas.List.Folds.{list_any-append, list_any_at}
 use Rattle.std.proofs.lemmas.Bool.{cases_Bool, cases_lt, or_left, or_parts, and_from, both_ways}
-use Rattle.std.proofs.lemmas.Bool.{eq-eqb}
-use Rattle.std.proofs.lemmas.Bool.Decides.{eqb_tells}
 use Rattle.tt_bits.specs.declared.times.Spot.{Spot}
 use Rattle.tt_travel.specs.Table.{Table}
 use Rattle.tt_bits.specs.Spots.{spot_at}
@@ -95,56 +93,6 @@ pub freed-left : (kind : DistKind) (weeks : ℕ) (t : Table) (members : List ℕ
     → amount_with (kind_amount kind weeks t) members spots c x set ≡ 0
 freed-left kind weeks t members spots c x set stays freed =
     part-at_0 kind weeks t _ _ stays (part-map spots c x (take freed.front set) set members (λ d before. in-front freed.front set d before)) freed.free
-
--- a plan with some classes taken out
-abbrev pub taken_out : {A : Type 0} → List ℕ → List (Option A) → List (Option A)
-taken_out set plan = fold (λ h d. slice_set h d None) plan set
-
-pub length-taken_out : {A : Type 0} (set : List ℕ) (plan : List (Option A)) → length (taken_out set plan) ≡ length plan
-length-taken_out [] plan = refl
-length-taken_out (e ∷ set) plan = length-taken_out set (slice_set plan e None) ∙ length-set plan e None
-
-none-at : {A : Type 0} (plan : List (Option A)) (d : ℕ) → get_or (slice_set plan d None) d None ≡ None
-none-at plan d =
-    elim (cases_lt d (length plan)) [
-      | inl within ↦ get_or-set_same plan d None None within
-      | inr past ↦ get_or_past (slice_set plan d None) d None (omega (arith, length-set plan d None))
-    ]
-
--- a class that is taken out has nothing, and another what it had
-pub taken_out-at : {A : Type 0} (set : List ℕ) (plan : List (Option A)) (d : ℕ) → get_or (taken_out set plan) d None ≡ cond (is_in set d) None (get_or plan d None)
-taken_out-at [] plan d = refl
-taken_out-at {A = A} (e ∷ set) plan d =
-    let rest = taken_out-at set (slice_set plan e None) d in
-    elim (eqb_tells d e) [
-      | inl same ↦
-          let is : d ≡ e = same.1 in
-          let equal : nat_eq d e ≡ true = same.0 in
-          let none : get_or (slice_set plan e None) d None ≡ None = rw (← is) (none-at plan d) in
-          rest ∙ rw (none, equal) (both (is_in set d))
-      | inr other ↦
-          let apart : nat_eq d e ≡ false = other.0 in
-          let kept : get_or (slice_set plan e None) d None ≡ get_or plan d None = get_or-set_other plan e d None None other.1 in
-          rest ∙ rw (kept, apart) refl
-    ]
-  where
-    both : (b : Bool) → cond {A = Option A} b None None ≡ None
-    both true = refl
-    both false = refl
-
--- the plan after c is forced to x, class by class
-pub forced-at : (spots : List (Option Spot)) (set : List ℕ) (c : ℕ) (x : Spot) (d : ℕ) → c < length spots → spot_at (slice_set (taken_out set spots) c (Some x)) d ≡ spot_with spots c x set d
-forced-at spots set c x d within =
-    elim (eqb_tells d c) [
-      | inl same ↦
-          let is : d ≡ c = same.1 in
-          let equal : nat_eq c c ≡ true = eq-eqb c c refl in
-          let long : c < length (taken_out set spots) = omega (arith, length-taken_out set spots) in
-          rw (is, equal) (get_or-set_same (taken_out set spots) c (Some x) None long)
-      | inr other ↦
-          let apart : nat_eq d c ≡ false = other.0 in
-          get_or-set_other (taken_out set spots) c d (Some x) None other.1 ∙ taken_out-at set spots d ∙ rw apart refl
-    ]
 
 -- a group type whose amount stays at 0
 group-at_0 : (kind : DistKind) → stays_at_0 kind ≡ true → is_group kind ≡ true

@@ -1,5 +1,5 @@
 -- Cells that members give back to a group and take from it again.
-use Rattle.std.proofs.Common.{◌≡◌, ℕ, ◌+◌, ◌-◌, ◌<◌, ◌≤◌, List, Option, Some, None, length, refl, ap, sym, ◌∙◌, arith}
+use Rattle.std.proofs.Common.{◌≡◌, ℕ, ◌+◌, ◌-◌, ◌<◌, ◌≤◌, List, Option, Some, None, length, refl, ap, ◌∙◌, arith}
 use Rattle.std.specs.Prelude.{slice_set}
 use Rattle.std.specs.Option.{ForSome, option_map}
 use Rattle.std.proofs.lemmas.List.Sums.{sum_by-set}
@@ -53,28 +53,6 @@ pub lent-put : (before h h2 : List (Option Spot)) (spare_before spare spare2 : O
     → IsEmptyAt h p → ForSome spare (λ cells. cell_count y ≤ cells) → h2 ≡ slice_set h p (Some y) → spare2 ≡ option_map (λ cells. cells - cell_count y) spare → IsLent before spare_before h2 spare2
 lent-put before h h2 spare_before spare spare2 p y lent empty room held less = record { cells = rw (held, less) (in_all-put h p y spare empty room) ∙ lent.cells }
 
-pub lent-more : {a b c : List (Option Spot)} {s t u : Option ℕ} → IsLent a s b t → IsLent b t c u → IsLent a s c u
-lent-more p q = record { cells = q.cells ∙ p.cells }
-
--- where the group holds again what it held, it has as many cells spare
-spare_is : (h : List (Option Spot)) (s t : Option ℕ) → cells_in_all h s ≡ cells_in_all h t → s ≡ t
-spare_is h None None e = refl
-spare_is h None (Some n) e = absurd (cc e)
-spare_is h (Some m) None e = absurd (cc e)
-spare_is h (Some m) (Some n) e = let sums : m + cells_held h ≡ n + cells_held h = cc e in ap Some (omega arith)
-
-pub spare-same : (before after : List (Option Spot)) (s t : Option ℕ) → IsLent before s after t → after ≡ before → t ≡ s
-spare-same before after s t lent same = spare_is before t s (ap (λ h. cells_in_all h t) (sym same) ∙ lent.cells)
-
--- what was lent can come back
-pub room-lent : (before h : List (Option Spot)) (s t : Option ℕ) → IsLent before s h t → HasRoomFor before h t
-room-lent before h s None lent = λ x is. absurd (cc is)
-room-lent before h None (Some n) lent = let e : cells_in_all h (Some n) ≡ None = lent.cells in absurd (cc e)
-room-lent before h (Some m) (Some n) lent =
-    let e : cells_in_all h (Some n) ≡ cells_in_all before (Some m) = lent.cells in
-    let sums : n + cells_held h ≡ m + cells_held before = cc e in
-    λ x is. (let same : n ≡ x = cc is in omega arith)
-
 room-kept_in : (before a b : List (Option Spot)) (s t : Option ℕ) → cells_in_all b t ≡ cells_in_all a s → HasRoomFor before a s → HasRoomFor before b t
 room-kept_in before a b s None e room = λ x is. absurd (cc is)
 room-kept_in before a b None (Some n) e room = absurd (cc e)
@@ -83,7 +61,7 @@ room-kept_in before a b (Some m) (Some n) e room =
     let le : cells_held before ≤ m + cells_held a = room m refl in
     λ x is. (let same : n ≡ x = cc is in omega arith)
 
--- and so it stays while members come and go
+-- room for what was lent stays while members come and go
 pub room-kept : (before a b : List (Option Spot)) (s t : Option ℕ) → IsLent a s b t → HasRoomFor before a s → HasRoomFor before b t
 room-kept before a b s t lent room = room-kept_in before a b s t lent.cells room
 

@@ -1,8 +1,7 @@
 -- Marked classes listed, and marks taken off.
-use Rattle.std.proofs.Common.{◌≡◌, ◌≢◌, ℕ, ◌+◌, ◌<◌, ◌≤◌, zero, suc, Bool, true, false, List, [], ◌∷◌, length, get_or, take, drop, filter, nat_eq, refl, ap, sym, ◌∙◌, arith, inl, inr, All, get_or-set_same, get_or-set_other}
-use Rattle.std.specs.Prelude.{slice_set}
+use Rattle.std.proofs.Common.{◌≡◌, ◌≢◌, ℕ, ◌+◌, ◌<◌, ◌≤◌, zero, suc, Bool, true, false, List, [], ◌∷◌, length, get_or, take, drop, filter, nat_eq, refl, ap, sym, ◌∙◌, arith, inl, inr, All}
 use Rattle.std.specs.List.{range_with_len, AllByRecursion}
-use Rattle.std.proofs.lemmas.List.{drop_more, drop_all, length-take, get_or_past, get_or_default, same_lists}
+use Rattle.std.proofs.lemmas.List.{drop_all, length-take, get_or_past, get_or_default, same_lists}
 use Rattle.std.proofs.lemmas.List.Elements.{recursion_from_All}
 use Rattle.std.proofs.lemmas.List.Folds.{list_any_at}
 use Rattle.std.proofs.lemmas.Bool.{cases_Bool, cases_lt, eq-eqb, ne_eqb, false≢true}
@@ -39,23 +38,28 @@ in-range p a (suc n) d low high =
           elim (cases_Bool (p a)) [ inl passes ↦ rw (passes, apart) rest | inr fails ↦ rw fails rest ]
     ]
 
-in-above : (p : ℕ → Bool) (a n d : ℕ) → a + n ≤ d → is_in (filter p (range_with_len a n)) d ≡ false
-in-above p a zero d high = refl
-in-above p a (suc n) d high =
-    let rest : is_in (filter p (range_with_len (a + 1) n)) d ≡ false = in-above p (a + 1) n d (omega arith) in
+-- a place is among those where a test passes, where it passes there
+places-below : {A : Type 0} (f : A → Bool) (a d : ℕ) (xs : List A) → d < a → is_in (places_where f a xs) d ≡ false
+places-below f a d [] h = refl
+places-below f a d (x ∷ xs) h =
+    let rest : is_in (places_where f (a + 1) xs) d ≡ false = places-below f (a + 1) d xs (omega arith) in
     let apart : nat_eq d a ≡ false = ne_eqb d a (λ e. absurd (omega arith)) in
-    elim (cases_Bool (p a)) [ inl passes ↦ rw (passes, apart) rest | inr fails ↦ rw fails rest ]
+    elim (cases_Bool (f x)) [ inl passes ↦ rw (passes, apart) rest | inr fails ↦ rw fails rest ]
 
--- the marked ones among the first n classes
-abbrev pub marked_below : List Bool → ℕ → List ℕ
-marked_below marks n = filter (λ d. get_or marks d false) (range_with_len 0 n)
+places-from : {A : Type 0} (f : A → Bool) (e : A) (a d : ℕ) (xs : List A) → f e ≡ false → is_in (places_where f a xs) (a + d) ≡ f (get_or xs d e)
+places-from f e a d [] none = sym none
+places-from f e a zero (x ∷ xs) none =
+    let same : a + 0 ≡ a = omega arith in
+    let equal : nat_eq a a ≡ true = eq-eqb a a refl in
+    elim (cases_Bool (f x)) [ inl passes ↦ rw (same, passes, equal) refl | inr fails ↦ rw (same, fails) (places-below f (a + 1) a xs (omega arith)) ]
+places-from f e a (suc d) (x ∷ xs) none =
+    let on : a + 1 + d ≡ a + suc d = omega arith in
+    let rest : is_in (places_where f (a + 1) xs) (a + suc d) ≡ f (get_or xs d e) = rw on at (places-from f e (a + 1) d xs none) in
+    let apart : nat_eq (a + suc d) a ≡ false = ne_eqb (a + suc d) a (λ same. absurd (omega (arith, same))) in
+    elim (cases_Bool (f x)) [ inl passes ↦ rw (passes, apart) rest | inr fails ↦ rw fails rest ]
 
-marked-each : (marks : List Bool) (d : ℕ) → get_or marks d false ≡ is_in (marked_below marks (length marks)) d
-marked-each marks d =
-    elim (cases_lt d (length marks)) [
-      | inl within ↦ sym (in-range (λ e. get_or marks e false) 0 (length marks) d (omega arith) (omega arith))
-      | inr past ↦ get_or_past marks d false past ∙ sym (in-above (λ e. get_or marks e false) 0 (length marks) d (omega arith))
-    ]
+pub places-each : {A : Type 0} (f : A → Bool) (e : A) (d : ℕ) (xs : List A) → f e ≡ false → is_in (places_where f 0 xs) d ≡ f (get_or xs d e)
+places-each f e d xs none = let same : 0 + d ≡ d = omega arith in rw same at (places-from f e 0 d xs none)
 
 -- the places of the marks are the classes that pass a test that the marks tell
 places-filter : (test : ℕ → Bool) (from : ℕ) (marks : List Bool) → ((k : ℕ) → get_or marks k false ≡ test (from + k)) → places_where (λ b. b) from marks ≡ filter test (range_with_len from (length marks))
@@ -76,8 +80,7 @@ pub is-listed : (marks : List Bool) (order : List ℕ) (count : ℕ) → AreList
 is-listed marks order count listed =
     record {
       counted = omega (arith, listed.few, length-take count order, ap length listed.list, length-places (λ b. b) 0 marks);
-      each = λ d. marked-each marks d
-          ∙ ap (λ l. is_in l d) (sym (listed.list ∙ marked-filter (λ e. get_or marks e false) marks (λ e. refl)));
+      each = λ d. sym (ap (λ l. is_in l d) listed.list ∙ places-each (λ b. b) false d marks refl);
     }
 
 -- a listed class is one of those with marks
@@ -88,22 +91,6 @@ listed-within marks order count listed k e lt =
     elim (cases_lt d (length marks)) [
       | inl within ↦ within
       | inr past ↦ absurd (false≢true (sym (get_or_past marks d false past) ∙ listed.each d ∙ there))
-    ]
-
--- a mark taken off: those that are left are of the classes listed later
-pub clear-more : (marks : List Bool) (listed : List ℕ) (i m : ℕ) → ((d : ℕ) → get_or marks d false ≡ true → is_in (drop i listed) d ≡ true) → i < length listed → m ≡ get_or listed i 0 → m < length marks
-    → (d : ℕ) → get_or (slice_set marks m false) d false ≡ true → is_in (drop (i + 1) listed) d ≡ true
-clear-more marks listed i m each lt is within d marked =
-    elim (eqb_tells d m) [
-      | inl same ↦
-          let e : get_or (slice_set marks m false) d false ≡ false = rw same.1 (get_or-set_same marks m false false within) in
-          absurd (false≢true (sym e ∙ marked))
-      | inr other ↦
-          let kept : get_or (slice_set marks m false) d false ≡ get_or marks d false = get_or-set_other marks m d false false other.1 in
-          let split : drop i listed ≡ m ∷ drop (i + 1) listed = drop_more listed i 0 lt ∙ ap (λ x. x ∷ drop (i + 1) listed) (sym is) in
-          let apart : nat_eq d m ≡ false = other.0 in
-          let had : is_in (m ∷ drop (i + 1) listed) d ≡ true = rw split at (each d (sym kept ∙ marked)) in
-          rw apart at had
     ]
 
 pub clear-all : (marks : List Bool) (listed : List ℕ) (i : ℕ) → ((d : ℕ) → get_or marks d false ≡ true → is_in (drop i listed) d ≡ true) → length listed ≤ i → All (λ b. b ≡ false) marks

@@ -1,36 +1,69 @@
--- Classes that clash in a room, by their number.
-use Rattle.std.proofs.Common.{◌≡◌, ◌∙◌, ℕ, Bool, true, false, List, Option, None, length, count_by, nat_eq, refl, inl, inr, get_or-set_same, get_or-set_other, arith}
-use Rattle.std.specs.Prelude.{slice_set, ◌==◌}
+-- The classes of a room gone over: those that clash are marked.
+use Rattle.std.proofs.Common.{◌≡◌, ◌∙◌, ℕ, ◌<◌, Bool, true, false, ◌&&◌, ◌||◌, List, [], ◌∷◌, Option, Some, None, All, length, get_or, nat_eq, refl, sym, inl, inr, arith, get_or-set_same, get_or-set_other}
+use Rattle.std.specs.Prelude.{slice_set, ◌==◌, not}
 use Rattle.std.specs.Option.{option_map_or}
-use Rattle.std.proofs.lemmas.List.{length-set, get_or_past}
-use Rattle.std.proofs.lemmas.Bool.{cases_lt, eq-eqb}
 use Rattle.std.proofs.lemmas.Bool.Decides.{eqb_tells}
 use Rattle.tt_bits.specs.declared.times.Spot.{Spot}
+use Rattle.tt_bits.specs.Pairs.{is_one_room}
+use Rattle.tt_bits.specs.Times.{overlaps}
 use Rattle.tt_bits.specs.Spots.{spot_at}
+use Rattle.tt_pool.proofs.PlaceLemmas.{places-within}
+use Rattle.tt_occupancy.specs.Rooms.{is_in_room, classes_in}
 use Rattle.tt_occupancy.specs.Clashes.{clash}
-use Rattle.tt_occupancy.specs.Rooms.{classes_in}
-use Rattle.tt_occupancy.proofs.RoomLemmas.{no_clash_unlisted}
-use Rattle.tt_clash.specs.ConflictSet.{passes}
+use Rattle.tt_clash.specs.ConflictSet.{is_in}
 use Rattle.tt_clash.specs.Marks.{clashes_in_room}
+use Rattle.tt_clash.proofs.ListedLemmas.{places-each}
 
-passes-at : (spots : List (Option Spot)) (c : ℕ) (test : Spot → Bool) (d : ℕ) → passes spots c test d ≡ option_map_or test (spot_at (slice_set spots c None) d) false
-passes-at spots c test d =
-    elim (eqb_tells d c) [
-      | inl same ↦
-          let is : d ≡ c = same.1 in
-          let equal : nat_eq c c ≡ true = eq-eqb c c refl in
-          let none : spot_at (slice_set spots c None) c ≡ None =
-          elim (cases_lt c (length spots)) [
-            | inl within ↦ get_or-set_same spots c None None within
-            | inr past ↦ get_or_past (slice_set spots c None) c None (omega (arith, length-set spots c None))
-          ] in
-          rw (is, equal, none) refl
+-- the classes that pass are marked, but for those of the list
+abbrev pub AreMarked : (ℕ → Bool) → List Bool → List ℕ → Type 0
+AreMarked test marks rest = (d : ℕ) → test d ≡ (get_or marks d false || (is_in rest d && test d))
+
+pub marked-yes : (test : ℕ → Bool) (marks : List Bool) (m : ℕ) (xs rest : List ℕ) → xs ≡ m ∷ rest → test m ≡ true → m < length marks → AreMarked test marks xs → AreMarked test (slice_set marks m true) rest
+marked-yes test marks m xs rest split passes within before d =
+    elim (eqb_tells d m) [
+      | inl same ↦ rw (same.1, get_or-set_same marks m true false within) passes
       | inr other ↦
-          let apart : nat_eq d c ≡ false = other.0 in
-          let kept : spot_at (slice_set spots c None) d ≡ spot_at spots d = get_or-set_other spots c d None None other.1 in
-          rw (apart, kept) refl
+          let apart : nat_eq d m ≡ false = other.0 in
+          rw (get_or-set_other marks m d true false other.1) (rw (split, apart) at (before d))
     ]
 
--- a class that isn't in the room of a spot doesn't clash with it
-pub room-other : (spots : List (Option Spot)) (c : ℕ) (x : Spot) (d : ℕ) → count_by (λ y. y == d) (classes_in spots x.room) ≡ 0 → clashes_in_room spots c x d ≡ false
-room-other spots c x d none = passes-at spots c (clash x) d ∙ no_clash_unlisted spots x c d none
+pub marked-no : (test : ℕ → Bool) (marks : List Bool) (m : ℕ) (xs rest : List ℕ) → xs ≡ m ∷ rest → test m ≡ false → AreMarked test marks xs → AreMarked test marks rest
+marked-no test marks m xs rest split fails before d =
+    elim (eqb_tells d m) [
+      | inl same ↦ let was = rw (split, same.1, fails) at (before d) in rw (same.1, fails) (no_more _ _ _ was)
+      | inr other ↦ let apart : nat_eq d m ≡ false = other.0 in rw (split, apart) at (before d)
+    ]
+  where
+    no_more : (a b c : Bool) → false ≡ (a || (b && false)) → false ≡ (a || (c && false))
+    no_more true b c e = e
+    no_more false b true e = refl
+    no_more false b false e = refl
+
+pub all-marked : (test : ℕ → Bool) (marks : List Bool) (rest : List ℕ) → [] ≡ rest → AreMarked test marks rest → (d : ℕ) → get_or marks d false ≡ test d
+all-marked test marks rest none all d = or_none (get_or marks d false) ∙ sym (rw (← none) at (all d))
+  where
+    or_none : (a : Bool) → a ≡ (a || false)
+    or_none true = refl
+    or_none false = refl
+
+-- who clashes is one of the room
+in_room : (a : Bool) (x : Spot) (s : Option Spot) → (a && option_map_or (clash x) s false) ≡ (is_in_room x.room s && (a && option_map_or (clash x) s false))
+unfolding clash
+in_room a x None = none a
+  where
+    none : (b : Bool) → (b && false) ≡ (false && (b && false))
+    none true = refl
+    none false = refl
+in_room a x (Some y) = both a (is_one_room x.room y.room) (overlaps x.time y.time)
+  where
+    both : (b one over : Bool) → (b && (one && over)) ≡ (one && (b && (one && over)))
+    both true true over = refl
+    both true false over = refl
+    both false true over = refl
+    both false false over = refl
+
+pub none-yet : (spots : List (Option Spot)) (c : ℕ) (x : Spot) (marks : List Bool) → ((d : ℕ) → get_or marks d false ≡ false) → AreMarked (clashes_in_room spots c x) marks (classes_in spots x.room)
+none-yet spots c x marks unmarked d = rw (unmarked d, places-each (is_in_room x.room) None d spots refl) (in_room (not (d == c)) x (spot_at spots d))
+
+pub classes-within : (spots : List (Option Spot)) (x : Spot) → All (λ d. d < length spots) (classes_in spots x.room)
+classes-within spots x = places-within (is_in_room x.room) 0 (length spots) spots (omega arith)

@@ -14,7 +14,6 @@ use Rattle.tt_problem.specs.declared.parts.Rule.{Rule}
 use Rattle.tt_problem.specs.declared.parts.RulePlace.{RulePlace}
 use Rattle.tt_problem.specs.declared.parts.Parts.{Parts}
 use Rattle.tt_clash.specs.Rules.{is_required_group}
-use Rattle.tt_clash.specs.RulesOf.{IsMemberAt, IsRuleOf}
 use Rattle.tt_clash.specs.Lent.{SameGroup}
 use Rattle.tt_clash.specs.Groups.{SameGroups, AreGroupsOf}
 use Rattle.tt_clash.specs.ConflictSet.{with_rule, out_for}
@@ -60,10 +59,6 @@ group-holds held weeks fits p spots now k d rule groups within is =
 pub shape-is : {M : Type 0} (held : M → List (Option Spot)) (weeks : M → ℕ) (spare : M → Option ℕ) (shape : M → List ℕ) (before now : List M) (k : ℕ) (d : M) → SameGroups held weeks spare shape before now → k < length now
     → shape (get_or now k d) ≡ get_or (map shape before) k []
 shape-is held weeks spare shape before now k d same within = sym (get_or-map shape now k d [] within) ∙ ap (λ l. get_or l k []) same.shape_kept
-
--- the class stands at the place
-pub place-is : (p : Parts) (c : ℕ) (r : RulePlace) (rule : Rule) → IsRuleOf p c r → slice_get p.rules r.rule ≡ Some rule → IsMemberAt rule.members r.place c
-place-is p c r rule of is = rw is at of.place
 
 -- weeks of the problem are counted by each group
 pub weeks-within : (x : Spot) (n m : ℕ) → IsBelow n x → n ≤ m → IsBelow m x
