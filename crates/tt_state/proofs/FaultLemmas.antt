@@ -4,6 +4,9 @@ use Rattle.std.specs.Prelude.{option_map, if◌then◌else◌}
 use Rattle.tt_problem.specs.declared.parts.Parts.{Parts}
 use Rattle.tt_struct.specs.Enrolments.{is_enrolment}
 use Rattle.tt_state.specs.declared.seats.SectionFault.TheVariants.{Invalid, Full}
+use Rattle.tt_state.specs.declared.state.Refusal.{Refusal}
+use Rattle.tt_state.specs.declared.state.Refusal.TheVariants.{BadSection, Memory, NoSeat}
+use Rattle.tt_state.specs.Refusals.{IsOfSection}
 use Rattle.tt_state.specs.Seats.{first_without_seat, may_have}
 use Rattle.tt_state.specs.Sound.{IsEnrolled}
 use Rattle.tt_state.specs.Faults.{list_fault_of, section_fault_of}
@@ -40,3 +43,10 @@ no_list_fault_seats p lists student classes is = none_full (may_have p student c
 pub list_fault_some : (p : Parts) (lists : List (List ℕ)) (student : ℕ) (classes : List ℕ) → (classes ≡ [] → ⊥) → section_fault_of p lists student classes ≡ list_fault_of p lists student classes
 list_fault_some p lists student [] some = absurd (some refl)
 list_fault_some p lists student (class ∷ classes) some = refl
+
+-- a list that a student may have, and whose classes have seats, is refused for want of memory alone
+pub section_memory : (e : Refusal) → IsOfSection e → (e ≡ BadSection → ⊥) → ((class : ℕ) → e ≡ NoSeat class → ⊥) → e ≡ Memory
+section_memory BadSection only valid seats = absurd (valid refl)
+section_memory Memory only valid seats = refl
+section_memory (NoSeat class) only valid seats = absurd (seats class refl)
+section_memory _ only valid seats = absurd only

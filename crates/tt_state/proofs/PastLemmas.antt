@@ -5,33 +5,33 @@ use Rattle.tt_bits.specs.declared.times.Value.{Value}
 use Rattle.tt_journal.specs.declared.Entry.{Entry}
 use Rattle.tt_journal.specs.declared.Entry.TheVariants.{Mark, Point, Placed}
 use Rattle.tt_state.specs.Snapshots.{Snapshot, value_in, with_value}
-use Rattle.tt_state.specs.History.{Held, earlier_by, points_by, point_count, before_step, before_point, desk_of, stepped, moved_to, trail}
-use Rattle.tt_state.specs.Past.{HasPastOf}
+use Rattle.tt_state.specs.History.{Held, earlier_by, points_by, point_count, before_point, desk_of, stepped, moved_to, trail}
+use Rattle.tt_state.specs.Past.{HasPastOf, moment_by}
 
 -- a class that gets back what it had
 pub put_back : (s : Snapshot) (class : ℕ) (v : Option Value) → with_value (with_value s class v) class (value_in s class) ≡ s
 put_back s class v = ap (λ (l : List (Option Value)). record { plan = l; lists = s.lists; statistics = s.statistics }) (set-set s.plan class v (value_in s class) ∙ set-get_or s.plan class None)
 
 -- entries that undo to the same snapshot have the same past
-pub past_by : (s x t : Snapshot) (es fs : List Entry) → x ≡ s → earlier_by t fs ≡ earlier_by x es → points_by t fs ≡ points_by x es → point_count fs ≡ point_count es → before_step fs ≡ before_step es → before_point fs ≡ before_point es → HasPastOf s es t fs
-past_by s x t es fs is steps points count below over = record {
+pub past_by : (s x t : Snapshot) (es fs : List Entry) → x ≡ s → earlier_by t fs ≡ earlier_by x es → points_by t fs ≡ points_by x es → point_count fs ≡ point_count es → moment_by t fs ≡ moment_by x es → before_point fs ≡ before_point es → HasPastOf s es t fs
+past_by s x t es fs is steps points count moment below = record {
   steps = steps ∙ ap (λ y. earlier_by y es) is;
   points = points ∙ ap (λ y. points_by y es) is;
   count = count;
+  moment = moment ∙ ap (λ y. moment_by y es) is;
   below = below;
-  over = over;
 }
 
 pub past_same : (s : Snapshot) (es : List Entry) → HasPastOf s es s es
-past_same s es = record { steps = refl; points = refl; count = refl; below = refl; over = refl }
+past_same s es = record { steps = refl; points = refl; count = refl; moment = refl; below = refl }
 
 pub past_then : (s t u : Snapshot) (es fs gs : List Entry) → HasPastOf s es t fs → HasPastOf t fs u gs → HasPastOf s es u gs
 past_then s t u es fs gs one two = record {
   steps = two.steps ∙ one.steps;
   points = two.points ∙ one.points;
   count = two.count ∙ one.count;
+  moment = two.moment ∙ one.moment;
   below = two.below ∙ one.below;
-  over = two.over ∙ one.over;
 }
 
 -- the past after a class got another value
@@ -64,17 +64,3 @@ pub moved_trail : (h new : Held) (t : Snapshot) (fs : List Entry) → new.presen
 moved_trail h new t fs present entries past =
     let more : points_by new.present new.entries ≡ points_by h.present h.entries ++ h.present ∷ [] = rw (present, entries) past.points in
     rw more refl
-
--- a state in which a class got another value, as a step
-pub placed_step : (h new : Held) (class : ℕ) (v : Option Value) → new ≡ record { problem = h.problem; present = with_value h.present class v; entries = Placed class (value_in h.present class) ∷ Mark (point_count h.entries) ∷ h.entries; taken = h.taken }
-    → desk_of new ≡ stepped (desk_of h) (with_value h.present class v)
-placed_step h new class v is = ap desk_of is ∙ ap (λ x. record { problem = h.problem; present = with_value h.present class v; earlier = x ∷ earlier_by x h.entries }) (put_back h.present class v)
-
--- a state in which a class got another value, in the last step
-pub placed_in_step : (h new : Held) (class : ℕ) (v : Option Value) → new ≡ record { problem = h.problem; present = with_value h.present class v; entries = Placed class (value_in h.present class) ∷ Point ∷ h.entries; taken = h.taken }
-    → desk_of new ≡ moved_to (desk_of h) (with_value h.present class v)
-placed_in_step h new class v is = ap desk_of is ∙ ap (λ x. record { problem = h.problem; present = with_value h.present class v; earlier = earlier_by x h.entries }) (put_back h.present class v)
-
-pub placed_trail : (h new : Held) (class : ℕ) (v : Option Value) → new ≡ record { problem = h.problem; present = with_value h.present class v; entries = Placed class (value_in h.present class) ∷ Point ∷ h.entries; taken = h.taken }
-    → trail new ≡ trail h ++ with_value h.present class v ∷ []
-placed_trail h new class v is = ap trail is ∙ ap (λ x. (points_by x h.entries ++ x ∷ []) ++ with_value h.present class v ∷ []) (put_back h.present class v)

@@ -15,13 +15,15 @@ use Rattle.tt_cbs.specs.KeyOrder.{key_cmp}
 use Rattle.tt_cbs.specs.Counts.{count_at}
 use Rattle.tt_cbs.proofs.KeyLemmas.{count_empty}
 use Rattle.tt_journal.specs.declared.Entry.{Entry}
-use Rattle.tt_journal.specs.declared.Entry.TheVariants.{Mark, Point, Placed}
+use Rattle.tt_journal.specs.declared.Entry.TheVariants.{Placed}
 use Rattle.tt_state.specs.Snapshots.{Snapshot, in_order, list_in, value_in, with_list, with_value}
 use Rattle.tt_state.specs.Values.{MayHave}
 use Rattle.tt_state.specs.Seats.{first_without_seat}
 use Rattle.tt_state.specs.Sound.{AreListsOf, IsEnrolled, IsSound}
-use Rattle.tt_state.specs.History.{HasStep, left_by, point_count, seated_by}
-use Rattle.tt_state.specs.Past.{HasPastOf, LeadsTo, StandsOn}
+use Rattle.tt_state.specs.History.{left_by, point_count, seated_by}
+use Rattle.tt_state.specs.declared.change.Beginning.{Beginning}
+use Rattle.tt_state.specs.declared.change.Beginning.TheVariants.{Step, Moment}
+use Rattle.tt_state.specs.Past.{HasPastOf, LeadsTo, MayBegin, StandsOn, begun}
 use Rattle.tt_state.specs.Kept.{IsStateOf, LeadBack, counts_of, most_at, snapshot_of}
 use Rattle.tt_state.proofs.OrderLemmas.{enrolled_once, enrolled_ordered}
 use Rattle.tt_state.proofs.SeatLemmas.{has-ordered, left_back, left_counts, left_past, left_step, ordered_ascends, same_list, seated_back, seated_counts, seated_past, seated_step}
@@ -126,12 +128,10 @@ filled p s es student classes on has may =
     (seated p s (left_by student (list_in s student) es) student list first.stands has.within up
     (lists_with p s.lists student list has.within on.sound.lists up (enrolled_ordered p student classes may.valid) (λ class has. all_have_seats p s.lists student classes may.seats class (sym (has-ordered class classes) ∙ has))))
 
--- what a state stands on where a step begins, and at a point of its last step
-pub on_mark : (p : Parts) (s : Score) (counts : FinMap key_cmp ℕ) (points : ℕ) (es : List Entry) → IsStateOf p s counts points es → StandsOn p (snapshot_of s counts) (Mark points ∷ es)
-on_mark p s counts points es of = record { sound = of.sound; back = (of.kept.points_is, (of.sound, of.kept.entries)); counted = of.kept.counted; step = tt }
-
-pub on_point : (p : Parts) (s : Score) (counts : FinMap key_cmp ℕ) (points : ℕ) (es : List Entry) → IsStateOf p s counts points es → HasStep es → StandsOn p (snapshot_of s counts) (Point ∷ es)
-on_point p s counts points es of step = record { sound = of.sound; back = (step, (of.sound, of.kept.entries)); counted = of.kept.counted; step = step }
+-- what a state stands on where a change begins
+pub on_beginning : (b : Beginning) (p : Parts) (s : Score) (counts : FinMap key_cmp ℕ) (points : ℕ) (es : List Entry) → IsStateOf p s counts points es → MayBegin b es → StandsOn p (snapshot_of s counts) (begun b es)
+on_beginning Step p s counts points es of may = record { sound = of.sound; back = (refl, (of.sound, of.kept.entries)); counted = of.kept.counted; step = tt }
+on_beginning Moment p s counts points es of step = record { sound = of.sound; back = (step, (of.sound, of.kept.entries)); counted = of.kept.counted; step = step }
 
 none_counted : (counts : FinMap key_cmp ℕ) (key : Key) → counts ≡ empty → 0 < count_at counts key → ⊥
 none_counted counts key is some = let zero_is : count_at counts key ≡ 0 = ap (λ m. count_at m key) is ∙ count_empty key in absurd (omega arith)
@@ -164,12 +164,6 @@ filled_leads p before after counts es fs student classes on fits within may plan
 -- a state that a change led to
 pub state_after : (p : Parts) (after : Score) (counts : FinMap key_cmp ℕ) (points : ℕ) (s : Snapshot) (es fs : List Entry) → Fits p after → LeadsTo p s es (snapshot_of after counts) fs → points ≡ point_count es → IsStateOf p after counts points fs
 state_after p after counts points s es fs fits leads points_is = state_by p after counts points s (snapshot_of after counts) es fs fs fits leads refl refl points_is
-
--- a state after a class got another value or none
-pub placed_state : (p : Parts) (before after : Score) (counts : FinMap key_cmp ℕ) (points : ℕ) (es fs : List Entry) (class : ℕ) (v : Option Value) → StandsOn p (snapshot_of before counts) es → MayHave p class v → points ≡ point_count es
-    → Fits p after → plan_of after ≡ slice_set (plan_of before) class v → seats_of after ≡ seats_of before → fs ≡ Placed class (slice_index_or (plan_of before) class None) ∷ es → IsStateOf p after counts points fs
-placed_state p before after counts points es fs class v on may points_is fits plan lists is =
-    state_after p after counts points (snapshot_of before counts) es fs fits (placed_leads p before after counts es fs class v on may plan lists is) points_is
 
 -- a state whose score was asked, and has the plan and the lists that it had
 pub asked_state : (p : Parts) (before after : Score) (counts : FinMap key_cmp ℕ) (points : ℕ) (es : List Entry) → IsStateOf p before counts points es → Fits p after → plan_of after ≡ plan_of before → seats_of after ≡ seats_of before → IsStateOf p after counts points es

@@ -1,31 +1,23 @@
--- Where there is a step.
-use Rattle.std.proofs.Common.{◌<◌, List, [], ◌∷◌, length, arith}
+-- Where there is a step, and what stays below the last one.
+use Rattle.std.proofs.Common.{◌≡◌, ◌∙◌, ℕ, ◌<◌, List, [], ◌∷◌, length, refl, arith}
 use Rattle.tt_problem.specs.declared.parts.Parts.{Parts}
 use Rattle.tt_journal.specs.declared.Entry.{Entry}
-use Rattle.tt_journal.specs.declared.Entry.TheVariants.{Mark, Point, Placed, Left, Seated, Bumped}
-use Rattle.tt_state.specs.Snapshots.{Snapshot, with_value}
-use Rattle.tt_state.specs.History.{Held, HasStep, with_seat, without_seat, with_dropped, earlier, earlier_by}
+use Rattle.tt_journal.specs.declared.Entry.TheVariants.{Mark, Point, Left, Seated}
+use Rattle.tt_state.specs.Snapshots.{Snapshot}
+use Rattle.tt_state.specs.History.{Held, HasStep, IsWithinStep, undone, earlier, earlier_by, before_step, left_by, seated_by}
 use Rattle.tt_state.specs.Kept.{LeadBack}
 
 -- where there is an entry, there is a step
 pub on_step : (p : Parts) (s : Snapshot) (es : List Entry) → LeadBack p s es → 0 < length es → HasStep es
 on_step p s [] kept some = absurd (omega arith)
 on_step p s (Mark k ∷ es) kept some = tt
-on_step p s (Point ∷ es) kept some = kept.0
-on_step p s (Placed class before ∷ es) kept some = kept.0
-on_step p s (Left student class ∷ es) kept some = kept.0
-on_step p s (Seated student class ∷ es) kept some = kept.0
-on_step p s (Bumped key ∷ es) kept some = kept.0
+on_step p s (entry ∷ es) kept some = kept.0
 
 -- where there is an earlier snapshot, there is a step
-step_by : (s : Snapshot) (es : List Entry) → 0 < length (earlier_by s es) → HasStep es
+pub step_by : (s : Snapshot) (es : List Entry) → 0 < length (earlier_by s es) → HasStep es
 step_by s [] some = absurd (omega arith)
 step_by s (Mark k ∷ es) some = tt
-step_by s (Point ∷ es) some = step_by s es some
-step_by s (Placed class before ∷ es) some = step_by (with_value s class before) es some
-step_by s (Left student class ∷ es) some = step_by (with_seat s student class) es some
-step_by s (Seated student class ∷ es) some = step_by (without_seat s student class) es some
-step_by s (Bumped key ∷ es) some = step_by (with_dropped s key) es some
+step_by s (entry ∷ es) some = step_by (undone entry s) es some
 
 pub step_is : (h : Held) → 0 < length (earlier h) → HasStep h.entries
 step_is h some = step_by h.present h.entries some
@@ -34,8 +26,30 @@ step_is h some = step_by h.present h.entries some
 pub some_earlier : (s : Snapshot) (es : List Entry) → HasStep es → 0 < length (earlier_by s es)
 some_earlier s [] step = absurd step
 some_earlier s (Mark k ∷ es) step = omega arith
-some_earlier s (Point ∷ es) step = some_earlier s es step
-some_earlier s (Placed class before ∷ es) step = some_earlier (with_value s class before) es step
-some_earlier s (Left student class ∷ es) step = some_earlier (with_seat s student class) es step
-some_earlier s (Seated student class ∷ es) step = some_earlier (without_seat s student class) es step
-some_earlier s (Bumped key ∷ es) step = some_earlier (with_dropped s key) es step
+some_earlier s (entry ∷ es) step = some_earlier (undone entry s) es step
+
+-- a state within its own last step, one after another, and one with the same snapshot and entries
+pub within_same : (a : Held) → IsWithinStep a a
+within_same a = record { problem = refl; earlier = refl; below = refl }
+
+pub within_next : (a b c : Held) → IsWithinStep a b → IsWithinStep b c → IsWithinStep a c
+within_next a b c first next = record {
+  problem = next.problem ∙ first.problem;
+  earlier = next.earlier ∙ first.earlier;
+  below = next.below ∙ first.below;
+}
+
+pub within_still : (a b : Held) → b.problem ≡ a.problem → b.present ≡ a.present → b.entries ≡ a.entries → IsWithinStep a b
+within_still a b problem present entries = record { problem = problem; earlier = rw (present, entries) refl; below = rw entries refl }
+
+-- the entries of a list that a student gets are those of the last step
+pub before_left : (student : ℕ) (list : List ℕ) (es : List Entry) → before_step (left_by student list es) ≡ before_step es
+before_left student [] es = refl
+before_left student (class ∷ list) es = before_left student list (Left student class ∷ es)
+
+pub before_seated : (student : ℕ) (list : List ℕ) (es : List Entry) → before_step (seated_by student list es) ≡ before_step es
+before_seated student [] es = refl
+before_seated student (class ∷ list) es = before_seated student list (Seated student class ∷ es)
+
+pub before_section : (student : ℕ) (list had : List ℕ) (es : List Entry) → before_step (seated_by student list (left_by student had (Point ∷ es))) ≡ before_step es
+before_section student list had es = before_seated student list (left_by student had (Point ∷ es)) ∙ before_left student had (Point ∷ es)

@@ -1,5 +1,5 @@
 -- The earlier snapshots, as undoing entries gives them. Entries stand newest first.
-use Rattle.std.specs.Prelude.{ℕ, ◌+◌, List, [], ◌∷◌, ◌++◌}
+use Rattle.std.specs.Prelude.{◌≡◌, ℕ, ◌+◌, List, [], ◌∷◌, ◌++◌}
 use Rattle.tt_bits.specs.declared.times.Key.{Key}
 use Rattle.tt_cbs.specs.Counts.{dropped}
 use Rattle.tt_problem.specs.declared.parts.Parts.{Parts}
@@ -31,65 +31,52 @@ without_seat s student class = with_list s student (without_class class (list_in
 abbrev pub with_dropped : Snapshot → Key → Snapshot
 with_dropped s key = record { plan = s.plan; lists = s.lists; statistics = dropped s.statistics key }
 
+-- a snapshot with the change undone that an entry notes
+abbrev pub undone : Entry → Snapshot → Snapshot
+undone (Placed class before) s = with_value s class before
+undone (Left student class) s = with_seat s student class
+undone (Seated student class) s = without_seat s student class
+undone (Bumped key) s = with_dropped s key
+undone entry s = s
+
 -- the snapshots before each step, the newest first
 abbrev pub earlier_by : Snapshot → List Entry → List Snapshot
 earlier_by s [] = []
 earlier_by s (Mark k ∷ es) = s ∷ earlier_by s es
-earlier_by s (Point ∷ es) = earlier_by s es
-earlier_by s (Placed class before ∷ es) = earlier_by (with_value s class before) es
-earlier_by s (Left student class ∷ es) = earlier_by (with_seat s student class) es
-earlier_by s (Seated student class ∷ es) = earlier_by (without_seat s student class) es
-earlier_by s (Bumped key ∷ es) = earlier_by (with_dropped s key) es
+earlier_by s (entry ∷ es) = earlier_by (undone entry s) es
 
 -- the snapshots at the points of the last step, the oldest first
 abbrev pub points_by : Snapshot → List Entry → List Snapshot
 points_by s [] = []
 points_by s (Mark k ∷ es) = []
 points_by s (Point ∷ es) = points_by s es ++ s ∷ []
-points_by s (Placed class before ∷ es) = points_by (with_value s class before) es
-points_by s (Left student class ∷ es) = points_by (with_seat s student class) es
-points_by s (Seated student class ∷ es) = points_by (without_seat s student class) es
-points_by s (Bumped key ∷ es) = points_by (with_dropped s key) es
+points_by s (entry ∷ es) = points_by (undone entry s) es
 
 -- how many points the last step has
 abbrev pub point_count : List Entry → ℕ
 point_count [] = 0
 point_count (Mark k ∷ es) = 0
 point_count (Point ∷ es) = point_count es + 1
-point_count (Placed class before ∷ es) = point_count es
-point_count (Left student class ∷ es) = point_count es
-point_count (Seated student class ∷ es) = point_count es
-point_count (Bumped key ∷ es) = point_count es
+point_count (entry ∷ es) = point_count es
 
 -- the entries below the last step
 abbrev pub before_step : List Entry → List Entry
 before_step [] = []
 before_step (Mark k ∷ es) = es
-before_step (Point ∷ es) = before_step es
-before_step (Placed class before ∷ es) = before_step es
-before_step (Left student class ∷ es) = before_step es
-before_step (Seated student class ∷ es) = before_step es
-before_step (Bumped key ∷ es) = before_step es
+before_step (entry ∷ es) = before_step es
 
--- the entries below the newest point
+-- the entries below the newest point of the last step, or below the step where it has none
 abbrev pub before_point : List Entry → List Entry
 before_point [] = []
 before_point (Mark k ∷ es) = es
 before_point (Point ∷ es) = es
-before_point (Placed class before ∷ es) = before_point es
-before_point (Left student class ∷ es) = before_point es
-before_point (Seated student class ∷ es) = before_point es
-before_point (Bumped key ∷ es) = before_point es
+before_point (entry ∷ es) = before_point es
 
 -- there is a step
 abbrev pub HasStep : List Entry → Type 0
 HasStep [] = ⊥
 HasStep (Mark k ∷ es) = Unit {0}
-HasStep (Point ∷ es) = HasStep es
-HasStep (Placed class before ∷ es) = HasStep es
-HasStep (Left student class ∷ es) = HasStep es
-HasStep (Seated student class ∷ es) = HasStep es
-HasStep (Bumped key ∷ es) = HasStep es
+HasStep (entry ∷ es) = HasStep es
 
 -- the entries with one more for each class that a student leaves, the first class first
 abbrev pub left_by : (student : ℕ) → List ℕ → List Entry → List Entry
@@ -108,6 +95,12 @@ earlier s = earlier_by s.present s.entries
 -- the snapshots of the last step: one for each of its points, and the present one at the end
 abbrev pub trail : Held → List Snapshot
 trail s = points_by s.present s.entries ++ s.present ∷ []
+
+-- the second state is the first but for its last step
+pub record IsWithinStep (old new : Held) : Type 0 where
+  pub problem : new.problem ≡ old.problem
+  pub earlier : earlier new ≡ earlier old
+  pub below : before_step new.entries ≡ before_step old.entries
 
 -- a problem with a present snapshot and the earlier ones, the newest first
 pub record Desk : Type 0 where

@@ -46,12 +46,8 @@ LeadBack p s (Bumped key ∷ es) = HasStep es × LeadBack p (with_dropped s key)
 -- the statistics that the entries raised
 abbrev pub counts_of : List Entry → FinMap key_cmp ℕ
 counts_of [] = empty
-counts_of (Mark k ∷ es) = counts_of es
-counts_of (Point ∷ es) = counts_of es
-counts_of (Placed class before ∷ es) = counts_of es
-counts_of (Left student class ∷ es) = counts_of es
-counts_of (Seated student class ∷ es) = counts_of es
 counts_of (Bumped key ∷ es) = bumped (counts_of es) key
+counts_of (entry ∷ es) = counts_of es
 
 -- the present snapshot
 abbrev pub snapshot_of : Score → FinMap key_cmp ℕ → Snapshot

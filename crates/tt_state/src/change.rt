@@ -1,7 +1,9 @@
 ghost use Rattle.std.specs.Prelude.{◌≡◌, ◌+◌, ◌<◌, ◌≤◌, ◌∷◌, None, length, slice_index_or, slice_set};
 ghost use Rattle.tt_score.specs.Kept.{Fits, plan_of, seats_of};
 ghost use Rattle.tt_roster.specs.Lists.{list_of, with_class, without_class};
+ghost use Rattle.tt_state.specs.History.{point_count};
 ghost use Rattle.tt_state.specs.Kept.{MayLeave, MaySeat};
+ghost use Rattle.tt_state.specs.Past.{begun};
 ghost use Rattle.tt_state.specs.Values.{MayHave};
 
 use tt_bits::Value;
@@ -9,27 +11,32 @@ use tt_journal::{Entry, Journal};
 use tt_problem::Problem;
 use tt_score::Score;
 
-/// Begins a step.
-pub fn mark_step(journal: &mut Journal, points: &mut u64)
-    requires { 1 ≤ journal.old.spare }
-    ensures entries { journal.new.list ≡ Entry.Mark points.old ∷ journal.old.list }
-    ensures spare { journal.new.spare + 1 ≡ journal.old.spare }
-    ensures points { points.new ≡ 0 }
-{
-    journal.push(Entry::Mark { points: *points });
-    *points = 0;
+/// How a change begins: as a step of its own, or as a moment more of the last step.
+#[derive(Clone, Copy)]
+pub enum Beginning {
+    Step,
+    Moment,
 }
 
-/// Adds a moment to the last step, that it may go back to.
-pub fn mark_point(journal: &mut Journal, points: &mut u64)
+/// Notes that a change begins.
+#[tactic(auto, using(crate::proofs::TrailLemmas::few_points))]
+pub fn begin_change(journal: &mut Journal, points: &mut u64, beginning: Beginning)
     requires spare { 1 ≤ journal.old.spare }
-    requires few { points.old ≤ length journal.old.list }
-    ensures entries { journal.new.list ≡ Entry.Point ∷ journal.old.list }
+    requires points { points.old ≡ point_count journal.old.list }
+    ensures entries { journal.new.list ≡ begun beginning journal.old.list }
     ensures spare { journal.new.spare + 1 ≡ journal.old.spare }
-    ensures points { points.new ≡ points.old + 1 }
+    ensures points { points.new ≡ point_count (begun beginning journal.old.list) }
 {
-    journal.push(Entry::Point);
-    *points += 1;
+    match beginning {
+        Beginning::Step => {
+            journal.push(Entry::Mark { points: *points });
+            *points = 0;
+        }
+        Beginning::Moment => {
+            journal.push(Entry::Point);
+            *points += 1;
+        }
+    }
 }
 
 /// The value that a class has.

@@ -9,13 +9,13 @@ ghost use Rattle.tt_state.specs.Seats.{first_without_seat, may_have};
 ghost use Rattle.tt_state.specs.Snapshots.{in_order, list_in, opening_snapshot, value_in, with_list, with_value};
 ghost use Rattle.tt_state.specs.Sound.{ArePositive, AreSound, IsEnrolled, IsSound, is_ready, no_faults};
 ghost use Rattle.tt_state.specs.Kept.{counts_of};
-ghost use Rattle.tt_state.specs.Past.{HasPastOf};
-ghost use Rattle.tt_state.specs.History.{HasStep, before_step, desk_of, earlier, left_by, point_count, seated_by, stepped, moved_to, trail};
+ghost use Rattle.tt_state.specs.Past.{HasPastOf, MayBegin, begun};
+ghost use Rattle.tt_state.specs.History.{before_step, desk_of, earlier, left_by, point_count, seated_by, stepped, moved_to, trail};
 
 mod forcing;
 
-use crate::back::{back_to_mark, back_to_moment};
-use crate::change::{change, mark_point, mark_step, value_now};
+use crate::back::{back_once, back_to_moment};
+use crate::change::{Beginning, begin_change, change, value_now};
 use crate::lists::{entry_count, first_class, replace_list};
 use crate::seats::{SectionFault, list_fault, section_fault};
 use std::alloc::{AllocError, Global};
@@ -122,20 +122,27 @@ impl State {
         Ok(())
     }
 
-    /// Gives a class a value or none, as one step.
-    fn add_step(&mut self, class: u32, to: Option<Value>) -> Result<(), AllocError>
-        requires { MayHave self.old.problem class to }
-        ensures now { OnOk result (self.new ≡ record { problem = self.old.problem; present = with_value self.old.present class to; entries = Entry.Placed class (value_in self.old.present class) ∷ Entry.Mark (point_count self.old.entries) ∷ self.old.entries; taken = self.old.taken }) }
+    /// Gives a class a value or none.
+    fn set_class(
+        &mut self,
+        beginning: Beginning,
+        class: u32,
+        to: Option<Value>,
+    ) -> Result<(), AllocError>
+        requires may { MayHave self.old.problem class to }
+        requires begins { MayBegin beginning self.old.entries }
+        ensures now { OnOk result (self.new ≡ record { problem = self.old.problem; present = with_value self.old.present class to; entries = Entry.Placed class (value_in self.old.present class) ∷ begun beginning self.old.entries; taken = self.old.taken }) }
+        ensures past { OnOk result (HasPastOf self.old.present (begun beginning self.old.entries) self.new.present self.new.entries) }
         ensures err { OnErr result (self.new ≡ self.old) }
     {
         self.journal.reserve(2)?;
-        mark_step(&mut self.journal, &mut self.points);
+        begin_change(&mut self.journal, &mut self.points, beginning);
         change(&self.problem, &mut self.score, &mut self.journal, class, to);
         Ok(())
     }
 
     /// Gives a class a value, as one step.
-    #[tactic(auto, using(crate::proofs::PastLemmas::placed_step))]
+    #[tactic(auto, using(crate::proofs::PastLemmas::step_desk, crate::proofs::PastLemmas::step_trail))]
     pub fn assign(&mut self, class: u32, value: Value) -> Result<(), AllocError>
         requires { IsOfDomain self.old.problem class value }
         ensures desk { OnOk result (desk_of self.new ≡ stepped (desk_of self.old) (with_value self.old.present class (Some value))) }
@@ -143,11 +150,11 @@ impl State {
         ensures entries { OnOk result (self.new.entries ≡ Entry.Placed class (value_in self.old.present class) ∷ Entry.Mark (point_count self.old.entries) ∷ self.old.entries) }
         ensures err { OnErr result (self.new ≡ self.old) }
     {
-        self.add_step(class, Some(value))
+        self.set_class(Beginning::Step, class, Some(value))
     }
 
     /// Takes its value from a class, as one step.
-    #[tactic(auto, using(crate::proofs::PastLemmas::placed_step))]
+    #[tactic(auto, using(crate::proofs::PastLemmas::step_desk, crate::proofs::PastLemmas::step_trail))]
     pub fn unassign(&mut self, class: u32) -> Result<(), Refusal>
         requires { class < length self.old.problem.classes }
         ensures desk { OnOk result (desk_of self.new ≡ stepped (desk_of self.old) (with_value self.old.present class None)) }
@@ -161,28 +168,14 @@ impl State {
         if value_now(&self.score, class).is_none() {
             return Err(Refusal::NotPlaced);
         }
-        match self.add_step(class, None) {
+        match self.set_class(Beginning::Step, class, None) {
             Ok(()) => Ok(()),
             Err(_) => Err(Refusal::Memory),
         }
     }
 
     /// Gives a class a value or none, in the last step.
-    #[tactic(auto, using(crate::proofs::TrailLemmas::few_points))]
-    fn add_to_step(&mut self, class: u32, to: Option<Value>) -> Result<(), AllocError>
-        requires may { MayHave self.old.problem class to }
-        requires step { HasStep self.old.entries }
-        ensures now { OnOk result (self.new ≡ record { problem = self.old.problem; present = with_value self.old.present class to; entries = Entry.Placed class (value_in self.old.present class) ∷ Entry.Point ∷ self.old.entries; taken = self.old.taken }) }
-        ensures err { OnErr result (self.new ≡ self.old) }
-    {
-        self.journal.reserve(2)?;
-        mark_point(&mut self.journal, &mut self.points);
-        change(&self.problem, &mut self.score, &mut self.journal, class, to);
-        Ok(())
-    }
-
-    /// Gives a class a value or none, in the last step.
-    #[tactic(auto, using(crate::proofs::PastLemmas::placed_in_step, crate::proofs::PastLemmas::placed_trail, crate::proofs::StepLemmas::step_is))]
+    #[tactic(auto, using(crate::proofs::PastLemmas::moved_desk, crate::proofs::PastLemmas::moved_trail, crate::proofs::StepLemmas::step_is))]
     pub fn place_step(&mut self, class: u32, value: Option<Value>) -> Result<(), AllocError>
         requires may { MayHave self.old.problem class value }
         requires step { 0 < length (earlier self.old) }
@@ -191,22 +184,28 @@ impl State {
         ensures entries { OnOk result (self.new.entries ≡ Entry.Placed class (value_in self.old.present class) ∷ Entry.Point ∷ self.old.entries) }
         ensures err { OnErr result (self.new ≡ self.old) }
     {
-        self.add_to_step(class, value)
+        self.set_class(Beginning::Moment, class, value)
     }
 
-    /// Gives a student the classes of a list in place of those that the student has, as one step.
-    fn set_list(&mut self, student: u32, classes: &[u32]) -> Result<(), AllocError>
+    /// Gives a student the classes of a list in place of those that the student has.
+    fn set_list(
+        &mut self,
+        beginning: Beginning,
+        student: u32,
+        classes: &[u32],
+    ) -> Result<(), AllocError>
         requires student { student < length self.old.problem.students }
         requires classes { All (λ class. class < length self.old.problem.classes) classes.now }
         requires valid { IsEnrolled self.old.problem student classes.now }
         requires seats { first_without_seat self.old.problem self.old.present.lists student classes.now ≡ None }
-        ensures now { OnOk result (self.new ≡ record { problem = self.old.problem; present = with_list self.old.present student (in_order classes.now); entries = seated_by student (in_order classes.now) (left_by student (list_in self.old.present student) (Entry.Mark (point_count self.old.entries) ∷ self.old.entries)); taken = self.old.taken }) }
-        ensures past { OnOk result (HasPastOf self.old.present (Entry.Mark (point_count self.old.entries) ∷ self.old.entries) self.new.present self.new.entries) }
+        requires begins { MayBegin beginning self.old.entries }
+        ensures now { OnOk result (self.new ≡ record { problem = self.old.problem; present = with_list self.old.present student (in_order classes.now); entries = seated_by student (in_order classes.now) (left_by student (list_in self.old.present student) (begun beginning self.old.entries)); taken = self.old.taken }) }
+        ensures past { OnOk result (HasPastOf self.old.present (begun beginning self.old.entries) self.new.present self.new.entries) }
         ensures err { OnErr result (self.new ≡ self.old) }
     {
         let count = entry_count(&self.problem, &self.score, student, classes);
         self.journal.reserve(count)?;
-        mark_step(&mut self.journal, &mut self.points);
+        begin_change(&mut self.journal, &mut self.points, beginning);
         replace_list(
             &self.problem,
             &mut self.score,
@@ -237,7 +236,7 @@ impl State {
         match section_fault(&self.problem, &self.score, student, classes) {
             Some(SectionFault::Invalid) => Err(Refusal::BadSection),
             Some(SectionFault::Full { class }) => Err(Refusal::NoSeat { class }),
-            None => match self.set_list(student, classes) {
+            None => match self.set_list(Beginning::Step, student, classes) {
                 Ok(()) => Ok(()),
                 Err(_) => Err(Refusal::Memory),
             },
@@ -259,36 +258,10 @@ impl State {
         if first_class(&self.score, student).is_none() {
             return Err(Refusal::NotSectioned);
         }
-        match self.set_list(student, &[]) {
+        match self.set_list(Beginning::Step, student, &[]) {
             Ok(()) => Ok(()),
             Err(_) => Err(Refusal::Memory),
         }
-    }
-
-    /// Gives a student the classes of a list in place of those that the student has, in the last
-    /// step.
-    #[tactic(auto, using(crate::proofs::TrailLemmas::few_points))]
-    fn set_list_in_step(&mut self, student: u32, classes: &[u32]) -> Result<(), AllocError>
-        requires student { student < length self.old.problem.students }
-        requires classes { All (λ class. class < length self.old.problem.classes) classes.now }
-        requires valid { IsEnrolled self.old.problem student classes.now }
-        requires seats { first_without_seat self.old.problem self.old.present.lists student classes.now ≡ None }
-        requires step { HasStep self.old.entries }
-        ensures now { OnOk result (self.new ≡ record { problem = self.old.problem; present = with_list self.old.present student (in_order classes.now); entries = seated_by student (in_order classes.now) (left_by student (list_in self.old.present student) (Entry.Point ∷ self.old.entries)); taken = self.old.taken }) }
-        ensures past { OnOk result (HasPastOf self.old.present (Entry.Point ∷ self.old.entries) self.new.present self.new.entries) }
-        ensures err { OnErr result (self.new ≡ self.old) }
-    {
-        let count = entry_count(&self.problem, &self.score, student, classes);
-        self.journal.reserve(count)?;
-        mark_point(&mut self.journal, &mut self.points);
-        replace_list(
-            &self.problem,
-            &mut self.score,
-            &mut self.journal,
-            student,
-            classes,
-        );
-        Ok(())
     }
 
     /// Gives a student the classes of a list in place of those that the student has, in the last
@@ -311,7 +284,7 @@ impl State {
         match list_fault(&self.problem, &self.score, student, classes) {
             Some(SectionFault::Invalid) => Err(Refusal::BadSection),
             Some(SectionFault::Full { class }) => Err(Refusal::NoSeat { class }),
-            None => match self.set_list_in_step(student, classes) {
+            None => match self.set_list(Beginning::Moment, student, classes) {
                 Ok(()) => Ok(()),
                 Err(_) => Err(Refusal::Memory),
             },
@@ -331,14 +304,26 @@ impl State {
         if self.journal.len() == 0 {
             return Err(Refusal::NothingToUndo);
         }
-        back_to_mark(
+        self.take_back();
+        Ok(())
+    }
+
+    /// Goes back by a step, where there is one.
+    #[tactic(auto, using(crate::proofs::BackLemmas::one_moment, crate::proofs::BackLemmas::entries_less))]
+    pub fn take_back(&mut self)
+        requires { 0 < length (earlier self.old) }
+        ensures back { earlier self.old ≡ self.new.present ∷ earlier self.new }
+        ensures problem { self.new.problem ≡ self.old.problem }
+        ensures entries { self.new.entries ≡ before_step self.old.entries }
+    {
+        self.roll_back(0);
+        back_once(
             &self.problem,
             &mut self.score,
             &mut self.journal,
             &mut self.statistics,
             &mut self.points,
         );
-        Ok(())
     }
 
     /// The place of the present moment in the trail of the last step.

@@ -4,11 +4,11 @@ ghost use Rattle.tt_clash.specs.declared.Block.{Block};
 ghost use Rattle.tt_state.specs.Values.{blocked_of, conflicts_of, total_with};
 ghost use Rattle.tt_state.specs.Forced.{FitsIn, forced, forced_by};
 ghost use Rattle.tt_state.specs.Refusals.{IsOfForce};
-ghost use Rattle.tt_state.specs.Past.{HasPastOf, with_forced};
-ghost use Rattle.tt_state.specs.History.{HasStep, desk_of, earlier, point_count, stepped, moved_to, trail, with_taken};
+ghost use Rattle.tt_state.specs.Past.{HasPastOf, MayBegin, begun, with_forced};
+ghost use Rattle.tt_state.specs.History.{desk_of, earlier, point_count, stepped, moved_to, trail, with_taken};
 
-use crate::back::{back_to_mark, back_to_point};
-use crate::change::{mark_point, mark_step};
+use crate::back::back_once;
+use crate::change::{Beginning, begin_change};
 use crate::force::{block, force};
 use crate::state::{Refusal, State};
 use std::alloc::AllocError;
@@ -51,16 +51,23 @@ impl State {
         self.score.trial(&self.problem, class, value)
     }
 
-    /// Takes out the classes that were found last and gives a class a value, as one step.
-    fn force_found(&mut self, class: u32, value: Value) -> Result<(), AllocError>
+    /// Takes out the classes that were found last and gives a class a value.
+    #[tactic(auto, using(crate::proofs::BackLemmas::begun_moment, crate::proofs::BackLemmas::begun_below))]
+    fn force_found(
+        &mut self,
+        beginning: Beginning,
+        class: u32,
+        value: Value,
+    ) -> Result<(), AllocError>
         requires value { IsOfDomain self.old.problem class value }
         requires found { All (λ other. other < length self.old.problem.classes) self.old.taken }
-        ensures now { OnOk result (self.new ≡ with_forced self.old class value (Entry.Mark (point_count self.old.entries) ∷ self.old.entries)) }
-        ensures past { OnOk result (HasPastOf self.old.present (Entry.Mark (point_count self.old.entries) ∷ self.old.entries) self.new.present self.new.entries) }
+        requires begins { MayBegin beginning self.old.entries }
+        ensures now { OnOk result (self.new ≡ with_forced self.old class value (begun beginning self.old.entries)) }
+        ensures past { OnOk result (HasPastOf self.old.present (begun beginning self.old.entries) self.new.present self.new.entries) }
         ensures err { OnErr result (self.new ≡ self.old) }
     {
         self.journal.reserve(2 * self.found as u32 + 2)?;
-        mark_step(&mut self.journal, &mut self.points);
+        begin_change(&mut self.journal, &mut self.points, beginning);
         let Ok(()) = force(
             &self.problem,
             &mut self.score,
@@ -70,7 +77,7 @@ impl State {
             value,
             &self.order[..self.found],
         ) else {
-            back_to_mark(
+            back_once(
                 &self.problem,
                 &mut self.score,
                 &mut self.journal,
@@ -82,42 +89,34 @@ impl State {
         Ok(())
     }
 
-    /// Takes out the classes that were found last and gives a class a value, in the last step.
-    #[tactic(auto, using(crate::proofs::TrailLemmas::few_points))]
-    fn force_found_in_step(&mut self, class: u32, value: Value) -> Result<(), AllocError>
+    /// Forces a class to a value, if it isn't blocked: its conflict set is taken out and counted, and
+    /// the class is placed there. Where memory is wanting, only the conflict set found last may
+    /// differ.
+    #[tactic(auto, unfolding(crate::specs::Forced::forced, crate::specs::Forced::forced_by))]
+    fn force_open(&mut self, beginning: Beginning, class: u32, value: Value) -> Result<(), Refusal>
         requires value { IsOfDomain self.old.problem class value }
-        requires found { All (λ other. other < length self.old.problem.classes) self.old.taken }
-        requires step { HasStep self.old.entries }
-        ensures now { OnOk result (self.new ≡ with_forced self.old class value (Entry.Point ∷ self.old.entries)) }
-        ensures past { OnOk result (HasPastOf self.old.present (Entry.Point ∷ self.old.entries) self.new.present self.new.entries) }
-        ensures err { OnErr result (self.new ≡ self.old) }
+        requires begins { MayBegin beginning self.old.entries }
+        ensures now { OnOk result (self.new ≡ record { problem = self.old.problem; present = forced self.old.problem self.old.present class value; entries = forced_by self.old.problem self.old.present class value (begun beginning self.old.entries); taken = conflicts_of self.old.problem self.old.present class value }) }
+        ensures past { OnOk result (HasPastOf self.old.present (begun beginning self.old.entries) self.new.present self.new.entries) }
+        ensures fits { OnOk result (FitsIn self.old.problem self.new.present class value) }
+        ensures err { OnErr result (with_taken self.new [] ≡ with_taken self.old []) }
+
+        ensures blocked { (reason : Block) → (result ≡ Err (Refusal.Blocked reason)) ↔ (blocked_of self.old.problem class value ≡ Some reason) }
+        ensures only { IfErr result IsOfForce }
     {
-        self.journal.reserve(2 * self.found as u32 + 2)?;
-        mark_point(&mut self.journal, &mut self.points);
-        let Ok(()) = force(
-            &self.problem,
-            &mut self.score,
-            &mut self.journal,
-            &mut self.statistics,
-            class,
-            value,
-            &self.order[..self.found],
-        ) else {
-            back_to_point(
-                &self.problem,
-                &mut self.score,
-                &mut self.journal,
-                &mut self.statistics,
-                &mut self.points,
-            );
-            return Err(AllocError);
-        };
-        Ok(())
+        if let Some(reason) = block(&self.problem, class, value) {
+            return Err(Refusal::Blocked { reason });
+        }
+        self.find_conflicts(class, value);
+        match self.force_found(beginning, class, value) {
+            Ok(()) => Ok(()),
+            Err(_) => Err(Refusal::Memory),
+        }
     }
 
     /// Forces a class to a value, as one step: its conflict set is taken out and counted, and the
     /// class is placed there. Where memory is wanting, only the conflict set found last may differ.
-    #[tactic(auto, using(crate::proofs::PastLemmas::step_desk), unfolding(crate::specs::Forced::forced, crate::specs::Forced::forced_by))]
+    #[tactic(auto, using(crate::proofs::PastLemmas::step_desk, crate::proofs::PastLemmas::step_trail))]
     pub fn force(&mut self, class: u32, value: Value) -> Result<(), Refusal>
         requires { IsOfDomain self.old.problem class value }
         ensures desk { OnOk result (desk_of self.new ≡ stepped (desk_of self.old) (forced self.old.problem self.old.present class value)) }
@@ -130,18 +129,11 @@ impl State {
         ensures blocked { (reason : Block) → (result ≡ Err (Refusal.Blocked reason)) ↔ (blocked_of self.old.problem class value ≡ Some reason) }
         ensures only { IfErr result IsOfForce }
     {
-        if let Some(reason) = block(&self.problem, class, value) {
-            return Err(Refusal::Blocked { reason });
-        }
-        self.find_conflicts(class, value);
-        match self.force_found(class, value) {
-            Ok(()) => Ok(()),
-            Err(_) => Err(Refusal::Memory),
-        }
+        self.force_open(Beginning::Step, class, value)
     }
 
     /// Forces a class to a value, in the last step.
-    #[tactic(auto, using(crate::proofs::PastLemmas::moved_desk, crate::proofs::PastLemmas::moved_trail, crate::proofs::StepLemmas::step_is), unfolding(crate::specs::Forced::forced, crate::specs::Forced::forced_by))]
+    #[tactic(auto, using(crate::proofs::PastLemmas::moved_desk, crate::proofs::PastLemmas::moved_trail, crate::proofs::StepLemmas::step_is))]
     pub fn force_step(&mut self, class: u32, value: Value) -> Result<(), Refusal>
         requires value { IsOfDomain self.old.problem class value }
         requires step { 0 < length (earlier self.old) }
@@ -155,13 +147,6 @@ impl State {
         ensures blocked { (reason : Block) → (result ≡ Err (Refusal.Blocked reason)) ↔ (blocked_of self.old.problem class value ≡ Some reason) }
         ensures only { IfErr result IsOfForce }
     {
-        if let Some(reason) = block(&self.problem, class, value) {
-            return Err(Refusal::Blocked { reason });
-        }
-        self.find_conflicts(class, value);
-        match self.force_found_in_step(class, value) {
-            Ok(()) => Ok(()),
-            Err(_) => Err(Refusal::Memory),
-        }
+        self.force_open(Beginning::Moment, class, value)
     }
 }
