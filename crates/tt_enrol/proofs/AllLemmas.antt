@@ -10,14 +10,8 @@ use Rattle.tt_problem.specs.declared.parts.StudentPart.{StudentPart}
 use Rattle.tt_problem.specs.declared.parts.Parts.{Parts}
 use Rattle.tt_score.specs.Unsectioned.{is_unsectioned}
 use Rattle.tt_struct.specs.Enrolments.{is_enrolment}
-use Rattle.tt_journal.specs.declared.Entry.{Entry}
-use Rattle.tt_journal.specs.declared.Entry.TheVariants.{Left, Seated, Point}
 use Rattle.tt_state.specs.Seats.{may_have}
 use Rattle.tt_state.specs.Snapshots.{Snapshot, list_in}
-use Rattle.tt_state.specs.History.{before_step, left_by, seated_by}
-use Rattle.tt_state.specs.declared.state.Refusal.{Refusal}
-use Rattle.tt_state.specs.declared.state.Refusal.TheVariants.{NoSeat, BadSection, Memory}
-use Rattle.tt_state.specs.Refusals.{IsOfSection}
 use Rattle.tt_enrol.specs.declared.enrolling.Known.{Known}
 use Rattle.tt_enrol.specs.Choices.{choices_at}
 use Rattle.tt_enrol.specs.Students.{courses_of, taken_in, classes_found}
@@ -26,28 +20,9 @@ use Rattle.tt_enrol.specs.Ready.{IsKnown}
 use Rattle.tt_enrol.specs.Enrolled.{AllEnrolled, lacks_classes, with_student, enrolled_below, all_enrolled}
 use Rattle.tt_enrol.proofs.EnrolLemmas.{found_is}
 
--- what is left of a section that is neither invalid nor without a seat
-pub only_memory : (e : Refusal) → IsOfSection e → (e ≡ BadSection → ⊥) → ((class : ℕ) → e ≡ NoSeat class → ⊥) → e ≡ Memory
-only_memory BadSection h bad seats = absurd (bad refl)
-only_memory Memory h bad seats = refl
-only_memory (NoSeat class) h bad seats = absurd (seats class refl)
-only_memory _ h bad seats = absurd h
-
 pub may_have_it : (p : Parts) (student : ℕ) (list : List ℕ) → is_enrolment p student list ≡ true → may_have p student list ≡ true
 may_have_it p student [] h = refl
 may_have_it p student (c ∷ list) h = h
-
-before_seated : (student : ℕ) (list : List ℕ) (es : List Entry) → before_step (seated_by student list es) ≡ before_step es
-before_seated student [] es = refl
-before_seated student (c ∷ list) es = before_seated student list (Seated student c ∷ es)
-
-before_left : (student : ℕ) (list : List ℕ) (es : List Entry) → before_step (left_by student list es) ≡ before_step es
-before_left student [] es = refl
-before_left student (c ∷ list) es = before_left student list (Left student c ∷ es)
-
--- the entries of a section are those of the last step
-pub before_section : (student : ℕ) (list had : List ℕ) (es : List Entry) → before_step (seated_by student list (left_by student had (Point ∷ es))) ≡ before_step es
-before_section student list had es = before_seated student list (left_by student had (Point ∷ es)) ∙ before_left student had (Point ∷ es)
 
 -- a student who lacks classes has none
 empty_list : (list : List ℕ) → length list ≡ 0 → list ≡ []

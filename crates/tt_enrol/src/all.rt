@@ -1,9 +1,9 @@
-ghost use Rattle.std.specs.Prelude.{◌≡◌, ◌+◌, ◌<◌, ◌≤◌, ◌∷◌, [], None, Some, IfOk, IsSome, OnOk, OnErr, cond, false, length};
-ghost use Rattle.tt_state.specs.History.{before_step, desk_of, earlier, stepped, moved_to, with_taken};
+ghost use Rattle.std.specs.Prelude.{◌≡◌, ◌+◌, ◌<◌, ◌≤◌, [], None, Some, IfOk, IsSome, OnOk, OnErr, cond, false, length};
+ghost use Rattle.tt_state.specs.History.{IsWithinStep, desk_of, earlier, stepped, moved_to, with_taken};
 ghost use Rattle.tt_state.specs.Snapshots.{in_order, list_in, with_list};
 ghost use Rattle.tt_enrol.specs.Enrolled.{enrolled, lacks_classes, all_enrolled, with_student};
 ghost use Rattle.tt_enrol.specs.Ready.{HasRoom, IsKnown};
-ghost use Rattle.tt_enrol.specs.Steps.{IsFoundFor, IsWithinStep, with_counts};
+ghost use Rattle.tt_enrol.specs.Steps.{IsFoundFor, with_counts};
 
 use crate::enrolling::{Buffers, Known, find};
 use std::alloc::{AllocError, Global};
@@ -174,19 +174,6 @@ fn enrol_each(
     Ok(so_far)
 }
 
-/// Goes back by a step, where there is one.
-fn go_back(state: &mut State)
-    requires { 0 < length (earlier state.old) }
-    ensures back { earlier state.old ≡ state.new.present ∷ earlier state.new }
-    ensures problem { state.new.problem ≡ state.old.problem }
-    ensures entries { state.new.entries ≡ before_step state.old.entries }
-{
-    match state.undo() {
-        Ok(()) => {}
-        Err(_) => unreachable!(),
-    }
-}
-
 /// Gives each student who has a course and no class the least enrolment, in the problem's order and
 /// all as one step. A student for whom there is none is left without.
 pub fn enrol_all(alloc: Global, state: &mut State) -> Result<Enrolled, AllocError>
@@ -201,7 +188,7 @@ pub fn enrol_all(alloc: Global, state: &mut State) -> Result<Enrolled, AllocErro
     match enrol_each(state, &mut known, &mut buffers) {
         Ok(counts) => Ok(counts),
         Err(error) => {
-            go_back(state);
+            state.take_back();
             Err(error)
         }
     }

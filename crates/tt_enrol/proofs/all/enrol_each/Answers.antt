@@ -1,6 +1,7 @@
 use Rattle.std.proofs.Common.{◌≡◌, ◌<◌, List, length, arith, ap, sym, ◌∙◌, subst}
 use Rattle.tt_problem.specs.declared.parts.Parts.{Parts}
 use Rattle.tt_state.specs.Snapshots.{Snapshot}
+use Rattle.tt_state.proofs.StepLemmas.{within_next}
 use Rattle.tt_enrol.specs.Enrolled.{AllEnrolled, with_student}
 use Rattle.tt_enrol.specs.Ready.{HasRoom}
 use Rattle.tt_enrol.specs.Steps.{with_counts}
@@ -21,11 +22,7 @@ loop-student-preserved c =
       few = omega (arith, c.in-Ok.ensures.few);
       known = c.in-Ok.ensures.known;
       room = subst (λ (q : Parts). HasRoom q c.enrol_next.new.buffers) (sym step.problem) c.in-Ok.ensures.room;
-      step = record {
-        problem = step.problem ∙ before.step.problem;
-        earlier = step.earlier ∙ before.step.earlier;
-        below = step.below ∙ before.step.below;
-      };
+      step = within_next h c.loop-student.state c.enrol_next.new.state before.step step;
       some = subst (λ (l : List Snapshot). 0 < length l) (sym step.earlier) before.some;
     }
 

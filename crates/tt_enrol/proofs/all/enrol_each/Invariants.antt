@@ -1,8 +1,8 @@
 use Rattle.std.proofs.Common.{◌≡◌, ◌+◌, ◌<◌, ◌≤◌, length}
-use Rattle.tt_state.specs.History.{earlier}
+use Rattle.tt_state.specs.History.{IsWithinStep, earlier}
 use Rattle.tt_enrol.specs.Enrolled.{enrolled_below}
 use Rattle.tt_enrol.specs.Ready.{HasRoom, IsKnown}
-use Rattle.tt_enrol.specs.Steps.{IsWithinStep, with_counts}
+use Rattle.tt_enrol.specs.Steps.{with_counts}
 use Rattle.tt_enrol.proofs.all.enrol_each.Given as goal
 
 abbrev pub invariant-loop-student : goal.invariant-loop-student
