@@ -3,11 +3,11 @@ ghost use Rattle.tt_state.specs.Snapshots.{with_list};
 ghost use Rattle.tt_plan.specs.Domain.{IsOfDomain};
 ghost use Rattle.tt_roster.specs.Lists.{list_of};
 ghost use Rattle.tt_solution.specs.Timetable.{IsTimetableOf};
-ghost use Rattle.tt_state.specs.History.{desk_of, earlier, stepped, with_taken};
+ghost use Rattle.tt_state.specs.History.{IsWithinStep, desk_of, earlier, stepped, with_taken};
 ghost use Rattle.tt_search.specs.Recalled.{may_return, recalled, recalled_lists, recalled_plan, recalled_value, with_return};
-ghost use Rattle.tt_search.specs.Changed.{IsWithinStep, with_lists, with_plan};
+ghost use Rattle.tt_search.specs.Changed.{with_lists, with_plan};
 
-use crate::steps::{go_back, want_of_memory};
+use crate::steps::want_of_memory;
 use std::alloc::{AllocError, Global};
 use tt_bits::Value;
 use tt_plan::{domain_size, value_at};
@@ -29,7 +29,7 @@ pub fn recall(_alloc: Global, state: &mut State, published: &Published) -> Resul
     match bring_back(state, published) {
         Ok(()) => Ok(()),
         Err(error) => {
-            go_back(state);
+            state.take_back();
             Err(error)
         }
     }

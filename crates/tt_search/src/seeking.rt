@@ -1,7 +1,7 @@
 ghost use Rattle.std.specs.Prelude.{◌≡◌, ◌+◌, ◌≤◌, ◌<◌, ◌∷◌, ◌++◌, [], true, false, Some, IfOk, OnOk, OnErr, length, None, Option, ℕ, if◌then◌else◌};
 ghost use Rattle.std.specs.Option.{option_copied, ForSome};
 ghost use Rattle.tt_solution.specs.Timetable.{IsTimetableOf, Timetable};
-ghost use Rattle.tt_state.specs.History.{desk_of, earlier, moved_to, stepped, trail, with_taken};
+ghost use Rattle.tt_state.specs.History.{IsWithinStep, desk_of, earlier, moved_to, stepped, trail, with_taken};
 ghost use Rattle.tt_state.specs.Values.{conflicts_of};
 ghost use Rattle.tt_search.specs.Least.{comes_before, IsFirstLeast};
 ghost use Rattle.tt_search.specs.Turns.{hopeful};
@@ -9,12 +9,11 @@ ghost use Rattle.tt_search.specs.Full.{full_rank, full_best, moved_in};
 ghost use Rattle.tt_search.specs.MovedNow.{AreMoved};
 ghost use Rattle.tt_search.specs.Searched.{rank_of, way_of, best_of, turns_of, searched, repaired};
 ghost use Rattle.tt_search.specs.Numbers.{IsOpenValue, forced_by, rank_numbers};
-ghost use Rattle.tt_search.specs.Changed.{IsWithinStep};
 ghost use Rattle.tt_search.specs.UnderWay.{IsUnderWay};
 
 use crate::moving::MovedClasses;
 use crate::price::{Rank, rank_now};
-use crate::steps::{go_back, want_of_memory};
+use crate::steps::want_of_memory;
 use crate::turn::{Move, hopeful_classes, next_move};
 use rand_core::Rng;
 use rand_pcg::Lcg64Xsh32;
@@ -138,7 +137,7 @@ fn seek(
             Ok(walked.made)
         }
         Err(e) => {
-            go_back(state);
+            state.take_back();
             Err(e)
         }
     }

@@ -2,7 +2,8 @@ use Rattle.std.proofs.Common.{◌≡◌, Err, [], true, false, ap, ◌∙◌}
 use Rattle.std.proofs.lemmas.Option.{none-some}
 use Rattle.tt_state.specs.History.{Desk, before_step}
 use Rattle.tt_state.specs.Snapshots.{list_in}
-use Rattle.tt_search.proofs.StepLemmas.{before_section, section_memory}
+use Rattle.tt_state.proofs.StepLemmas.{before_section}
+use Rattle.tt_state.proofs.FaultLemmas.{section_memory}
 use Rattle.tt_search.proofs.recalling.empty_list.Goals as goal
 
 pub want_of_memory-requires : goal.want_of_memory-requires

@@ -10,7 +10,7 @@ use Rattle.tt_search.specs.Changed.{with_lists}
 use Rattle.tt_search.specs.Recalled.{with_return}
 use Rattle.tt_search.proofs.ListLemmas.{below_end, in_order_same}
 use Rattle.tt_search.proofs.ReturnLemmas.{returned, not_seated, may_by, valid_by, free_by, some_class}
-use Rattle.tt_search.proofs.StepLemmas.{before_section}
+use Rattle.tt_state.proofs.StepLemmas.{before_section}
 use Rattle.tt_search.proofs.recalling.seat.Goals as goal
 
 pub section_step-requires-clause-classes : goal.section_step-requires-clause-classes

@@ -2,14 +2,13 @@ use Rattle.std.proofs.Common.{length, ◌≡◌, ◌<◌, ◌≤◌, ◌-◌, �
 use Rattle.std.specs.Option.{option_copied}
 use Rattle.rand_core.specs.Steps.{stream_of, steps_u32}
 use Rattle.rand_pcg.specs.Pcg.{pcg32}
-use Rattle.tt_state.specs.History.{trail}
-use Rattle.tt_search.specs.Changed.{IsWithinStep}
+use Rattle.tt_state.specs.History.{IsWithinStep, trail}
 use Rattle.tt_search.specs.Turns.{turn_of}
 use Rattle.tt_search.specs.Searched.{onward, words_of}
 use Rattle.tt_search.specs.Full.{full_rank, full_best}
 use Rattle.tt_search.specs.MovedNow.{AreMoved}
 use Rattle.tt_search.proofs.MovedLemmas.{moved_is, moved_forced}
-use Rattle.tt_search.proofs.StepLemmas.{within_next, within_same, within_still}
+use Rattle.tt_state.proofs.StepLemmas.{within_next, within_same, within_still}
 use Rattle.tt_search.proofs.WayLemmas.{made_turn, mark_of_added, no_turn, no_turn_left, start_way, walk_on, words_from}
 use Rattle.tt_search.proofs.seeking.walk.Goals as goal
 

@@ -1,9 +1,8 @@
-use Rattle.std.proofs.Common.{◌≡◌, ◌-◌, []}
+use Rattle.std.proofs.Common.{◌-◌, []}
 use Rattle.std.specs.Option.{option_copied}
 use Rattle.rand_core.specs.Steps.{stream_of, steps_u32}
 use Rattle.rand_pcg.specs.Pcg.{pcg32}
-use Rattle.tt_state.specs.History.{trail}
-use Rattle.tt_search.specs.Changed.{IsWithinStep}
+use Rattle.tt_state.specs.History.{IsWithinStep, trail}
 use Rattle.tt_search.specs.Searched.{onward, turns_of}
 use Rattle.tt_search.specs.Full.{full_rank, full_best}
 use Rattle.tt_search.specs.MovedNow.{AreMoved}
