@@ -8,6 +8,3 @@ mod rows;
 
 pub use days::DaysGroup;
 pub use load::LoadGroup;
-
-#[cfg(test)]
-mod tests;

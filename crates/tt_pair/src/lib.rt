@@ -192,6 +192,3 @@ fn is_violated(kind: PairKind, travel: &Travel, a: &Spot, b: &Spot) -> bool
 {
     !holds(kind, *a, *b, travel.between(a.room, b.room))
 }
-
-#[cfg(test)]
-mod tests;

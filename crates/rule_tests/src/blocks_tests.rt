@@ -1,9 +1,9 @@
 ghost use Rattle.std.specs.Prelude.{◌≡◌, ◌≤◌, None, IfSome};
 ghost use Rattle.tt_bits.specs.Spots.{IsBelow, cell_count};
 
-use crate::{BlockGroup, BreaksGroup};
 use std::test::Fail;
 use tt_bits::{Days, Spot, Time, Weeks};
+use tt_blocks::{BlockGroup, BreaksGroup};
 use tt_measure::{Measure, laws};
 use tt_travel::Travel;
 

@@ -1,9 +1,9 @@
 ghost use Rattle.std.specs.Prelude.{◌≡◌, IfSome};
 
-use crate::PairGroup;
 use std::test::Fail;
 use tt_bits::{Days, PairKind, Spot, Time, Weeks};
 use tt_measure::{Measure, laws};
+use tt_pair::PairGroup;
 use tt_travel::Travel;
 
 /// A spot of four slots on the first day of the first week.
