@@ -8,8 +8,6 @@ mod load;
 mod plain_run;
 mod reply;
 mod serve;
-#[cfg(test)]
-mod tests;
 mod top;
 
-pub use top::run;
+pub use top::{run, run_within};

@@ -27,8 +27,8 @@ fn run_usage<S: Sink>(out: &mut S) -> u8
     }
 }
 
-// Does what the words say, where a file has at most so many bytes.
-pub(crate) fn run_within<F: Files, S: Sink>(
+/// Does the same as [`run`], with another limit on the bytes of a file.
+pub fn run_within<F: Files, S: Sink>(
     limit: u64,
     alloc: Global,
     words: &[String],
