@@ -28,7 +28,7 @@ use Rattle.tt_explain.specs.Why.{why_lines}
 use Rattle.tt_explain.specs.Stats.{stats_lines}
 use Rattle.tt_script.specs.declared.command.Command.{Command}
 use Rattle.tt_script.specs.declared.command.Command.TheVariants.{Assign, Unassign, Force, Section, Drop, Enrol, EnrolAll, Search, Repair, Recall, Undo, Publish, Totals, Explain, Why, Stats, Quit}
-use Rattle.tt_desk.specs.Fields.{field}
+use Rattle.tt_text.specs.Fields.{field}
 use Rattle.tt_desk.specs.declared.refusal.Refusal.{Refusal}
 use Rattle.tt_desk.specs.declared.refusal.Refusal.TheVariants.{BadLine, NoSuchClass, NoSuchStudent, NoSuchTime, RoomNotListed, NotPlaced, Blocked, NoEnrolment, NoSeat, NotSectioned, NothingToUndo, NotReady, NothingPublished}
 use Rattle.tt_desk.specs.declared.refusal.Outcome.{Outcome}

@@ -1,7 +1,7 @@
 -- Why a line is refused, and what is written then.
 use Rattle.std.specs.Prelude.{ℕ, List, ◌++◌, codes}
 use Rattle.tt_explain.specs.Why.{block_text}
-use Rattle.tt_desk.specs.Fields.{field}
+use Rattle.tt_text.specs.Fields.{field}
 use Rattle.tt_desk.specs.declared.refusal.Refusal.{Refusal}
 use Rattle.tt_desk.specs.declared.refusal.Refusal.TheVariants.{BadLine, NoSuchClass, NoSuchStudent, NoSuchTime, RoomNotListed, NotPlaced, Blocked, NoEnrolment, NoSeat, NotSectioned, NothingToUndo, NotReady, NothingPublished}
 

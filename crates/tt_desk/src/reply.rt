@@ -1,5 +1,5 @@
 ghost use Rattle.std.specs.Prelude.{◌≡◌, ◌++◌, [], OnOk, OnErr, codes};
-ghost use Rattle.tt_desk.specs.Fields.{field};
+ghost use Rattle.tt_text.specs.Fields.{field};
 ghost use Rattle.tt_desk.specs.Desk.{out_lines};
 ghost use Rattle.tt_desk.specs.Refusals.{refusal_number, refusal_text, refusal_line};
 ghost use Rattle.tt_desk.specs.Replies.{HasReply, counts_text, moved_text, reply_to, sums_text, totals_line};

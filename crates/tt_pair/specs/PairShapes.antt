@@ -5,22 +5,22 @@ use Rattle.tt_bits.specs.declared.pairs.PairKind.TheVariants.{SameStart, SameTim
 use Rattle.tt_measure.specs.Limits.{most_weeks}
 
 -- the place of a kind among the fifteen
-abbrev pub number_of : PairKind → ℕ
-number_of SameStart = 0
-number_of SameTime = 1
-number_of DifferentTime = 2
-number_of SameDays = 3
-number_of DifferentDays = 4
-number_of SameWeeks = 5
-number_of DifferentWeeks = 6
-number_of Overlap = 7
-number_of NotOverlap = 8
-number_of SameRoom = 9
-number_of DifferentRoom = 10
-number_of SameAttendees = 11
-number_of Precedence = 12
-number_of (WorkDay span) = 13
-number_of (MinGap gap) = 14
+abbrev pub kind_number : PairKind → ℕ
+kind_number SameStart = 0
+kind_number SameTime = 1
+kind_number DifferentTime = 2
+kind_number SameDays = 3
+kind_number DifferentDays = 4
+kind_number SameWeeks = 5
+kind_number DifferentWeeks = 6
+kind_number Overlap = 7
+kind_number NotOverlap = 8
+kind_number SameRoom = 9
+kind_number DifferentRoom = 10
+kind_number SameAttendees = 11
+kind_number Precedence = 12
+kind_number (WorkDay span) = 13
+kind_number (MinGap gap) = 14
 
 -- the slots that a kind names, 0 where it names none
 abbrev pub slots_of : PairKind → ℕ
@@ -30,7 +30,7 @@ slots_of kind = 0
 
 -- the kind, its slots, the number of members and the weeks
 abbrev pub pair_shape : PairKind → ℕ → List ℕ
-pair_shape kind members = number_of kind ∷ slots_of kind ∷ members ∷ most_weeks ∷ []
+pair_shape kind members = kind_number kind ∷ slots_of kind ∷ members ∷ most_weeks ∷ []
 
 -- the fifteen kinds, with these slots where they name some
 abbrev pub kinds : ℕ → List PairKind

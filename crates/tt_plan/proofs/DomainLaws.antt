@@ -6,19 +6,19 @@ use Rattle.std.proofs.lemmas.Option.{slice_get_within, get_or_from_slice_get}
 use Rattle.tt_bits.specs.declared.times.Value.{Value}
 use Rattle.tt_problem.specs.declared.parts.ClassPart.{ClassPart}
 use Rattle.tt_problem.specs.declared.parts.Parts.{Parts}
-use Rattle.tt_plan.specs.Domain.{values_of, value_of, room_count, domain_of, IsValueFor, IsOfDomain}
+use Rattle.tt_plan.specs.Domain.{values_of, value_of, values_per_time, domain_of, IsValueFor, IsOfDomain}
 use Rattle.tt_plan.proofs.DomainLemmas.{value_at_place, places_at}
 
 listed : (c : ClassPart) (v : Value) → IsValueFor c v → Contains (values_of c) v
 listed c v is =
     let stands = value_at_place c v.time v.room is.time is.room in
-    (v.time * room_count c + v.room, slice_get_within (values_of c) _ v stands, get_or_from_slice_get (values_of c) _ v v stands)
+    (v.time * values_per_time c + v.room, slice_get_within (values_of c) _ v stands, get_or_from_slice_get (values_of c) _ v v stands)
 
 is_value : (c : ClassPart) (v : Value) → Contains (values_of c) v → IsValueFor c v
 is_value c v (k, within, is) =
     let places = places_at c k within in
     let P : Value → Type 0 = IsValueFor c in
-    let same = get_or_from_slice_get (values_of c) k (value_of (k / room_count c) (k % room_count c)) v places.value in
+    let same = get_or_from_slice_get (values_of c) k (value_of (k / values_per_time c) (k % values_per_time c)) v places.value in
     subst P (sym same ∙ is) (record { time = places.time; room = places.room })
 
 listed_at : (cs : List ClassPart) (class : ℕ) (v : Value) → class < length cs → IfSome (slice_get cs class) (λ c. IsValueFor c v)

@@ -10,7 +10,7 @@ use Rattle.tt_problem.specs.declared.parts.TimeChoice.{TimeChoice}
 use Rattle.tt_problem.specs.declared.parts.ClassPart.{ClassPart}
 use Rattle.tt_problem.specs.declared.parts.Parts.{Parts}
 use Rattle.tt_problem.specs.Sums.{time_cells, class_cells}
-use Rattle.tt_plan.specs.Domain.{value_of, values_of, room_count, domain_of, IsValueFor, IsOfDomain}
+use Rattle.tt_plan.specs.Domain.{value_of, values_of, values_per_time, domain_of, IsValueFor, IsOfDomain}
 
 most_from : (ts : List TimeChoice) (most : ℕ) → most ≤ fold max most (map time_cells ts)
 most_from [] most = omega arith
@@ -36,8 +36,8 @@ length-grid rooms first (suc times) =
     let later = length-grid rooms (first + 1) times in
     omega arith
 
-pub length_of_values : (c : ClassPart) → length (values_of c) ≡ length c.times * room_count c
-length_of_values c = length-grid (room_count c) 0 (length c.times)
+pub length_of_values : (c : ClassPart) → length (values_of c) ≡ length c.times * values_per_time c
+length_of_values c = length-grid (values_per_time c) 0 (length c.times)
 
 grid-get : (rooms first times time room : ℕ) (d : Value) → time < times → room < rooms
     → get_or (flat_map (λ time. map (value_of time) (range_with_len 0 rooms)) (range_with_len first times)) (time * rooms + room) d ≡ value_of (first + time) room
@@ -62,19 +62,19 @@ place_in_grid time room times rooms in_times in_rooms =
     omega (arith, more, suc-mul time rooms)
 
 -- a value stands at the place that its time and its room give
-pub value_at_place : (c : ClassPart) (time room : ℕ) → time < length c.times → room < room_count c
-    → slice_get (values_of c) (time * room_count c + room) ≡ Some (value_of time room)
+pub value_at_place : (c : ClassPart) (time room : ℕ) → time < length c.times → room < values_per_time c
+    → slice_get (values_of c) (time * values_per_time c + room) ≡ Some (value_of time room)
 value_at_place c time room in_times in_rooms =
     let long = length_of_values c in
-    let within : time * room_count c + room < length (values_of c) = rw long (place_in_grid time room (length c.times) (room_count c) in_times in_rooms) in
-    slice_get-get_or (values_of c) (time * room_count c + room) (value_of time room) within
-    ∙ ap Some (grid-get (room_count c) 0 (length c.times) time room (value_of time room) in_times in_rooms ∙ ap (λ t. value_of t room) (zero-add time))
+    let within : time * values_per_time c + room < length (values_of c) = rw long (place_in_grid time room (length c.times) (values_per_time c) in_times in_rooms) in
+    slice_get-get_or (values_of c) (time * values_per_time c + room) (value_of time room) within
+    ∙ ap Some (grid-get (values_per_time c) 0 (length c.times) time room (value_of time room) in_times in_rooms ∙ ap (λ t. value_of t room) (zero-add time))
 
 -- the places that the value at a place of the domain has in the times and the rooms
 pub record ArePlaces (c : ClassPart) (k : ℕ) : Type 0 where
-  pub time : k / room_count c < length c.times
-  pub room : k % room_count c < room_count c
-  pub value : slice_get (values_of c) k ≡ Some (value_of (k / room_count c) (k % room_count c))
+  pub time : k / values_per_time c < length c.times
+  pub room : k % values_per_time c < values_per_time c
+  pub value : slice_get (values_of c) k ≡ Some (value_of (k / values_per_time c) (k % values_per_time c))
 
 divided : (k n times : ℕ) → 1 ≤ n → k < times * n → k / n < times
 divided k n times some within = (div-lt_iff_lt-mul {k = n} {x = k} {y = times} some).1 within
@@ -84,14 +84,14 @@ joined k n = omega (arith, div-add-mod k n, mul_comm n (k / n))
 
 pub places_at : (c : ClassPart) (k : ℕ) → k < length (values_of c) → ArePlaces c k
 places_at c k within =
-    let some : 1 ≤ room_count c = omega arith in
-    let in_grid : k < length c.times * room_count c = omega (arith, length_of_values c) in
-    let in_times = divided k (room_count c) (length c.times) some in_grid in
-    let in_rooms : k % room_count c < room_count c = mod-lt k some in
+    let some : 1 ≤ values_per_time c = omega arith in
+    let in_grid : k < length c.times * values_per_time c = omega (arith, length_of_values c) in
+    let in_times = divided k (values_per_time c) (length c.times) some in_grid in
+    let in_rooms : k % values_per_time c < values_per_time c = mod-lt k some in
     record {
       time = in_times;
       room = in_rooms;
-      value = let here = value_at_place c (k / room_count c) (k % room_count c) in_times in_rooms in rw (joined k (room_count c)) at here;
+      value = let here = value_at_place c (k / values_per_time c) (k % values_per_time c) in_times in_rooms in rw (joined k (values_per_time c)) at here;
     }
 
 -- the domain of a class that stands there is that of its part
@@ -102,7 +102,7 @@ domain_of-part p class c stands = rw stands
 pub places_in : (p : Parts) (class : ℕ) (c : ClassPart) (k : ℕ) → slice_get p.classes class ≡ Some c → k < length (domain_of p class) → ArePlaces c k
 places_in p class c k stands within = let domain = domain_of-part p class c stands in places_at c k (rw domain at within)
 
-pub value_in : (p : Parts) (class : ℕ) (c : ClassPart) (k n : ℕ) → slice_get p.classes class ≡ Some c → n ≡ room_count c → ArePlaces c k
+pub value_in : (p : Parts) (class : ℕ) (c : ClassPart) (k n : ℕ) → slice_get p.classes class ≡ Some c → n ≡ values_per_time c → ArePlaces c k
     → slice_get (domain_of p class) k ≡ Some (value_of (k / n) (k % n))
 value_in p class c k n stands count places = rw (domain_of-part p class c stands, count) places.value
 

@@ -10,8 +10,8 @@ use Rattle.tt_problem.specs.declared.parts.Parts.{Parts}
 use Rattle.tt_problem.specs.Sums.{cells_at}
 
 -- how many values a class has at each of its times: one for each of its rooms, and one where it needs none
-abbrev pub room_count : ClassPart → ℕ
-room_count c = max 1 (length c.rooms)
+abbrev pub values_per_time : ClassPart → ℕ
+values_per_time c = max 1 (length c.rooms)
 
 -- the value of a place in the times and a place in the rooms
 abbrev pub value_of : ℕ → ℕ → Value
@@ -19,7 +19,7 @@ value_of time room = record { time = time; room = room }
 
 -- the values of a class: for each time in order each room in order
 abbrev pub values_of : ClassPart → List Value
-values_of c = flat_map (λ time. map (value_of time) (range_with_len 0 (room_count c))) (range_with_len 0 (length c.times))
+values_of c = flat_map (λ time. map (value_of time) (range_with_len 0 (values_per_time c))) (range_with_len 0 (length c.times))
 
 -- the domain of the class at a place
 unfoldable pub domain_of : Parts → ℕ → List Value
@@ -28,7 +28,7 @@ domain_of p class = option_map_or values_of (slice_get p.classes class) []
 -- the value names a time of the class, and a room of it where it needs one
 pub record IsValueFor (c : ClassPart) (v : Value) : Type 0 where
   pub time : v.time < length c.times
-  pub room : v.room < room_count c
+  pub room : v.room < values_per_time c
 
 -- the value is of the domain of the class at a place
 pub record IsOfDomain (p : Parts) (class : ℕ) (v : Value) : Type 0 where

@@ -1,6 +1,6 @@
 ghost use Rattle.std.specs.Prelude.{◌≡◌, ◌<◌, ◌≤◌, ◌==◌, IfOk, IfSome, length, position, option_and_then};
 ghost use Rattle.tt_problem.specs.Valid.{IsValidClass};
-ghost use Rattle.tt_plan.specs.Domain.{IsOfDomain, room_count};
+ghost use Rattle.tt_plan.specs.Domain.{IsOfDomain, values_per_time};
 ghost use Rattle.tt_plan.specs.Named.{find_value, room_place};
 
 use tt_bits::Value;
@@ -40,7 +40,7 @@ fn first_place(rooms: &[RoomChoice], room: Option<u32>) -> Option<u16>
 fn room_place(problem: &Problem, part: &ClassPart, room: Option<u32>) -> Option<u16>
     requires { IsValidClass problem.now part.now }
     ensures place { result ≡ room_place problem.now part.now room }
-    ensures within { IfSome result (λ place. place < room_count part.now) }
+    ensures within { IfSome result (λ place. place < values_per_time part.now) }
 {
     let rooms = part.rooms.as_slice();
     match room {

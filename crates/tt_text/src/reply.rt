@@ -1,4 +1,5 @@
 ghost use Rattle.std.specs.Prelude.{◌≡◌, ◌++◌, [], OnErr, OnOk, decimal};
+ghost use Rattle.tt_text.specs.Fields.{field};
 
 use std::alloc::{AllocError, Global};
 use std::marker::Model;
@@ -54,6 +55,15 @@ impl Reply {
         self.text(digits.as_str())
     }
 
+    /// Appends a text and a number. Where memory is wanting, the text may have been appended.
+    #[tactic(auto, using(std::proofs::Common::append_assoc), unfolding(crate::specs::Fields::field))]
+    pub fn field(&mut self, t: &str, n: u128) -> Result<(), AllocError>
+        ensures ok { OnOk result (self.new ≡ self.old ++ field t.now n) }
+    {
+        self.text(t)?;
+        self.number(n)
+    }
+
     /// All that was appended since the reply was made or cleared.
     pub fn bytes(&self) -> &[u8]
         ensures { result.now ≡ self.now }
@@ -78,8 +88,7 @@ mod tests {
     fn grows_by_texts_and_numbers(rt: HostRuntime) -> Result<(), Fail> {
         let mut reply = Reply::new(rt.alloc());
         assert_eq!(rt; reply.bytes(), b"".as_slice());
-        reply.text("ok time ")?;
-        reply.number(0)?;
+        reply.field("ok time ", 0)?;
         reply.text(" room ")?;
         reply.number(340282366920938463463374607431768211455)?;
         assert_eq!(rt;

@@ -6,7 +6,7 @@ use Rattle.std.proofs.lemmas.List.{append-nil}
 use Rattle.tt_io.specs.Causes.{Writes}
 use Rattle.tt_io.specs.Whole.{WritesFront}
 use Rattle.tt_io.proofs.WrittenLemmas.{Writes-append, Writes-front, WritesFront-after}
-use Rattle.tt_desk.specs.Fields.{field}
+use Rattle.tt_text.specs.Fields.{field}
 use Rattle.tt_desk.specs.Script.{lines_of}
 use Rattle.tt_desk.specs.Desk.{Session}
 use Rattle.tt_desk.specs.Replies.{replies_to, refuses}

@@ -1,6 +1,6 @@
 ghost use Rattle.std.specs.Prelude.{◌≡◌, ◌++◌, [], None, IfOk, IfErr, OnOk, codes};
 ghost use Rattle.tt_make.specs.Text.{make_text};
-ghost use Rattle.tt_desk.specs.Fields.{field};
+ghost use Rattle.tt_text.specs.Fields.{field};
 ghost use Rattle.tt_top.specs.Transcript.{demo_script, demo_transcript, make_transcript, opened};
 ghost use Rattle.tt_top.specs.Ends.{EndsPlain, HasEndCause, OpensMade, ServesLines, WritesPlain, seen, status_of};
 ghost use Rattle.tt_top.specs.Asked.{IsClassCount};
