@@ -8,8 +8,8 @@ use Rattle.std.proofs.lemmas.Bool.{cases_Bool, cases_lt, eq-eqb, ne_eqb, false�
 use Rattle.std.proofs.lemmas.Bool.Decides.{eqb_tells}
 use Rattle.tt_clash.specs.ConflictSet.{is_in}
 use Rattle.tt_pool.specs.Places.{places_where}
-use Rattle.tt_pool.proofs.PlaceLemmas.{length-places}
-use Rattle.tt_clash.specs.Marks.{IsListed, AreListed}
+use Rattle.tt_pool.proofs.PlaceLemmas.{length-places, places-each}
+use Rattle.tt_clash.specs.Marks.{IsListed, AreInOrder}
 
 -- a class below those of a range isn't among them
 in-below : (p : ℕ → Bool) (a n d : ℕ) → d < a → is_in (filter p (range_with_len a n)) d ≡ false
@@ -38,29 +38,6 @@ in-range p a (suc n) d low high =
           elim (cases_Bool (p a)) [ inl passes ↦ rw (passes, apart) rest | inr fails ↦ rw fails rest ]
     ]
 
--- a place is among those where a test passes, where it passes there
-places-below : {A : Type 0} (f : A → Bool) (a d : ℕ) (xs : List A) → d < a → is_in (places_where f a xs) d ≡ false
-places-below f a d [] h = refl
-places-below f a d (x ∷ xs) h =
-    let rest : is_in (places_where f (a + 1) xs) d ≡ false = places-below f (a + 1) d xs (omega arith) in
-    let apart : nat_eq d a ≡ false = ne_eqb d a (λ e. absurd (omega arith)) in
-    elim (cases_Bool (f x)) [ inl passes ↦ rw (passes, apart) rest | inr fails ↦ rw fails rest ]
-
-places-from : {A : Type 0} (f : A → Bool) (e : A) (a d : ℕ) (xs : List A) → f e ≡ false → is_in (places_where f a xs) (a + d) ≡ f (get_or xs d e)
-places-from f e a d [] none = sym none
-places-from f e a zero (x ∷ xs) none =
-    let same : a + 0 ≡ a = omega arith in
-    let equal : nat_eq a a ≡ true = eq-eqb a a refl in
-    elim (cases_Bool (f x)) [ inl passes ↦ rw (same, passes, equal) refl | inr fails ↦ rw (same, fails) (places-below f (a + 1) a xs (omega arith)) ]
-places-from f e a (suc d) (x ∷ xs) none =
-    let on : a + 1 + d ≡ a + suc d = omega arith in
-    let rest : is_in (places_where f (a + 1) xs) (a + suc d) ≡ f (get_or xs d e) = rw on at (places-from f e (a + 1) d xs none) in
-    let apart : nat_eq (a + suc d) a ≡ false = ne_eqb (a + suc d) a (λ same. absurd (omega (arith, same))) in
-    elim (cases_Bool (f x)) [ inl passes ↦ rw (passes, apart) rest | inr fails ↦ rw fails rest ]
-
-pub places-each : {A : Type 0} (f : A → Bool) (e : A) (d : ℕ) (xs : List A) → f e ≡ false → is_in (places_where f 0 xs) d ≡ f (get_or xs d e)
-places-each f e d xs none = let same : 0 + d ≡ d = omega arith in rw same at (places-from f e 0 d xs none)
-
 -- the places of the marks are the classes that pass a test that the marks tell
 places-filter : (test : ℕ → Bool) (from : ℕ) (marks : List Bool) → ((k : ℕ) → get_or marks k false ≡ test (from + k)) → places_where (λ b. b) from marks ≡ filter test (range_with_len from (length marks))
 places-filter test from [] each = refl
@@ -76,7 +53,7 @@ places-filter test from (b ∷ marks) each =
 pub marked-filter : (test : ℕ → Bool) (marks : List Bool) → ((d : ℕ) → get_or marks d false ≡ test d) → places_where (λ b. b) 0 marks ≡ filter test (range_with_len 0 (length marks))
 marked-filter test marks each = places-filter test 0 marks (λ d. each d ∙ ap test (omega arith))
 
-pub is-listed : (marks : List Bool) (order : List ℕ) (count : ℕ) → AreListed marks order count → IsListed marks order count
+pub is-listed : (marks : List Bool) (order : List ℕ) (count : ℕ) → AreInOrder marks order count → IsListed marks order count
 is-listed marks order count listed =
     record {
       counted = omega (arith, listed.few, length-take count order, ap length listed.list, length-places (λ b. b) 0 marks);
@@ -112,7 +89,7 @@ none-marked : (from : ℕ) (marks : List Bool) → AllByRecursion (λ b. b ≡ f
 none-marked from [] none = refl
 none-marked from (b ∷ marks) none = let here = none.0 in rw here (none-marked (from + 1) marks none.1)
 
-pub none-listed : (marks : List Bool) (order : List ℕ) → All (λ b. b ≡ false) marks → AreListed marks order 0
+pub none-listed : (marks : List Bool) (order : List ℕ) → All (λ b. b ≡ false) marks → AreInOrder marks order 0
 none-listed marks order none = record {
   list = none-marked 0 marks (recursion_from_All (λ (b : Bool). b ≡ false) marks none);
   few = omega arith;

@@ -7,12 +7,11 @@ use Rattle.tt_bits.specs.declared.times.Spot.{Spot}
 use Rattle.tt_bits.specs.Pairs.{is_one_room}
 use Rattle.tt_bits.specs.Times.{overlaps}
 use Rattle.tt_bits.specs.Spots.{spot_at}
-use Rattle.tt_pool.proofs.PlaceLemmas.{places-within}
+use Rattle.tt_pool.proofs.PlaceLemmas.{places-within, places-each}
 use Rattle.tt_occupancy.specs.Rooms.{is_in_room, classes_in}
 use Rattle.tt_occupancy.specs.Clashes.{clash}
 use Rattle.tt_clash.specs.ConflictSet.{is_in}
-use Rattle.tt_clash.specs.Marks.{clashes_in_room}
-use Rattle.tt_clash.proofs.ListedLemmas.{places-each}
+use Rattle.tt_occupancy.specs.Clashes.{clashes_in_room}
 
 -- the classes that pass are marked, but for those of the list
 abbrev pub AreMarked : (ℕ → Bool) → List Bool → List ℕ → Type 0

@@ -15,7 +15,7 @@ use Rattle.tt_problem.specs.declared.parts.RulePlace.{RulePlace}
 use Rattle.tt_problem.specs.declared.parts.Parts.{Parts}
 use Rattle.tt_clash.specs.Rules.{is_required_group}
 use Rattle.tt_clash.specs.Lent.{SameGroup}
-use Rattle.tt_clash.specs.Groups.{SameGroups, AreGroupsOf}
+use Rattle.tt_clash.specs.Groups.{SameGroups, AreHeldBy}
 use Rattle.tt_clash.specs.ConflictSet.{with_rule, out_for}
 
 -- nothing done yet
@@ -33,7 +33,7 @@ same-set held weeks spare shape before now k d m same kept = record {
 }
 
 pub groups-set : {M : Type 0} (held : M → List (Option Spot)) (weeks : M → ℕ) (spare : M → Option ℕ) (shape : M → List ℕ) (fits : M → Table → Type 0) (p : Parts) (spots : List (Option Spot)) (now : List M) (k : ℕ) (d m : M) → k < length now
-    → AreGroupsOf held weeks fits p spots now → SameGroup held weeks spare shape (get_or now k d) m → fits m p.travel → AreGroupsOf held weeks fits p spots (slice_set now k m)
+    → AreHeldBy held weeks fits p spots now → SameGroup held weeks spare shape (get_or now k d) m → fits m p.travel → AreHeldBy held weeks fits p spots (slice_set now k m)
 groups-set held weeks spare shape fits p spots now k d m within groups kept fit = record {
   holds = map-set_same held now k m d kept.held_kept ∙ groups.holds;
   all_fit = All-set (λ n. fits n p.travel) now k m fit groups.all_fit;
@@ -41,12 +41,12 @@ groups-set held weeks spare shape fits p spots now k d m within groups kept fit 
 }
 
 -- one group per rule
-pub groups-many : {M : Type 0} (held : M → List (Option Spot)) (weeks : M → ℕ) (fits : M → Table → Type 0) (p : Parts) (spots : List (Option Spot)) (now : List M) → AreGroupsOf held weeks fits p spots now → length now ≡ length p.rules
+pub groups-many : {M : Type 0} (held : M → List (Option Spot)) (weeks : M → ℕ) (fits : M → Table → Type 0) (p : Parts) (spots : List (Option Spot)) (now : List M) → AreHeldBy held weeks fits p spots now → length now ≡ length p.rules
 groups-many held weeks fits p spots now groups =
     omega (arith, length-map now held, length-map p.rules (λ (r : Rule). map (spot_at spots) r.members), ap length groups.holds)
 
 -- the group of a rule holds what the plan says of its members
-pub group-holds : {M : Type 0} (held : M → List (Option Spot)) (weeks : M → ℕ) (fits : M → Table → Type 0) (p : Parts) (spots : List (Option Spot)) (now : List M) (k : ℕ) (d : M) (rule : Rule) → AreGroupsOf held weeks fits p spots now
+pub group-holds : {M : Type 0} (held : M → List (Option Spot)) (weeks : M → ℕ) (fits : M → Table → Type 0) (p : Parts) (spots : List (Option Spot)) (now : List M) (k : ℕ) (d : M) (rule : Rule) → AreHeldBy held weeks fits p spots now
     → k < length now → slice_get p.rules k ≡ Some rule → held (get_or now k d) ≡ map (spot_at spots) rule.members
 group-holds held weeks fits p spots now k d rule groups within is =
     let many = groups-many held weeks fits p spots now groups in

@@ -5,12 +5,7 @@ use Rattle.tt_bits.specs.declared.pairs.PairKind.{PairKind}
 use Rattle.tt_bits.specs.Spots.{spot_at}
 use Rattle.tt_travel.specs.Table.{Table}
 use Rattle.tt_pool.specs.Places.{places_where}
-use Rattle.tt_occupancy.specs.Clashes.{clash}
 use Rattle.tt_clash.specs.ConflictSet.{is_in, passes, breaks_at, breaks_pair}
-
--- d overlaps c in its room
-abbrev pub clashes_in_room : List (Option Spot) → ℕ → Spot → ℕ → Bool
-clashes_in_room spots c x d = passes spots c (clash x) d
 
 -- the member d at another place breaks the pair rule with c
 abbrev pub breaks_with : Table → PairKind → List (Option Spot) → ℕ → ℕ → Spot → ℕ → ℕ → Bool
@@ -42,6 +37,6 @@ pub record IsListed (marks : List Bool) (order : List ℕ) (count : ℕ) : Type 
   pub each : (d : ℕ) → slice_index_or marks d false ≡ is_in (take count order) d
 
 -- the first `count` classes of `order` are the marked ones, in order
-pub record AreListed (marks : List Bool) (order : List ℕ) (count : ℕ) : Type 0 where
+pub record AreInOrder (marks : List Bool) (order : List ℕ) (count : ℕ) : Type 0 where
   pub list : take count order ≡ places_where (λ b. b) 0 marks
   pub few : count ≤ length order

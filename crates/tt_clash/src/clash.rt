@@ -1,20 +1,22 @@
-ghost use Rattle.std.specs.Prelude.{◌≡◌, ℕ, ◌<◌, ◌≤◌, All, ◌||◌, true, false, slice_index_or, slice_set, length, take, nat_lt};
-ghost use Rattle.std.specs.List.{position_or_len};
+ghost use Rattle.std.specs.Prelude.{◌≡◌, ℕ, ◌<◌, ◌≤◌, All, ◌||◌, true, false, slice_index_or, slice_set, length, take};
 ghost use Rattle.tt_bits.specs.Spots.{IsBelow};
 ghost use Rattle.tt_travel.specs.Table.{IsRoomOf};
 ghost use Rattle.tt_measure.specs.Held.{AreRoomsOf};
+ghost use Rattle.tt_occupancy.specs.Clashes.{clashes_in_room};
 ghost use Rattle.tt_problem.specs.RulePlaces.{rules_of};
 ghost use Rattle.tt_clash.specs.ConflictSet.{clashing, conflict_set, is_in};
 ghost use Rattle.tt_clash.specs.Freed.{IsFreeAlone, IsFreedRule};
-ghost use Rattle.tt_clash.specs.Groups.{amounts_of, SameGroups, AreGroupsOf};
-ghost use Rattle.tt_clash.specs.Marks.{IsListed, AreListed, clashes_in_room, clashes_in_rule, breaks_with};
+ghost use Rattle.tt_clash.specs.RulesOf.{IsRuleOf};
+ghost use Rattle.tt_clash.specs.Groups.{amounts_of, SameGroups, AreHeldBy};
+ghost use Rattle.tt_clash.specs.Marks.{IsListed, AreInOrder, clashes_in_rule, breaks_with};
 
 use crate::group::make_room;
 use crate::rules::{is_required_group, required_pair, rules_of};
 use tt_bits::{PairKind, Spot, holds};
 use tt_measure::Measure;
-use tt_occupancy::Occupancy;
-use tt_problem::Problem;
+use tt_occupancy::{Occupancy, clashes_in_room};
+use tt_pool::place_in_order;
+use tt_problem::{Problem, RulePlace};
 use tt_travel::Travel;
 
 /// Lists the classes that have to go where the class is forced to the spot. `order` begins with
@@ -35,7 +37,7 @@ pub fn conflicts<M: Measure>(
     requires weeks { IsBelow problem.now.nr_weeks spot }
     requires rooms { AreRoomsOf problem.now.travel spots.now }
     requires occupancy { occupancy.now.spots ≡ spots.now }
-    requires groups { AreGroupsOf M.held M.weeks M.fits problem.now spots.now groups.old }
+    requires groups { AreHeldBy M.held M.weeks M.fits problem.now spots.now groups.old }
     requires free { All (IsFreeAlone problem.now (amounts_of M.shape M.sum problem.now.travel groups.old) class spot) (rules_of problem.now class) }
     requires marks { length marks.old ≡ length spots.now }
     requires unmarked { All (λ b. b ≡ false) marks.old }
@@ -43,12 +45,12 @@ pub fn conflicts<M: Measure>(
     ensures set { take result order.new ≡ conflict_set problem.now (amounts_of M.shape M.sum problem.now.travel groups.old) spots.now class spot }
     ensures few { result ≤ length order.new }
     ensures frees { All (IsFreedRule problem.now (amounts_of M.shape M.sum problem.now.travel groups.old) spots.now class spot (take result order.new)) (rules_of problem.now class) }
-    ensures groups { AreGroupsOf M.held M.weeks M.fits problem.now spots.now groups.new }
+    ensures groups { AreHeldBy M.held M.weeks M.fits problem.now spots.now groups.new }
     ensures same { SameGroups M.held M.weeks M.spare M.shape groups.old groups.new }
     ensures marks { marks.new ≡ marks.old }
 {
     let rules = rules_of(problem, class);
-    let mut count = list_clashing(problem, spots, occupancy, class, spot, marks, order);
+    let mut count = list_clashing(problem, rules, spots, occupancy, class, spot, marks, order);
     for with in rules {
         let rule = problem.rule(with.rule);
         if is_required_group(rule) {
@@ -70,10 +72,11 @@ pub fn conflicts<M: Measure>(
     count
 }
 
-/// Marks and lists the classes that clash with the class at the spot, in order. The answer is how
-/// many they are.
+/// Marks and lists the classes that clash with the class at the spot, in order. `rules` are those
+/// that have the class. The answer is how many they are.
 fn list_clashing(
     problem: &Problem,
+    rules: &[RulePlace],
     spots: &[Option<Spot>],
     occupancy: &Occupancy,
     class: u32,
@@ -81,7 +84,9 @@ fn list_clashing(
     marks: &mut [bool],
     order: &mut [u32],
 ) -> u32
-    requires class { class < length problem.now.classes }
+    requires rules { rules.now ≡ rules_of problem.now class }
+    requires each { All (IsRuleOf problem.now class) rules.now }
+    requires few_classes { length problem.now.classes ≤ 20000 }
     requires spots { length spots.now ≡ length problem.now.classes }
     requires room { IsRoomOf problem.now.travel spot.room }
     requires rooms { AreRoomsOf problem.now.travel spots.now }
@@ -93,7 +98,6 @@ fn list_clashing(
     ensures listed { IsListed marks.new order.new result }
     ensures few { result ≤ length order.new }
 {
-    let rules = rules_of(problem, class);
     let mut count = list_room(occupancy, class, spot, marks, order);
     for with in rules {
         let rule = problem.rule(with.rule);
@@ -129,7 +133,7 @@ fn list_room(
     requires few { length marks.old ≤ 20000 }
     requires order { length order.old ≡ length marks.old }
     ensures marks { (d : ℕ) → slice_index_or marks.new d false ≡ clashes_in_room occupancy.now.spots except spot d }
-    ensures listed { AreListed marks.new order.new result }
+    ensures listed { AreInOrder marks.new order.new result }
 {
     let Some(classes) = occupancy.classes_in(spot.room) else {
         return 0;
@@ -137,24 +141,11 @@ fn list_room(
     let spots = occupancy.spots();
     let mut count = 0;
     for other in classes {
-        if clashes_in_room(spots, except, spot, other) {
+        if clashes_in_room(spots, except, &spot, other) {
             count = list_one(marks, order, count, other);
         }
     }
     count
-}
-
-/// Whether a class but one is placed and overlaps the spot in its room.
-#[tactic(auto, unfolding(tt_occupancy::specs::Clashes::clash))]
-fn clashes_in_room(spots: &[Option<Spot>], except: u32, spot: Spot, class: u32) -> bool
-    requires { class < length spots.now }
-    ensures { result ≡ clashes_in_room spots.now except spot class }
-{
-    class != except
-        && match spots[class as usize] {
-            Some(other) => spot.shares_room(&other) && spot.time.overlaps(&other.time),
-            None => false,
-        }
 }
 
 /// Marks and lists the classes that break a pair rule with the class at the spot. The answer is how
@@ -177,10 +168,10 @@ fn list_pairs(
     requires marks { length marks.old ≡ length spots.now }
     requires few { length marks.old ≤ 20000 }
     requires order { length order.old ≡ length marks.old }
-    requires listed { AreListed marks.old order.old listed }
+    requires listed { AreInOrder marks.old order.old listed }
     ensures marks { (d : ℕ) → slice_index_or marks.new d false
         ≡ (slice_index_or marks.old d false || clashes_in_rule travel.now kind members.now spots.now class place spot d) }
-    ensures listed { AreListed marks.new order.new result }
+    ensures listed { AreInOrder marks.new order.new result }
 {
     let mut count = listed;
     for other in 0..members.len() {
@@ -227,32 +218,19 @@ fn list_one(marks: &mut [bool], order: &mut [u32], count: u32, class: u32) -> u3
     requires class { class < length marks.old }
     requires few { length marks.old ≤ 20000 }
     requires order { length order.old ≡ length marks.old }
-    requires listed { AreListed marks.old order.old count }
+    requires listed { AreInOrder marks.old order.old count }
     ensures marks { marks.new ≡ slice_set marks.old class true }
-    ensures listed { AreListed marks.new order.new result }
+    ensures listed { AreInOrder marks.new order.new result }
 {
     if marks[class as usize] {
         return count;
     }
     let end = count as usize;
-    let at = place_among(&order[..end], class);
+    let at = place_in_order(&order[..end], class);
     order.copy_within(at..end, at + 1);
     order[at] = class;
     marks[class as usize] = true;
     count + 1
-}
-
-/// How many classes are listed before the first that is above the class.
-fn place_among(listed: &[u32], class: u32) -> usize
-    ensures place { result ≡ position_or_len (nat_lt class) listed.now }
-    ensures within { result ≤ length listed.now }
-{
-    for at in 0..listed.len() {
-        if class < listed[at] {
-            return at;
-        }
-    }
-    listed.len()
 }
 
 /// Takes the marks off the listed classes.

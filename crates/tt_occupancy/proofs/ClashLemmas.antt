@@ -11,7 +11,7 @@ use Rattle.tt_bits.specs.Spots.{spot_at, IsEmptyAt, placed}
 use Rattle.tt_bits.proofs.TimeLemmas.{overlaps-sym}
 use Rattle.tt_bits.proofs.SpotLemmas.{set_back, set_empty, emptied, full_within, length-placed, count-placed-set}
 use Rattle.tt_occupancy.specs.Kept.{AreCounted}
-use Rattle.tt_occupancy.specs.Clashes.{clash, clash_pairs, clashing, room_cells, cells_taken}
+use Rattle.tt_occupancy.specs.Clashes.{clash, clash_pairs, clash_count, room_cells, cells_taken}
 
 eq-turned : (a b : ℕ) → (a == b) ≡ (b == a)
 eq-turned a b = grind (arith, nat_tests)
@@ -52,13 +52,13 @@ clash_pairs-set (Some y ∷ h) (suc p) x e =
 
 -- the clashes of a class that is placed are among all
 pub clash_pairs-full : (h : List (Option Spot)) (p : ℕ) (x : Spot) → spot_at h p ≡ Some x
-    → clash_pairs h ≡ clash_pairs (slice_set h p None) + clashing h x p
+    → clash_pairs h ≡ clash_pairs (slice_set h p None) + clash_count h x p
 clash_pairs-full h p x full =
     let within = full_within h p (rw full refl) in
     sym (ap clash_pairs (set_back h p x full)) ∙ clash_pairs-set (slice_set h p None) p x (emptied h p within)
 
-pub clashing-empty : (h : List (Option Spot)) (p : ℕ) (x : Spot) → IsEmptyAt h p → clashing h x p ≡ count_by (clash x) (placed h)
-clashing-empty h p x e = ap (λ l. count_by (clash x) (placed l)) (set_empty h p e)
+pub clash_count-empty : (h : List (Option Spot)) (p : ℕ) (x : Spot) → IsEmptyAt h p → clash_count h x p ≡ count_by (clash x) (placed h)
+clash_count-empty h p x e = ap (λ l. count_by (clash x) (placed l)) (set_empty h p e)
 
 -- the links taken, where one class comes
 pub cells_taken-put : (h : List (Option Spot)) (p : ℕ) (x : Spot) → IsEmptyAt h p
@@ -108,10 +108,10 @@ AreCounted-new n spare few all = record {
 }
 
 -- what is kept when a class comes
-pub AreCounted-put : (h : List (Option Spot)) (p spare clashes more cells : ℕ) (x : Spot) → more ≡ clashing h x p → cells ≡ room_cells x
+pub AreCounted-put : (h : List (Option Spot)) (p spare clashes more cells : ℕ) (x : Spot) → more ≡ clash_count h x p → cells ≡ room_cells x
     → AreCounted h spare clashes → IsEmptyAt h p → cells ≤ spare → (clashes + more < 2 ^ 64) × AreCounted (slice_set h p (Some x)) (spare - cells) (clashes + more)
 AreCounted-put h p spare clashes more cells x is cells_are kept empty room =
-    let now : clashes + more ≡ clash_pairs (slice_set h p (Some x)) = omega (arith, kept.counted, is, clashing-empty h p x empty, clash_pairs-set h p x empty) in
+    let now : clashes + more ≡ clash_pairs (slice_set h p (Some x)) = omega (arith, kept.counted, is, clash_count-empty h p x empty, clash_pairs-set h p x empty) in
     let few : length (slice_set h p (Some x)) < 2 ^ 32 = omega (arith, kept.few, length-set h p (Some x)) in (
       omega (arith, now, few_clashes (slice_set h p (Some x)) few),
       record {
@@ -122,7 +122,7 @@ AreCounted-put h p spare clashes more cells x is cells_are kept empty room =
     )
 
 -- what is kept when a class goes
-pub AreCounted-take : (h : List (Option Spot)) (p spare clashes less cells : ℕ) (x : Spot) → less ≡ clashing h x p → cells ≡ room_cells x
+pub AreCounted-take : (h : List (Option Spot)) (p spare clashes less cells : ℕ) (x : Spot) → less ≡ clash_count h x p → cells ≡ room_cells x
     → AreCounted h spare clashes → spot_at h p ≡ Some x → (less ≤ clashes) × AreCounted (slice_set h p None) (spare + cells) (clashes - less)
 AreCounted-take h p spare clashes less cells x is cells_are kept full =
     let all = clash_pairs-full h p x full in (
@@ -135,6 +135,6 @@ AreCounted-take h p spare clashes less cells x is cells_are kept full =
     )
 
 -- no more clashes than classes
-pub few_clashing : (h : List (Option Spot)) (x : Spot) (except : ℕ) → clashing h x except ≤ length h
-few_clashing h x except =
+pub few_clash_count : (h : List (Option Spot)) (x : Spot) (except : ℕ) → clash_count h x except ≤ length h
+few_clash_count h x except =
     omega (arith, count_by-le-length (clash x) (placed (slice_set h except None)), length-placed (slice_set h except None), length-set h except None)

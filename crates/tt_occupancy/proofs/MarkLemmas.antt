@@ -1,10 +1,9 @@
 -- Marks that are set one by one.
 use Rattle.std.proofs.Common.{◌≡◌, ◌≢◌, ◌∙◌, ℕ, ◌<◌, Bool, true, false, cond, List, ◌∷◌, length, count_by, refl, sym, ap, inl, inr, arith}
 use Rattle.std.specs.Prelude.{slice_set, slice_index_or, ◌==◌, ◌||◌}
-use Rattle.std.proofs.lemmas.Bool.{cases_eq, false≢true}
+use Rattle.std.proofs.lemmas.Bool.{cases_eq, ne_eqb, false≢true}
 use Rattle.std.proofs.lemmas.List.{get_or-set_same, get_or-set_other}
 use Rattle.std.proofs.lemmas.List.Sums.{sum_by-cons}
-use Rattle.tt_pool.proofs.Search.{tests_false}
 
 -- the marks of the places that pass a test are set, but for those of the list
 pub record AreMarked (test : ℕ → Bool) (old new : List Bool) (rest : List ℕ) : Type 0 where
@@ -22,7 +21,7 @@ or_true false b e = sym e
 -- a place behind the first
 behind : (k x : ℕ) (xs rest : List ℕ) → xs ≡ x ∷ rest → x ≢ k → count_by (λ y. y == k) rest ≡ 0 → count_by (λ y. y == k) xs ≡ 0
 behind k x xs rest e ne none =
-    ap (count_by (λ y. y == k)) e ∙ omega (arith, sum_by-cons (λ y. cond (y == k) 1 0) x rest, ap {B = ℕ} (λ (b : Bool). cond b 1 0) (tests_false x k ne), none)
+    ap (count_by (λ y. y == k)) e ∙ omega (arith, sum_by-cons (λ y. cond (y == k) 1 0) x rest, ap {B = ℕ} (λ (b : Bool). cond b 1 0) (ne_eqb x k ne), none)
 
 pub AreMarked-start : (test : ℕ → Bool) (old : List Bool) (xs : List ℕ) → ((k : ℕ) → count_by (λ y. y == k) xs ≡ 0 → test k ≡ false) → AreMarked test old old xs
 AreMarked-start test old xs others = record { done = λ k none. or_false (slice_index_or old k false) (test k) (others k none); kept = λ k e. refl }

@@ -1,10 +1,10 @@
 -- The classes of each room, while classes come and go.
-use Rattle.std.proofs.Common.{◌≡◌, ◌≢◌, ◌∙◌, ℕ, ◌+◌, ◌<◌, Bool, true, false, cond, List, [], ◌∷◌, Option, Some, None, length, count_by, sum_by, refl, sym, ap, zero, suc, inl, inr, arith}
-use Rattle.std.specs.Prelude.{slice_set, slice_index_or, replicate, nat_lt, is_some, ◌==◌, All}
+use Rattle.std.proofs.Common.{◌≡◌, ◌≢◌, ◌∙◌, ℕ, ◌+◌, ◌<◌, Bool, true, false, cond, List, [], ◌∷◌, Option, Some, None, length, count_by, refl, sym, ap, zero, suc, inl, inr, arith}
+use Rattle.std.specs.Prelude.{slice_set, slice_index_or, replicate, nat_lt, not, is_some, ◌==◌, All}
 use Rattle.std.specs.List.{insert, remove, position_or_len}
 use Rattle.std.specs.Option.{option_map_or}
 use Rattle.std.proofs.Math.ListN.{get_or-eq_default}
-use Rattle.std.proofs.lemmas.Bool.{cases_Bool, cases_eq, cases_lt}
+use Rattle.std.proofs.lemmas.Bool.{cases_Bool, cases_eq, cases_lt, and_right, eq-eqb, ne_eqb}
 use Rattle.std.proofs.lemmas.List.{length-replicate, length-set, get_or-set_same, get_or-set_other}
 use Rattle.std.proofs.lemmas.List.Sums.{sum_by-cons, sum_by-set, count_by-le-length}
 use Rattle.tt_bits.specs.declared.times.Spot.{Spot}
@@ -13,10 +13,9 @@ use Rattle.tt_bits.specs.Spots.{spot_at, IsEmptyAt}
 use Rattle.tt_bits.proofs.SpotLemmas.{count_by-placed, full_within}
 use Rattle.tt_pool.specs.Places.{places_where}
 use Rattle.tt_pool.specs.Pools.{Pooled, list_at}
-use Rattle.tt_pool.proofs.Search.{tests_true, tests_false}
-use Rattle.tt_pool.proofs.PlaceLemmas.{places-more, places-less, places-same, places-found, places-within}
+use Rattle.tt_pool.proofs.PlaceLemmas.{places-more, places-less, places-same, places-found, places-within, sum-places_of}
 use Rattle.tt_occupancy.specs.Rooms.{is_in_room, has_room, classes_in, AreListed}
-use Rattle.tt_occupancy.specs.Clashes.{clash, clashes_at, clashing}
+use Rattle.tt_occupancy.specs.Clashes.{clash, clashes_in_room, clash_count}
 
 -- nobody is in no room
 pub none_in_no_room : (from : ℕ) (h : List (Option Spot)) → places_where (is_in_room None) from h ≡ []
@@ -48,52 +47,28 @@ unfolding clash
 no_clash x None e = refl
 no_clash x (Some y) e = rw e refl
 
--- an emptied place has no spot
-emptied_at : (h : List (Option Spot)) (p : ℕ) → spot_at (slice_set h p None) p ≡ None
-emptied_at [] p = refl
-emptied_at (s ∷ h) zero = refl
-emptied_at (s ∷ h) (suc p) = emptied_at h p
+no_clash_at : (h : List (Option Spot)) (x : Spot) (except class : ℕ) → is_in_room x.room (spot_at h class) ≡ false → clashes_in_room h except x class ≡ false
+no_clash_at h x except class e = and_right (not (class == except)) _ (no_clash x (spot_at h class) e)
 
-no_clash_at : (h : List (Option Spot)) (x : Spot) (except class : ℕ) → is_in_room x.room (spot_at h class) ≡ false → clashes_at h x except class ≡ false
-no_clash_at h x except class e =
+-- a class clashes where it does once the one excepted is taken out
+clashes_without : (h : List (Option Spot)) (x : Spot) (except class : ℕ) → class < length h
+    → option_map_or (clash x) (spot_at (slice_set h except None) class) false ≡ clashes_in_room h except x class
+clashes_without h x except class within =
     elim (cases_eq class except) [
-      | inl same ↦ rw (same, emptied_at h except) refl
-      | inr other ↦ let is : spot_at (slice_set h except None) class ≡ spot_at h class = get_or-set_other h except class None None other in rw is (no_clash x (spot_at h class) e)
+      | inl same ↦ rw (← same, get_or-set_same h class None None within, eq-eqb class class refl) refl
+      | inr other ↦ rw (get_or-set_other h except class None None other, ne_eqb class except other) refl
     ]
 
-pub no_clash_unlisted : (h : List (Option Spot)) (x : Spot) (except class : ℕ) → count_by (λ y. y == class) (classes_in h x.room) ≡ 0 → clashes_at h x except class ≡ false
+pub no_clash_unlisted : (h : List (Option Spot)) (x : Spot) (except class : ℕ) → count_by (λ y. y == class) (classes_in h x.room) ≡ 0 → clashes_in_room h except x class ≡ false
 no_clash_unlisted h x except class unused = no_clash_at h x except class (is_elsewhere h x.room class unused)
 
--- a sum over the places of one list is a sum over another that has nothing elsewhere
-sum-places_of : {A : Type 0} (f : A → Bool) (g : ℕ → ℕ) (h : A → ℕ) (from : ℕ) (xs ys : List A) (d : A) → length xs ≡ length ys
-    → ((i : ℕ) → i < length xs → g (from + i) ≡ h (slice_index_or ys i d))
-    → ((i : ℕ) → i < length xs → f (slice_index_or xs i d) ≡ false → h (slice_index_or ys i d) ≡ 0)
-    → sum_by g (places_where f from xs) ≡ sum_by h ys
-sum-places_of f g h from [] [] d len same none = refl
-sum-places_of f g h from [] (y ∷ ys) d len same none = absurd (omega (arith, len))
-sum-places_of f g h from (x ∷ xs) [] d len same none = absurd (omega (arith, len))
-sum-places_of f g h from (x ∷ xs) (y ∷ ys) d len same none =
-    let start : from + 0 ≡ from = omega arith in
-    let first : g from ≡ h y = rw start at (same 0 (omega arith)) in
-    let rest = sum-places_of f g h (from + 1) xs ys d (omega (arith, len))
-    (λ i lt. let e : from + 1 + i ≡ from + suc i = omega arith in rw e (same (suc i) (omega (arith, lt))))
-    (λ i lt. none (suc i) (omega (arith, lt))) in
-    let all = sum_by-cons h y ys in
-    elim (cases_Bool (f x)) [
-      | inl passes ↦
-          let here : places_where f from (x ∷ xs) ≡ from ∷ places_where f (from + 1) xs = rw passes refl in
-          omega (arith, ap (sum_by g) here, sum_by-cons g from (places_where f (from + 1) xs), first, rest, all)
-      | inr fails ↦
-          let here : places_where f from (x ∷ xs) ≡ places_where f (from + 1) xs = rw fails refl in
-          omega (arith, ap (sum_by g) here, rest, all, none 0 (omega arith) fails)
-    ]
-
 -- the clashes among the classes of the room are all
-pub clashing_in_room : (h : List (Option Spot)) (x : Spot) (except : ℕ) → count_by (clashes_at h x except) (classes_in h x.room) ≡ clashing h x except
-clashing_in_room h x except =
-    sum-places_of (is_in_room x.room) (λ class. cond (clashes_at h x except class) 1 0) (λ s. cond (option_map_or (clash x) s false) 1 0)
-    0 h (slice_set h except None) None (sym (length-set h except None)) (λ i lt. rw (from_zero i) refl)
-    (λ i lt e. ap {B = ℕ} (λ (b : Bool). cond b 1 0) (no_clash_at h x except i e))
+pub clash_count-in_room : (h : List (Option Spot)) (x : Spot) (except : ℕ) → count_by (clashes_in_room h except x) (classes_in h x.room) ≡ clash_count h x except
+clash_count-in_room h x except =
+    let one : Bool → ℕ = λ b. cond b 1 0 in
+    sum-places_of (is_in_room x.room) (λ class. one (clashes_in_room h except x class)) (λ s. one (option_map_or (clash x) s false))
+    0 h (slice_set h except None) None (sym (length-set h except None)) (λ i lt passes. rw (from_zero i) (ap one (sym (clashes_without h x except i lt))))
+    (λ i lt fails. ap one (clashes_without h x except i lt ∙ no_clash_at h x except i fails))
     ∙ sym (count_by-placed (clash x) (slice_set h except None))
 
 -- nobody placed: empty lists
@@ -145,10 +120,10 @@ AreListed-same h p s pool within had has kept = record {
 }
 
 in_its_room : (x : Spot) (room : ℕ) → x.room ≡ Some room → is_in_room (Some room) (Some x) ≡ true
-in_its_room x room e = rw e (tests_true room room refl)
+in_its_room x room e = rw e (eq-eqb room room refl)
 
 in_no_other : (x : Spot) (room other : ℕ) → x.room ≡ Some room → other ≢ room → is_in_room (Some other) (Some x) ≡ false
-in_no_other x room other e ne = rw e (tests_false other room ne)
+in_no_other x room other e ne = rw e (ne_eqb other room ne)
 
 -- a free place is spare where a class comes
 pub spare_for : (h : List (Option Spot)) (p : ℕ) (x : Spot) (room : ℕ) (pool : Pooled) → AreListed h pool → IsEmptyAt h p → x.room ≡ Some room → 0 < pool.spare
@@ -214,7 +189,3 @@ AreListed-leave h p x room old new kept full is lists spare =
 -- the classes in a room are classes
 pub classes-within : (h : List (Option Spot)) (room : Option ℕ) → All (λ class. class < length h) (classes_in h room)
 classes-within h room = places-within (is_in_room room) 0 (length h) h (omega arith)
-
--- a count of what is still to come, after its first
-pub count_step : (p : ℕ → Bool) (xs : List ℕ) (x : ℕ) (rest : List ℕ) (b : Bool) → xs ≡ x ∷ rest → p x ≡ b → count_by p xs ≡ cond b 1 0 + count_by p rest
-count_step p xs x rest b e is = ap (count_by p) e ∙ rw (← is) (sum_by-cons (λ y. cond (p y) 1 0) x rest)

@@ -1,5 +1,5 @@
 -- Placed classes that have the same room and overlap.
-use Rattle.std.specs.Prelude.{ℕ, ◌+◌, Bool, false, ◌&&◌, List, [], ◌∷◌, Option, None, slice_set, count_by, sum_by}
+use Rattle.std.specs.Prelude.{ℕ, ◌+◌, Bool, false, not, ◌&&◌, ◌==◌, List, [], ◌∷◌, Option, None, slice_set, count_by, sum_by}
 use Rattle.std.specs.Option.{option_map_or}
 use Rattle.tt_bits.specs.declared.times.Spot.{Spot}
 use Rattle.tt_bits.specs.Pairs.{is_one_room}
@@ -20,12 +20,12 @@ abbrev pub clash_pairs : List (Option Spot) → ℕ
 clash_pairs spots = clashes_among (placed spots)
 
 -- how many placed classes clash with a spot, one class left out
-abbrev pub clashing : List (Option Spot) → Spot → ℕ → ℕ
-clashing spots x except = count_by (clash x) (placed (slice_set spots except None))
+abbrev pub clash_count : List (Option Spot) → Spot → (except : ℕ) → ℕ
+clash_count spots x except = count_by (clash x) (placed (slice_set spots except None))
 
--- whether the class at a place is placed and clashes with a spot, one class left out
-abbrev pub clashes_at : List (Option Spot) → Spot → ℕ → ℕ → Bool
-clashes_at spots x except class = option_map_or (clash x) (spot_at (slice_set spots except None) class) false
+-- whether a class isn't the one excepted, is placed, and its spot is in the same room and overlaps
+abbrev pub clashes_in_room : List (Option Spot) → (except : ℕ) → Spot → (class : ℕ) → Bool
+clashes_in_room spots except x class = not (class == except) && option_map_or (clash x) (spot_at spots class) false
 
 -- the links that a spot takes, one for each of its cells where it has a room
 abbrev pub room_cells : Spot → ℕ

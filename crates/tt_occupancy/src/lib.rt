@@ -5,7 +5,7 @@ ghost use Rattle.std.specs.Prelude.{◌≡◌, ℕ, ◌+◌, ◌-◌, ◌<◌, �
 ghost use Rattle.std.specs.Option.{option_map_or};
 ghost use Rattle.tt_bits.specs.Spots.{spot_at, IsEmptyAt, IsBelow};
 ghost use Rattle.tt_occupancy.specs.Rooms.{classes_in, AreListed};
-ghost use Rattle.tt_occupancy.specs.Clashes.{clash, clashes_at, clash_pairs, clashing, room_cells};
+ghost use Rattle.tt_occupancy.specs.Clashes.{clash, clashes_in_room, clash_pairs, clash_count, room_cells};
 
 #[cfg(test)]
 mod tests;
@@ -126,7 +126,7 @@ impl Occupancy {
 
     /// How many placed classes but one overlap the spot in its room.
     pub fn clashes_with(&self, spot: Spot, except: u32) -> u64
-        ensures { result ≡ clashing self.now.spots spot except }
+        ensures { result ≡ clash_count self.now.spots spot except }
     {
         let Some(classes) = self.classes_in(spot.room) else {
             return 0;
@@ -134,7 +134,7 @@ impl Occupancy {
         let spots = self.spots.as_slice();
         let mut count = 0;
         for class in classes {
-            if clashes_at(spots, &spot, except, class) {
+            if clashes_in_room(spots, except, &spot, class) {
                 count += 1;
             }
         }
@@ -145,14 +145,14 @@ impl Occupancy {
     pub fn mark(&self, spot: Spot, except: u32, marks: &mut [bool])
         requires { length marks.old ≡ length self.now.spots }
         ensures { (class : ℕ) → class < length marks.old → slice_index_or marks.new class false
-            ≡ (slice_index_or marks.old class false || clashes_at self.now.spots spot except class) }
+            ≡ (slice_index_or marks.old class false || clashes_in_room self.now.spots except spot class) }
     {
         let Some(classes) = self.classes_in(spot.room) else {
             return;
         };
         let spots = self.spots.as_slice();
         for class in classes {
-            if clashes_at(spots, &spot, except, class) {
+            if clashes_in_room(spots, except, &spot, class) {
                 marks[class as usize] = true;
             }
         }
@@ -182,23 +182,17 @@ fn room_cells(spot: &Spot) -> u32
     }
 }
 
-/// Whether a class that is placed, and isn't `except`, overlaps the spot in its room.
-fn clashes_at(spots: &[Option<Spot>], spot: &Spot, except: u32, class: u32) -> bool
-    requires { class < length spots.now }
-    ensures { result ≡ clashes_at spots.now spot.now except class }
-{
-    class != except && is_clash(&spots[class as usize], spot)
-}
-
-/// Whether a class is placed and overlaps the spot in its room.
+/// Whether a class isn't the one excepted, is placed, and overlaps the spot in its room.
 #[tactic(auto, unfolding(crate::specs::Clashes::clash))]
-fn is_clash(other: &Option<Spot>, spot: &Spot) -> bool
-    ensures { result ≡ option_map_or (clash spot.now) other.now false }
+pub fn clashes_in_room(spots: &[Option<Spot>], except: u32, spot: &Spot, class: u32) -> bool
+    requires { class < length spots.now }
+    ensures { result ≡ clashes_in_room spots.now except spot.now class }
 {
-    match other {
-        None => false,
-        Some(other) => spot.shares_room(other) && spot.time.overlaps(&other.time),
-    }
+    class != except
+        && match &spots[class as usize] {
+            None => false,
+            Some(other) => spot.shares_room(other) && spot.time.overlaps(&other.time),
+        }
 }
 
 /// Gives a class that has no spot this one, and puts it into the list of its room.

@@ -1,21 +1,14 @@
 -- A walk that looks for an item.
-use Rattle.std.proofs.Common.{◌≡◌, ◌≢◌, ◌∙◌, sym, ap, ℕ, ◌+◌, ◌-◌, ◌<◌, ◌≤◌, List, length, get_or, map, arith, true, false, below_more, inl, inr, [], ◌∷◌}
+use Rattle.std.proofs.Common.{◌≡◌, ◌≢◌, ◌∙◌, sym, ap, ℕ, ◌+◌, ◌-◌, ◌<◌, ◌≤◌, List, length, get_or, map, arith, false, below_more, inl, inr, [], ◌∷◌}
 use Rattle.std.specs.Prelude.{◌==◌}
 use Rattle.std.specs.List.{position_or_len}
-use Rattle.std.proofs.lemmas.Bool.{cases_eq}
-use Rattle.std.proofs.lemmas.Bool.Decides.{nat_tests}
+use Rattle.std.proofs.lemmas.Bool.{cases_eq, eq-eqb, ne_eqb}
 use Rattle.std.proofs.lemmas.List.{length-map, get_or-map}
 use Rattle.std.proofs.lemmas.List.Sums.{position_or_len_is}
 use Rattle.tt_pool.specs.declared.Node.{Node}
 use Rattle.tt_pool.specs.declared.Chain.{Chain}
 use Rattle.tt_pool.specs.Chains.{next_of, item_of, after, chain_of, uses, IsSearched}
 use Rattle.tt_pool.proofs.Paths.{uses_other, after_more, path-get_or, length-path}
-
-pub tests_true : (x y : ℕ) → x ≡ y → (x == y) ≡ true
-tests_true x y e = grind (arith, nat_tests)
-
-pub tests_false : (x y : ℕ) → x ≢ y → (x == y) ≡ false
-tests_false x y ne = grind (arith, nat_tests)
 
 item-get_or : (nodes : List Node) (chain : Chain) (k : ℕ) → k < chain.len
     → get_or (map (item_of nodes) (chain_of nodes chain)) k 0 ≡ item_of nodes (after nodes k chain.first.0)
@@ -29,7 +22,7 @@ length-items nodes chain = length-map (chain_of nodes chain) (item_of nodes) ∙
 none_before : (nodes : List Node) (chain : Chain) (at before node item : ℕ) → IsSearched nodes chain.first.0 at before node item → at ≤ chain.len
     → (k : ℕ) → k < at → (get_or (map (item_of nodes) (chain_of nodes chain)) k 0 == item) ≡ false
 none_before nodes chain at before node item s le k lt =
-    rw (item-get_or nodes chain k (omega arith)) (tests_false _ _ (s.others k lt))
+    rw (item-get_or nodes chain k (omega arith)) (ne_eqb _ _ (s.others k lt))
 
 pub place_found : (nodes : List Node) (chain : Chain) (at before node item : ℕ) → IsSearched nodes chain.first.0 at before node item
     → at < chain.len → item_of nodes node ≡ item
@@ -38,7 +31,7 @@ place_found nodes chain at before node item s lt is =
     let all = length-items nodes chain in
     sym (position_or_len_is (λ (x : ℕ). x == item) (map (item_of nodes) (chain_of nodes chain)) at 0 (omega arith)
     (none_before nodes chain at before node item s (omega arith))
-    (λ here. rw (item-get_or nodes chain at lt) (tests_true _ _ (ap (item_of nodes) (sym s.node_is) ∙ is))))
+    (λ here. rw (item-get_or nodes chain at lt) (eq-eqb _ _ (ap (item_of nodes) (sym s.node_is) ∙ is))))
 
 pub place_none : (nodes : List Node) (chain : Chain) (at before node item : ℕ) → IsSearched nodes chain.first.0 at before node item
     → at ≤ chain.len → chain.len ≤ at
@@ -62,9 +55,9 @@ searched_more nodes first at before node item s ne = record {
 pub found_at : (item : ℕ) (xs : List ℕ) → 0 < uses item xs → position_or_len (λ x. x == item) xs < length xs
 found_at item [] used = absurd (omega arith)
 found_at item (x ∷ xs) used = elim (cases_eq x item) [
-  | inl e ↦ rw (tests_true x item e) (omega arith)
+  | inl e ↦ rw (eq-eqb x item e) (omega arith)
   | inr ne ↦
       let other = uses_other item x xs ne in
       let rest = found_at item xs (omega arith) in
-      rw (tests_false x item ne) (omega arith)
+      rw (ne_eqb x item ne) (omega arith)
 ]

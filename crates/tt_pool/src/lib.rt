@@ -7,6 +7,9 @@ ghost use Rattle.std.specs.Iterator.{YieldsFirst, item_count};
 ghost use Rattle.tt_pool.specs.Chains.{after, path, chain_of, uses, item_of, IsChain, IsPlace, ArePair, KeepsOthers, KeepsItems};
 ghost use Rattle.tt_pool.specs.Pools.{Pooled, list_at, chain_at, lists_of, IsPool};
 
+mod order;
+
+pub use order::place_in_order;
 use std::alloc::{AllocError, Global};
 use std::marker::Model;
 
@@ -428,6 +431,14 @@ mod tests {
         assert_eq!(rt; pool.len(1), 1);
         assert_eq!(rt; pool.len(0), 1);
         assert_eq!(rt; pool.spare(), 1);
+        Ok(())
+    }
+
+    #[test]
+    fn an_item_goes_before_the_first_that_is_above_it(rt: HostRuntime) -> Result<(), Fail> {
+        assert_eq!(rt; place_in_order(&[2, 5, 9], 5), 2);
+        assert_eq!(rt; place_in_order(&[2, 5, 9], 1), 0);
+        assert_eq!(rt; place_in_order(&[2, 5, 9], 10), 3);
         Ok(())
     }
 }

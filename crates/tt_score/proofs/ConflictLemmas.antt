@@ -14,7 +14,7 @@ use Rattle.tt_plan.specs.Domain.{IsSpotOf}
 use Rattle.tt_clash.specs.Amounts.{rule_amounts}
 use Rattle.tt_clash.specs.Blocked.{blocked_by}
 use Rattle.tt_clash.specs.Freed.{IsFreeAlone}
-use Rattle.tt_clash.specs.Groups.{amounts_of, SameGroups, AreGroupsOf as AreHeldBy}
+use Rattle.tt_clash.specs.Groups.{amounts_of, SameGroups, AreHeldBy}
 use Rattle.tt_clash.proofs.AmountLemmas.{AmountsAgree, free-agree, free-from_open}
 use Rattle.tt_score.specs.declared.group.Group.{Group}
 use Rattle.tt_score.specs.Groups.{group_held, group_weeks, group_shape, group_spare, group_fits, group_sum}

@@ -1,7 +1,7 @@
 use Rattle.std.proofs.Common.{◌≡◌, ◌<◌, true, false, [], ◌∷◌, length, rules}
 use Rattle.std.proofs.lemmas.List.Elements.{All-rest}
 use Rattle.tt_occupancy.specs.Rooms.{classes_in}
-use Rattle.tt_clash.specs.Marks.{clashes_in_room}
+use Rattle.tt_occupancy.specs.Clashes.{clashes_in_room}
 use Rattle.tt_clash.proofs.ListedLemmas.{none-listed, at-unmarked}
 use Rattle.tt_clash.proofs.RoomLemmas.{none-yet, all-marked, marked-yes, marked-no, classes-within}
 use Rattle.tt_clash.proofs.clash.list_room.Goals as goal
