@@ -7,13 +7,13 @@ ghost use Rattle.tt_roster.specs.Kept.{IsRosterOf};
 
 use crate::conflicts::{class_conflicts, conflicts_now};
 use crate::items::Items;
-use crate::making::new_rows;
+use crate::making::{new_rows, room_of};
 use crate::rows::ClassRow;
 use std::alloc::{AllocError, Global};
 use std::marker::Model;
 use tt_bits::Spot;
 use tt_pool::Pool;
-use tt_problem::{Problem, sums};
+use tt_problem::Problem;
 
 /// The classes of each student, and the conflicts among those that are placed. Each call is handed
 /// the problem that the roster is of.
@@ -40,7 +40,6 @@ impl Model for Roster {
 
 impl Roster {
     /// Nobody has a class, and no class is placed.
-    #[tactic(auto, using(tt_problem::proofs::SpanLemmas::few_subparts))]
     pub fn new(alloc: Global, problem: &Problem) -> Result<Roster, AllocError>
         ensures seats { IfOk result (λ r. r.seats ≡ replicate (length problem.now.students) []) }
         ensures spots { IfOk result (λ r. r.spots ≡ replicate (length problem.now.classes) None) }
@@ -48,9 +47,8 @@ impl Roster {
     {
         problem.validity();
         let classes = problem.class_count();
-        let seats = sums::seats_of(problem.parts()) as u32;
         let rows = new_rows(alloc, problem)?;
-        let attendees = Pool::new(alloc, classes, seats)?;
+        let attendees = Pool::new(alloc, classes, room_of(rows.as_slice()))?;
         let spots = vec![in alloc; None; classes as usize]?;
         Ok(Roster {
             rows,
