@@ -1,15 +1,13 @@
 -- The classes of a room gone over: those that clash are marked.
-use Rattle.std.proofs.Common.{◌≡◌, ◌∙◌, ℕ, ◌<◌, Bool, true, false, ◌&&◌, ◌||◌, List, [], ◌∷◌, Option, Some, None, All, length, get_or, nat_eq, refl, sym, inl, inr, arith, get_or-set_same, get_or-set_other}
-use Rattle.std.specs.Prelude.{slice_set, ◌==◌, not}
-use Rattle.std.specs.Option.{option_map_or}
+use Rattle.std.proofs.Common.{◌≡◌, ◌∙◌, ℕ, ◌<◌, Bool, true, false, ◌&&◌, ◌||◌, List, [], ◌∷◌, Option, None, length, get_or, nat_eq, refl, sym, inl, inr, get_or-set_same, get_or-set_other}
+use Rattle.std.specs.Prelude.{slice_set}
+use Rattle.std.proofs.lemmas.Bool.{cases_Bool}
 use Rattle.std.proofs.lemmas.Bool.Decides.{eqb_tells}
 use Rattle.tt_bits.specs.declared.times.Spot.{Spot}
-use Rattle.tt_bits.specs.Pairs.{is_one_room}
-use Rattle.tt_bits.specs.Times.{overlaps}
 use Rattle.tt_bits.specs.Spots.{spot_at}
-use Rattle.tt_pool.proofs.PlaceLemmas.{places-within, places-each}
+use Rattle.tt_pool.proofs.PlaceLemmas.{places-each}
 use Rattle.tt_occupancy.specs.Rooms.{is_in_room, classes_in}
-use Rattle.tt_occupancy.specs.Clashes.{clash}
+use Rattle.tt_occupancy.proofs.RoomLemmas.{no_clash_at}
 use Rattle.tt_clash.specs.ConflictSet.{is_in}
 use Rattle.tt_occupancy.specs.Clashes.{clashes_in_room}
 
@@ -45,24 +43,10 @@ all-marked test marks rest none all d = or_none (get_or marks d false) ∙ sym (
     or_none true = refl
     or_none false = refl
 
--- who clashes is one of the room
-in_room : (a : Bool) (x : Spot) (s : Option Spot) → (a && option_map_or (clash x) s false) ≡ (is_in_room x.room s && (a && option_map_or (clash x) s false))
-unfolding clash
-in_room a x None = none a
-  where
-    none : (b : Bool) → (b && false) ≡ (false && (b && false))
-    none true = refl
-    none false = refl
-in_room a x (Some y) = both a (is_one_room x.room y.room) (overlaps x.time y.time)
-  where
-    both : (b one over : Bool) → (b && (one && over)) ≡ (one && (b && (one && over)))
-    both true true over = refl
-    both true false over = refl
-    both false true over = refl
-    both false false over = refl
-
+-- no mark is set yet: who clashes is one of the room
 pub none-yet : (spots : List (Option Spot)) (c : ℕ) (x : Spot) (marks : List Bool) → ((d : ℕ) → get_or marks d false ≡ false) → AreMarked (clashes_in_room spots c x) marks (classes_in spots x.room)
-none-yet spots c x marks unmarked d = rw (unmarked d, places-each (is_in_room x.room) None d spots refl) (in_room (not (d == c)) x (spot_at spots d))
-
-pub classes-within : (spots : List (Option Spot)) (x : Spot) → All (λ d. d < length spots) (classes_in spots x.room)
-classes-within spots x = places-within (is_in_room x.room) 0 (length spots) spots (omega arith)
+none-yet spots c x marks unmarked d =
+    rw (unmarked d, places-each (is_in_room x.room) None d spots refl) (elim (cases_Bool (is_in_room x.room (spot_at spots d))) [
+      | inl here ↦ rw here refl
+      | inr elsewhere ↦ rw elsewhere (no_clash_at spots x c d elsewhere)
+    ])

@@ -47,7 +47,7 @@ unfolding clash
 no_clash x None e = refl
 no_clash x (Some y) e = rw e refl
 
-no_clash_at : (h : List (Option Spot)) (x : Spot) (except class : ℕ) → is_in_room x.room (spot_at h class) ≡ false → clashes_in_room h except x class ≡ false
+pub no_clash_at : (h : List (Option Spot)) (x : Spot) (except class : ℕ) → is_in_room x.room (spot_at h class) ≡ false → clashes_in_room h except x class ≡ false
 no_clash_at h x except class e = and_right (not (class == except)) _ (no_clash x (spot_at h class) e)
 
 -- a class clashes where it does once the one excepted is taken out
