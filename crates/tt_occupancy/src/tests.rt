@@ -2,7 +2,7 @@ ghost use Rattle.std.specs.Prelude.{◌≡◌, ◌≤◌, IfSome};
 ghost use Rattle.tt_bits.specs.Spots.{IsBelow};
 ghost use Rattle.tt_occupancy.specs.Clashes.{room_cells};
 
-use crate::{Occupancy, room_cells};
+use crate::{Occupancy, clashes_in_room, room_cells};
 use std::test::Fail;
 use tt_bits::{Days, Spot, Time, Weeks};
 
@@ -55,6 +55,8 @@ fn the_class_that_is_left_out_is_neither_counted_nor_marked(rt: HostRuntime) -> 
     occupancy.put(3, spot);
     assert_eq!(rt; occupancy.clashes_with(spot, 0), 2);
     assert_eq!(rt; occupancy.clashes_with(spot, 3), 1);
+    assert!(rt; clashes_in_room(occupancy.spots(), 3, &spot, 1));
+    assert!(rt; !clashes_in_room(occupancy.spots(), 3, &spot, 3));
     let mut marks = [true, false, false, false];
     occupancy.mark(spot, 3, &mut marks);
     assert_eq!(rt; marks, [true, true, false, false]);
