@@ -105,23 +105,20 @@ impl Measure for DaysGroup {
         self.amount
     }
 
-    fn gain(&self, travel: &Travel, place: u32, spot: Spot) -> i64 {
-        let _ = travel;
+    fn gain(&self, _travel: &Travel, place: u32, spot: Spot) -> i64 {
         let mut counts = counts_without(&self.counts, &self.held[place as usize]);
         let without = self.excess(&counts);
         raise(&mut counts, spot.time.days, 1);
         self.excess(&counts) as i64 - without as i64
     }
 
-    fn put(&mut self, travel: &Travel, place: u32, spot: Spot) {
-        let _ = travel;
+    fn put(&mut self, _travel: &Travel, place: u32, spot: Spot) {
         raise(&mut self.counts, spot.time.days, 1);
         self.amount = self.excess(&self.counts);
         self.held[place as usize] = Some(spot);
     }
 
-    fn take(&mut self, travel: &Travel, place: u32) -> Spot {
-        let _ = travel;
+    fn take(&mut self, _travel: &Travel, place: u32) -> Spot {
         let Some(spot) = self.held[place as usize] else {
             unreachable!()
         };

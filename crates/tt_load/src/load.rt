@@ -102,21 +102,18 @@ impl Measure for LoadGroup {
         self.amount
     }
 
-    fn gain(&self, travel: &Travel, place: u32, spot: Spot) -> i64 {
-        let _ = travel;
+    fn gain(&self, _travel: &Travel, place: u32, spot: Spot) -> i64 {
         let had = self.held[place as usize];
         rise(&self.loads, self.most, &spot, &had) as i64
     }
 
-    fn put(&mut self, travel: &Travel, place: u32, spot: Spot) {
-        let _ = travel;
+    fn put(&mut self, _travel: &Travel, place: u32, spot: Spot) {
         self.amount += rise(&self.loads, self.most, &spot, &None);
         raise_weeks(&mut self.loads, &spot);
         self.held[place as usize] = Some(spot);
     }
 
-    fn take(&mut self, travel: &Travel, place: u32) -> Spot {
-        let _ = travel;
+    fn take(&mut self, _travel: &Travel, place: u32) -> Spot {
         let Some(spot) = self.held[place as usize] else {
             unreachable!()
         };
