@@ -82,16 +82,19 @@ impl<K> CellGroup<K> {
         })
     }
 
-    /// The amounts of the cells of a spot, together, where the member at a place has this spot, or
-    /// none.
-    fn sum_in(&self, place: u32, spot: &Spot, member: &Option<Spot>) -> u64
-        requires place { place < length self.now.members }
-        requires member { IfSome member.now (λ x. x ≡ spot.now) }
-        ensures sum { result ≡ sum_in (amount_in self.now.rule) spot.now self.now.weeks (slice_set self.now.members place member.now) }
-        ensures few { result < 2 ^ 31 }
+    /// The amounts of the cells of a spot, together, where the member at a place has the spot, and
+    /// where it has none.
+    fn sums_in(&self, place: u32, spot: &Spot) -> (u64, u64)
+        requires { place < length self.now.members }
+        ensures with { result.0 ≡ sum_in (amount_in self.now.rule) spot.now self.now.weeks (slice_set self.now.members place (Some spot.now)) }
+        ensures without { result.1 ≡ sum_in (amount_in self.now.rule) spot.now self.now.weeks (slice_set self.now.members place None) }
+        ensures few { (result.0 < 2 ^ 31) × (result.1 < 2 ^ 31) }
     {
-        self.members
-            .sum_in(&self.rule, self.weeks, place, spot, member)
+        let (members, rule, weeks) = (&self.members, &self.rule, self.weeks);
+        (
+            members.sum_in(rule, weeks, place, spot, &Some(*spot)),
+            members.sum_in(rule, weeks, place, spot, &None),
+        )
     }
 }
 
@@ -193,35 +196,23 @@ impl<K> Measure for CellGroup<K> {
         self.amount
     }
 
-    fn gain(&self, travel: &Travel, place: u32, spot: Spot) -> i64 {
-        let _ = travel;
-        let (with, without) = (
-            self.sum_in(place, &spot, &Some(spot)),
-            self.sum_in(place, &spot, &None),
-        );
+    fn gain(&self, _travel: &Travel, place: u32, spot: Spot) -> i64 {
+        let (with, without) = self.sums_in(place, &spot);
         with as i64 - without as i64
     }
 
-    fn put(&mut self, travel: &Travel, place: u32, spot: Spot) {
-        let _ = travel;
-        let (with, without) = (
-            self.sum_in(place, &spot, &Some(spot)),
-            self.sum_in(place, &spot, &None),
-        );
+    fn put(&mut self, _travel: &Travel, place: u32, spot: Spot) {
+        let (with, without) = self.sums_in(place, &spot);
         self.amount = self.amount + with - without;
         self.spare -= u32::from(spot.cells());
         self.members.put(place, spot);
     }
 
-    fn take(&mut self, travel: &Travel, place: u32) -> Spot {
-        let _ = travel;
+    fn take(&mut self, _travel: &Travel, place: u32) -> Spot {
         let Some(spot) = self.members.get(place) else {
             unreachable!()
         };
-        let (with, without) = (
-            self.sum_in(place, &spot, &Some(spot)),
-            self.sum_in(place, &spot, &None),
-        );
+        let (with, without) = self.sums_in(place, &spot);
         self.amount = self.amount + without - with;
         self.spare += u32::from(spot.cells());
         self.members.take(place);
