@@ -15,7 +15,7 @@ use Rattle.tt_problem.specs.declared.parts.Rule.{Rule}
 use Rattle.tt_problem.specs.declared.parts.Parts.{Parts}
 use Rattle.tt_problem.specs.Valid.{IsValidRule}
 use Rattle.tt_score.specs.declared.group.Group.{Group}
-use Rattle.tt_score.specs.Groups.{group_held, group_shape, group_sum}
+use Rattle.tt_score.specs.Groups.{group_held, group_shape, group_fits, group_sum}
 use Rattle.tt_clash.specs.Amounts.{kind_amount}
 use Rattle.tt_score.specs.Amounts.{held_by, kind_cost, kind_hard, one_if_any, rule_amount, cost_of, hard_of, rule_cost, rule_hard}
 use Rattle.tt_score.specs.KindShapes.{kind_shape, kind_weeks, shape_kind-of, shape_weeks-of}
@@ -34,11 +34,16 @@ same_weeks (MaxBlock most gap) weeks t h = refl
 pub sum_of_kind : (kind : DistKind) (weeks members : ℕ) (t : Table) (h : List (Option Spot)) → group_sum (kind_shape kind weeks members) t h ≡ kind_amount kind weeks t h
 sum_of_kind kind weeks members t h = rw (shape_kind-of kind weeks members, shape_weeks-of kind weeks members) (same_weeks kind weeks t h)
 
-pub amount_is : (p : Parts) (spots : List (Option Spot)) (r : Rule) (g : Group) (n : ℕ) → IsGroupOf p spots r g → n ≡ group_sum (group_shape g) p.travel (group_held g) → n ≡ rule_amount p spots r
+-- the sum of a shape over what the members have is the amount
+pub amount_is_by : (p : Parts) (spots : List (Option Spot)) (r : Rule) (sh : List ℕ) (h : List (Option Spot)) → sh ≡ kind_shape r.kind p.nr_weeks (length r.members) → h ≡ held_by spots r → group_sum sh p.travel h ≡ rule_amount p spots r
 unfolding rule_amount
-amount_is p spots r g n of is =
-    is ∙ ap (λ sh. group_sum sh p.travel (group_held g)) of.shape ∙ ap (λ h. group_sum (kind_shape r.kind p.nr_weeks (length r.members)) p.travel h) of.held
+amount_is_by p spots r sh h shape held =
+    ap (λ s. group_sum s p.travel h) shape ∙ ap (λ l. group_sum (kind_shape r.kind p.nr_weeks (length r.members)) p.travel l) held
     ∙ sum_of_kind r.kind p.nr_weeks (length r.members) p.travel (held_by spots r)
+
+-- the amount that a group of a rule answers is that of the rule
+pub amount_is : {p : Parts} {spots : List (Option Spot)} {r : Rule} {g : Group} {n : ℕ} → IsGroupOf p spots r g → ((t : Table) → group_fits g t → n ≡ group_sum (group_shape g) t (group_held g)) → n ≡ rule_amount p spots r
+amount_is {p} {spots} {r} {g} of answered = answered p.travel of.fits ∙ amount_is_by p spots r (group_shape g) (group_held g) of.shape of.held
 
 amount_of_kind : (kind : DistKind) (weeks : ℕ) (t : Table) (h : List (Option Spot)) → weeks ≤ 64 → length h ≤ 2000 → kind_amount kind weeks t h < 2 ^ 62
 amount_of_kind kind weeks t h short few = omega (arith, kind_amount-most kind weeks t h, few_of_kind kind weeks (length h) (omega arith) few)
@@ -98,10 +103,3 @@ few_costs p spots r short valid = cost_le r.required _ (cost_of_kind r.kind p.nr
 pub amount_same : (p : Parts) (old new : List (Option Spot)) (r : Rule) → held_by new r ≡ held_by old r → rule_amount p new r ≡ rule_amount p old r
 unfolding rule_amount
 amount_same p old new r same = ap (kind_amount r.kind p.nr_weeks p.travel) same
-
--- the sum of a shape over what the members have is the amount
-pub amount_is_by : (p : Parts) (spots : List (Option Spot)) (r : Rule) (sh : List ℕ) (h : List (Option Spot)) → sh ≡ kind_shape r.kind p.nr_weeks (length r.members) → h ≡ held_by spots r → group_sum sh p.travel h ≡ rule_amount p spots r
-unfolding rule_amount
-amount_is_by p spots r sh h shape held =
-    ap (λ s. group_sum s p.travel h) shape ∙ ap (λ l. group_sum (kind_shape r.kind p.nr_weeks (length r.members)) p.travel l) held
-    ∙ sum_of_kind r.kind p.nr_weeks (length r.members) p.travel (held_by spots r)

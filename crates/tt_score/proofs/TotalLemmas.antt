@@ -28,11 +28,11 @@ few_pairs_of spots few = let product : length spots * (length spots - 1) ≤ 200
 pub few_product : (a b : ℕ) → a ≤ 100000 → b < 2 ^ 100 → a * b ≤ 100000 * 2 ^ 100
 few_product a b small few = grind arith
 
-pub few_mixed_costs : (p : Parts) (old new : List (Option Spot)) (n : ℕ) → IsValid p → n ≤ length p.rules → mixed (rule_cost p old) (rule_cost p new) n p.rules < 2 ^ 100
-few_mixed_costs p old new n valid within =
-    let most = mixed_le (rule_cost p old) (rule_cost p new) (1000000 * 2 ^ 62) p.rules n within
+pub few_mixed_costs : (p : Parts) (old new : List (Option Spot)) (n sum : ℕ) → IsValid p → n < length p.rules → sum ≡ mixed (rule_cost p old) (rule_cost p new) n p.rules → sum < 2 ^ 100
+few_mixed_costs p old new n sum valid within is =
+    let most = mixed_le (rule_cost p old) (rule_cost p new) (1000000 * 2 ^ 62) p.rules n (omega (arith, within))
     (λ k r lt. few_costs p old (get_or p.rules k r) valid.term.few_weeks (valid.rules k r lt)) (λ k r lt. few_costs p new (get_or p.rules k r) valid.term.few_weeks (valid.rules k r lt)) in
-    omega (arith, most, valid.few_rules)
+    omega (arith, is, most, valid.few_rules)
 
 pub weighted_same : (v w : Weights) (t t' r r' d d' s s' : ℕ) → v ≡ w → t ≡ t' → r ≡ r' → d ≡ d' → s ≡ s' → weighted v t r d s ≡ weighted w t' r' d' s'
 weighted_same v w t t' r r' d d' s s' ws ts rs ds ss = rw (ws, ts, rs, ds, ss) refl
