@@ -2,18 +2,20 @@
 use Rattle.std.proofs.Common.{◌≡◌, ◌∙◌, ℕ, ◌+◌, ◌*◌, ◌/◌, ◌≤◌, Bool, true, false, cond, List, [], ◌∷◌, Option, Some, None, length, get_or, map, zero, suc, refl, sym, ap, arith, mul-zero}
 use Rattle.std.proofs.Math.Nat.{zero-div}
 use Rattle.std.specs.Prelude.{replicate, sum_by, is_none, if◌then◌else◌}
+use Rattle.std.specs.Option.{ForSome}
 use Rattle.std.proofs.lemmas.List.{length-replicate}
 use Rattle.std.proofs.lemmas.List.Sums.{sum_by-cons}
 use Rattle.tt_bits.specs.declared.times.Spot.{Spot}
 use Rattle.tt_bits.specs.declared.times.Value.{Value}
 use Rattle.tt_bits.specs.Spots.{spot_at}
+use Rattle.tt_travel.specs.Table.{Table}
 use Rattle.tt_problem.specs.declared.parts.DistKind.{DistKind}
 use Rattle.tt_problem.specs.declared.parts.DistKind.TheVariants.{Pair, MaxDays, MaxDayLoad, MaxBreaks, MaxBlock}
 use Rattle.tt_problem.specs.declared.parts.Weights.{Weights}
 use Rattle.tt_problem.specs.declared.parts.Rule.{Rule}
 use Rattle.tt_problem.specs.declared.parts.Parts.{Parts}
 use Rattle.tt_problem.specs.Valid.{IsValid}
-use Rattle.tt_problem.specs.Sums.{cells_of}
+use Rattle.tt_problem.specs.Sums.{cells_at, cells_of}
 use Rattle.tt_occupancy.specs.Occupied.{Occupied}
 use Rattle.tt_plan.specs.Domain.{spots_from, time_penalty, room_penalty}
 use Rattle.tt_score.specs.declared.group.Group.{Group}
@@ -22,7 +24,9 @@ use Rattle.tt_score.specs.declared.rules.RuleSums.{RuleSums}
 use Rattle.tt_clash.specs.Amounts.{kind_amount}
 use Rattle.tt_score.specs.Amounts.{held_by, kind_cost, kind_hard, rule_amount, cost_of, hard_of, rule_cost, rule_hard}
 use Rattle.tt_score.specs.KindLaws.{kind_amount-empty}
-use Rattle.tt_score.specs.Members.{AreGroupsOf}
+use Rattle.tt_score.specs.Groups.{group_held, group_weeks, group_shape, group_spare, group_fits}
+use Rattle.tt_score.specs.KindShapes.{kind_shape}
+use Rattle.tt_score.specs.Members.{IsGroupOf, AreGroupsOf}
 use Rattle.tt_score.specs.Placed.{placed_from, closed_count, unplaced_count}
 use Rattle.tt_score.specs.Kept.{IsKept}
 
@@ -38,6 +42,25 @@ held_by-empty n r = over r.members
     over : (ms : List ℕ) → map (spot_at (replicate n None)) ms ≡ replicate (length ms) None
     over [] = refl
     over (m ∷ ms) = rw (none_at n m, over ms) refl
+
+-- a new group of so many members is that of its rule
+pub IsGroupOf-new : (p : Parts) (r : Rule) (g : Group) (kind : DistKind) (members weeks : ℕ) (t : Table) → r.kind ≡ kind → members ≡ length r.members → weeks ≡ p.nr_weeks → t ≡ p.travel
+    → group_held g ≡ replicate members None → group_shape g ≡ kind_shape kind weeks members → p.nr_weeks ≤ group_weeks g → group_fits g t
+    → ForSome (group_spare g) (λ free. sum_by (cells_at p) r.members ≤ free) → IsGroupOf p (replicate (length p.classes) None) r g
+IsGroupOf-new p r g kind members weeks t kinds count term travel held shape counted fits covers = record {
+  held = held ∙ ap (λ n. replicate n None) count ∙ sym (held_by-empty (length p.classes) r);
+  shape = rw (kinds, ← count, ← term) shape;
+  weeks = counted;
+  fits = rw travel at fits;
+  spare = λ free is. omega (arith, covers free is);
+}
+
+-- links that are as many as the most cells cover them
+pub links_suffice : (spare : Option ℕ) (links most : ℕ) → spare ≡ Some links → links ≡ most → ForSome spare (λ free. most ≤ free)
+links_suffice spare links most has is = λ free left.
+    let there : Some links ≡ Some free = sym has ∙ left in
+    let same : links ≡ free = cc there in
+    omega (arith, same, is)
 
 shared-empty : (penalty weeks : ℕ) → (penalty * 0) / weeks ≡ 0
 shared-empty penalty weeks = rw mul-zero (zero-div weeks)

@@ -17,6 +17,8 @@ use Rattle.tt_roster.specs.Conflicts.{student_conflicts, class_conflicts}
 use Rattle.tt_roster.proofs.ConflictLemmas.{student_conflicts-now, student_conflicts-at, student_conflicts-most}
 use Rattle.tt_roster.proofs.KeptLemmas.{few_seats, few_conflicts}
 use Rattle.tt_roster.specs.Lists.{list_of}
+use Rattle.tt_score.specs.declared.score.Score.{Score}
+use Rattle.tt_score.specs.Kept.{Fits}
 use Rattle.tt_score.specs.Unsectioned.{is_unsectioned, unsectioned_count}
 
 -- 1 where a student has a course and the list has no class
@@ -97,17 +99,26 @@ few_kept p r valid fits = omega (arith, fits.counted, few_conflicts p r valid fi
 no_student : StudentPart
 no_student = record { id = 0; courses = [] }
 
--- the count as a student gets or loses a class
-pub recounted : (p : Parts) (seats seats' : List (List ℕ)) (student : ℕ) (list : List ℕ) (u before after : ℕ) → IsValid p → student < length p.students → length seats ≡ length p.students → u ≡ unsectioned_count p.students seats → seats' ≡ slice_set seats student list
-    → ((s : StudentPart) → slice_get p.students student ≡ Some s → before ≡ one_if s (list_of seats student)) → ((s : StudentPart) → slice_get p.students student ≡ Some s → after ≡ one_if s (list_of seats' student))
-    → (before ≤ u) × (u - before + after < 2 ^ 32) × (u - before + after ≡ unsectioned_count p.students seats')
-recounted p seats seats' student list u before after valid within long is set was becomes =
-    let s = get_or p.students student no_student in
+-- the count of a score, where a student is counted anew
+pub record IsRecounted (p : Parts) (seats : List (List ℕ)) (u before after : ℕ) : Type 0 where
+  pub part : before ≤ u
+  pub few : u - before + after < 2 ^ 32
+  pub counted : u - before + after ≡ unsectioned_count p.students seats
+
+pub recounted : (p : Parts) (s : Score) (seats : List (List ℕ)) (student : ℕ) (list : List ℕ) (before after : ℕ) → Fits p s → student < length p.students → seats ≡ slice_set s.roster.seats student list
+    → ((part : StudentPart) → slice_get p.students student ≡ Some part → before ≡ one_if part (list_of s.roster.seats student)) → ((part : StudentPart) → slice_get p.students student ≡ Some part → after ≡ one_if part (list_of seats student))
+    → IsRecounted p seats s.unsectioned before after
+recounted p s seats student list before after fits within set was becomes =
+    let part = get_or p.students student no_student in
     let there = slice_get-get_or p.students student no_student within in
-    let same : list_of seats' student ≡ list = ap (λ l. list_of l student) set ∙ get_or-set_same seats student list [] (omega (arith, long)) in
-    let new = becomes s there ∙ ap (one_if s) same in
-    let change = unsectioned-set p.students seats student s list there long in
-    let part = unsectioned-part p.students seats student s there long in
+    let long = fits.roster.students in
+    let same : list_of seats student ≡ list = ap (λ l. list_of l student) set ∙ get_or-set_same s.roster.seats student list [] (omega (arith, long)) in
+    let new = becomes part there ∙ ap (one_if part) same in
+    let change = unsectioned-set p.students s.roster.seats student part list there long in
+    let held = unsectioned-part p.students s.roster.seats student part there long in
     let whole = ap (unsectioned_count p.students) set in
-    let few = few_unsectioned p.students seats' in
-    (omega (arith, was s there, is, part), omega (arith, was s there, is, new, change, part, whole, few, valid.few_students), omega (arith, was s there, is, new, change, part, whole))
+    let few = few_unsectioned p.students seats in record {
+      part = omega (arith, was part there, fits.counted, held);
+      few = omega (arith, was part there, fits.counted, new, change, held, whole, few, fits.kept.valid.few_students);
+      counted = omega (arith, was part there, fits.counted, new, change, held, whole);
+    }
