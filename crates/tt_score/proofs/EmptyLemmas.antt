@@ -26,7 +26,7 @@ use Rattle.tt_score.specs.Amounts.{held_by, kind_cost, kind_hard, rule_amount, c
 use Rattle.tt_score.specs.KindLaws.{kind_amount-empty}
 use Rattle.tt_score.specs.Groups.{group_held, group_weeks, group_shape, group_spare, group_fits}
 use Rattle.tt_score.specs.KindShapes.{kind_shape}
-use Rattle.tt_score.specs.Members.{IsGroupOf, AreGroupsOf}
+use Rattle.tt_score.specs.Members.{IsGroupOf}
 use Rattle.tt_score.specs.Placed.{placed_from, closed_count, unplaced_count}
 use Rattle.tt_score.specs.Kept.{IsKept}
 
@@ -112,11 +112,11 @@ spots_from-empty p i zero = refl
 spots_from-empty p i (suc n) = ap (λ l. None ∷ l) (spots_from-empty p (i + 1) n)
 
 -- what is kept at the start
-pub IsKept-empty : (p : Parts) (n : ℕ) (o : Occupied) (groups : List Group) (c : ClassSums) (r : RuleSums) (w : Weights) → IsValid p → n ≡ length p.classes
-    → o.spots ≡ replicate n None → length p.rooms ≤ o.rooms → p.nr_weeks ≤ o.weeks → cells_of p ≤ o.spare → AreGroupsOf p (replicate n None) groups
+pub IsKept-empty : (p : Parts) (n : ℕ) (o : Occupied) (c : ClassSums) (r : RuleSums) (w : Weights) → IsValid p → n ≡ length p.classes
+    → o.spots ≡ replicate n None → length p.rooms ≤ o.rooms → p.nr_weeks ≤ o.weeks → cells_of p ≤ o.spare
     → c.time ≡ 0 → c.room ≡ 0 → c.closed ≡ 0 → c.unplaced ≡ n → r.distribution ≡ 0 → r.hard ≡ 0 → w ≡ p.weights
-    → IsKept p (replicate n None) o groups c r w
-IsKept-empty p n o groups c r w valid long spots rooms weeks links grouped time room closed unplaced distribution hard weights = record {
+    → IsKept p (replicate n None) o c r w
+IsKept-empty p n o c r w valid long spots rooms weeks links time room closed unplaced distribution hard weights = record {
   valid = valid;
   planned = record {
     whole = length-replicate n None ∙ long;
@@ -127,7 +127,6 @@ IsKept-empty p n o groups c r w valid long spots rooms weeks links grouped time 
   rooms = rooms;
   weeks = weeks;
   links = omega (arith, links);
-  grouped = rw spots grouped;
   classes = record {
     time_is = time ∙ sym (placed_from-empty (time_penalty p) 0 n);
     room_is = room ∙ sym (placed_from-empty (room_penalty p) 0 n);

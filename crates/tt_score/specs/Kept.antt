@@ -31,8 +31,8 @@ pub record IsPlanOf (p : Parts) (plan : List (Option Value)) : Type 0 where
   pub whole : length plan ≡ length p.classes
   pub domain : (class : ℕ) (v : Value) → slice_index_or plan class None ≡ Some v → IsOfDomain p class v
 
--- All that is kept is of the problem with these parts: what the occupancy o, the groups, and the sums c and r have is what the plan gives.
-pub record IsKept (p : Parts) (plan : List (Option Value)) (o : Occupied) (groups : List Group) (c : ClassSums) (r : RuleSums) (w : Weights) : Type 0 where
+-- What the occupancy o and the sums c and r have is what the plan gives.
+pub record IsKept (p : Parts) (plan : List (Option Value)) (o : Occupied) (c : ClassSums) (r : RuleSums) (w : Weights) : Type 0 where
   pub valid : IsValid p
   pub planned : IsPlanOf p plan
   pub spots : o.spots ≡ spots_of p plan
@@ -40,15 +40,15 @@ pub record IsKept (p : Parts) (plan : List (Option Value)) (o : Occupied) (group
   pub rooms : length p.rooms ≤ o.rooms
   pub weeks : p.nr_weeks ≤ o.weeks
   pub links : cells_of p ≤ o.spare + cells_taken o.spots
-  pub grouped : AreGroupsOf p o.spots groups
   pub classes : AreClassSums p plan c
   pub distribution : r.distribution ≡ cost_sum p o.spots
   pub hard : r.hard ≡ hard_sum p o.spots
   pub weights : w ≡ p.weights
 
--- The same with the roster t, which has the spots of the occupancy, and the number of students who have a course and no class.
+-- The same with the groups of the rules, the roster t, which has the spots of the occupancy, and the number of students who have a course and no class.
 pub record IsScored (p : Parts) (plan : List (Option Value)) (o : Occupied) (groups : List Group) (c : ClassSums) (r : RuleSums) (w : Weights) (t : Rostered) (unsectioned : ℕ) : Type 0 where
-  pub kept : IsKept p plan o groups c r w
+  pub kept : IsKept p plan o c r w
+  pub grouped : AreGroupsOf p o.spots groups
   pub roster : IsRosterOf p t
   pub placed : t.spots ≡ o.spots
   pub counted : unsectioned ≡ unsectioned_count p.students t.seats
