@@ -11,37 +11,48 @@ use Rattle.tt_plan.specs.Domain.{spot_at_value, spots_from, spots_of}
 use Rattle.tt_score.specs.Placed.{placed_from, over_placed, unplaced_count}
 use Rattle.tt_score.specs.Paid.{paid_at}
 
--- the sum over the placed classes with one more
-placed_from-put : (f : ℕ → Value → ℕ) (i : ℕ) (plan : List (Option Value)) (c : ℕ) (v : Value) → c < length plan → get_or plan c None ≡ None
-    → placed_from f i (slice_set plan c (Some v)) ≡ placed_from f i plan + f (i + c) v
-placed_from-put f i [] c v within free = absurd (omega arith)
-placed_from-put f i (None ∷ plan) zero v within free = let e = ap (λ k. f k v) (let z : i + 0 ≡ i = omega arith in z) in omega (arith, e)
-placed_from-put f i (Some w ∷ plan) zero v within free = absurd (cc free)
-placed_from-put f i (None ∷ plan) (suc c) v within free =
-    let e = ap (λ k. f k v) (let z : i + 1 + c ≡ i + suc c = omega arith in z) in omega (arith, placed_from-put f (i + 1) plan c v (omega arith) free, e)
-placed_from-put f i (Some w ∷ plan) (suc c) v within free =
-    let e = ap (λ k. f k v) (let z : i + 1 + c ≡ i + suc c = omega arith in z) in omega (arith, placed_from-put f (i + 1) plan c v (omega arith) free, e)
+-- the first class counts where it has a value
+placed_cons : (f : ℕ → Value → ℕ) (i : ℕ) (o : Option Value) (plan : List (Option Value)) → placed_from f i (o ∷ plan) ≡ option_map_or (f i) o 0 + placed_from f (i + 1) plan
+placed_cons f i None plan = omega arith
+placed_cons f i (Some v) plan = refl
 
+-- the sum over the placed classes where one gets another value or none
+placed_from-set : (f : ℕ → Value → ℕ) (i : ℕ) (plan : List (Option Value)) (c : ℕ) (o : Option Value) → c < length plan
+    → placed_from f i (slice_set plan c o) + option_map_or (f (i + c)) (get_or plan c None) 0 ≡ placed_from f i plan + option_map_or (f (i + c)) o 0
+placed_from-set f i [] c o within = absurd (omega arith)
+placed_from-set f i (w ∷ plan) zero o within =
+    let z : i + 0 ≡ i = omega arith in
+    let e = ap (λ k. option_map_or (f k) o 0) z in let d = ap (λ k. option_map_or (f k) w 0) z in omega (arith, placed_cons f i o plan, placed_cons f i w plan, e, d)
+placed_from-set f i (w ∷ plan) (suc c) o within =
+    let z : i + 1 + c ≡ i + suc c = omega arith in
+    let e = ap (λ k. option_map_or (f k) o 0) z in let d = ap (λ k. option_map_or (f k) (get_or plan c None) 0) z in
+    omega (arith, placed_from-set f (i + 1) plan c o (omega arith), placed_cons f i w plan, placed_cons f i w (slice_set plan c o), e, d)
+
+pub over_placed-set : (f : ℕ → Value → ℕ) (plan : List (Option Value)) (c : ℕ) (o : Option Value) → c < length plan
+    → over_placed f (slice_set plan c o) + paid_at f plan c ≡ over_placed f plan + option_map_or (f c) o 0
+over_placed-set f plan c o within =
+    let z : 0 + c ≡ c = omega arith in
+    let e = ap (λ k. option_map_or (f k) o 0) z in let d = ap (λ k. option_map_or (f k) (get_or plan c None) 0) z in omega (arith, placed_from-set f 0 plan c o within, e, d)
+
+-- what a class adds is part of the sum
+pub over_placed-part : (f : ℕ → Value → ℕ) (plan : List (Option Value)) (c : ℕ) → c < length plan → paid_at f plan c ≤ over_placed f plan
+over_placed-part f plan c within = omega (arith, over_placed-set f plan c None within)
+
+-- with one more
 pub over_placed-put : (f : ℕ → Value → ℕ) (plan : List (Option Value)) (c : ℕ) (v : Value) → c < length plan → get_or plan c None ≡ None
     → over_placed f (slice_set plan c (Some v)) ≡ over_placed f plan + f c v
-over_placed-put f plan c v within free = let e = ap (λ k. f k v) (let z : 0 + c ≡ c = omega arith in z) in omega (arith, placed_from-put f 0 plan c v within free, e)
+over_placed-put f plan c v within free = let was : paid_at f plan c ≡ 0 = ap (λ o. option_map_or (f c) o 0) free in omega (arith, over_placed-set f plan c (Some v) within, was)
+
+pub full_within : (plan : List (Option Value)) (c : ℕ) (v : Value) → get_or plan c None ≡ Some v → c < length plan
+full_within [] c v full = absurd (cc full)
+full_within (o ∷ plan) zero v full = omega arith
+full_within (o ∷ plan) (suc c) v full = omega (arith, full_within plan c v full)
 
 -- with one less
-placed_from-take : (f : ℕ → Value → ℕ) (i : ℕ) (plan : List (Option Value)) (c : ℕ) (v : Value) → get_or plan c None ≡ Some v
-    → placed_from f i (slice_set plan c None) + f (i + c) v ≡ placed_from f i plan
-placed_from-take f i [] c v full = absurd (cc full)
-placed_from-take f i (None ∷ plan) zero v full = absurd (cc full)
-placed_from-take f i (Some w ∷ plan) zero v full =
-    let same : w ≡ v = cc full in
-    let e = ap (λ k. f k v) (let z : i + 0 ≡ i = omega arith in z) in let s = ap (f i) same in omega (arith, e, s)
-placed_from-take f i (None ∷ plan) (suc c) v full =
-    let e = ap (λ k. f k v) (let z : i + 1 + c ≡ i + suc c = omega arith in z) in omega (arith, placed_from-take f (i + 1) plan c v full, e)
-placed_from-take f i (Some w ∷ plan) (suc c) v full =
-    let e = ap (λ k. f k v) (let z : i + 1 + c ≡ i + suc c = omega arith in z) in omega (arith, placed_from-take f (i + 1) plan c v full, e)
-
 pub over_placed-take : (f : ℕ → Value → ℕ) (plan : List (Option Value)) (c : ℕ) (v : Value) → get_or plan c None ≡ Some v
     → over_placed f (slice_set plan c None) + f c v ≡ over_placed f plan
-over_placed-take f plan c v full = let e = ap (λ k. f k v) (let z : 0 + c ≡ c = omega arith in z) in omega (arith, placed_from-take f 0 plan c v full, e)
+over_placed-take f plan c v full =
+    let was : paid_at f plan c ≡ f c v = ap (λ o. option_map_or (f c) o 0) full in omega (arith, over_placed-set f plan c None (full_within plan c v full), was)
 
 -- the classes without a value
 pub unplaced_count-put : (plan : List (Option Value)) (c : ℕ) (v : Value) → c < length plan → get_or plan c None ≡ None → unplaced_count (slice_set plan c (Some v)) + 1 ≡ unplaced_count plan
@@ -49,11 +60,6 @@ unplaced_count-put plan c v within free =
     let f : Option Value → ℕ = λ o. cond (is_none o) 1 0 in
     let was : f (get_or plan c None) ≡ 1 = ap f free in
     omega (arith, sum_by-set f plan c (Some v) None within, was)
-
-pub full_within : (plan : List (Option Value)) (c : ℕ) (v : Value) → get_or plan c None ≡ Some v → c < length plan
-full_within [] c v full = absurd (cc full)
-full_within (o ∷ plan) zero v full = omega arith
-full_within (o ∷ plan) (suc c) v full = omega (arith, full_within plan c v full)
 
 pub unplaced_count-take : (plan : List (Option Value)) (c : ℕ) (v : Value) → get_or plan c None ≡ Some v → unplaced_count (slice_set plan c None) ≡ unplaced_count plan + 1
 unplaced_count-take plan c v full =
@@ -94,40 +100,3 @@ full_is plan c read v some is e = get_or_default plan c None read (some_within p
     some_within [] c some = absurd (cc some)
     some_within (o ∷ plan) zero some = omega arith
     some_within (o ∷ plan) (suc c) some = omega (arith, some_within plan c some)
-
--- the sum over the placed classes with one of them at another value
-placed_from-move : (f : ℕ → Value → ℕ) (i : ℕ) (plan : List (Option Value)) (c : ℕ) (v : Value) → c < length plan
-    → placed_from f i (slice_set plan c (Some v)) + option_map_or (f (i + c)) (get_or plan c None) 0 ≡ placed_from f i plan + f (i + c) v
-placed_from-move f i [] c v within = absurd (omega arith)
-placed_from-move f i (None ∷ plan) zero v within = let e = ap (λ k. f k v) (let z : i + 0 ≡ i = omega arith in z) in omega (arith, e)
-placed_from-move f i (Some w ∷ plan) zero v within =
-    let e = ap (λ k. f k v) (let z : i + 0 ≡ i = omega arith in z) in let d = ap (λ k. f k w) (let z : i + 0 ≡ i = omega arith in z) in omega (arith, e, d)
-placed_from-move f i (None ∷ plan) (suc c) v within =
-    let z : i + 1 + c ≡ i + suc c = omega arith in
-    let e = ap (λ k. f k v) z in let d = ap (λ k. option_map_or (f k) (get_or plan c None) 0) z in omega (arith, placed_from-move f (i + 1) plan c v (omega arith), e, d)
-placed_from-move f i (Some w ∷ plan) (suc c) v within =
-    let z : i + 1 + c ≡ i + suc c = omega arith in
-    let e = ap (λ k. f k v) z in let d = ap (λ k. option_map_or (f k) (get_or plan c None) 0) z in omega (arith, placed_from-move f (i + 1) plan c v (omega arith), e, d)
-
-pub over_placed-move : (f : ℕ → Value → ℕ) (plan : List (Option Value)) (c : ℕ) (v : Value) → c < length plan
-    → over_placed f (slice_set plan c (Some v)) + paid_at f plan c ≡ over_placed f plan + f c v
-over_placed-move f plan c v within =
-    let z : 0 + c ≡ c = omega arith in
-    let e = ap (λ k. f k v) z in let d = ap (λ k. option_map_or (f k) (get_or plan c None) 0) z in omega (arith, placed_from-move f 0 plan c v within, e, d)
-
--- what a class adds is part of the sum
-placed_from-part : (f : ℕ → Value → ℕ) (i : ℕ) (plan : List (Option Value)) (c : ℕ) → option_map_or (f (i + c)) (get_or plan c None) 0 ≤ placed_from f i plan
-placed_from-part f i [] c = omega arith
-placed_from-part f i (None ∷ plan) zero = omega arith
-placed_from-part f i (Some w ∷ plan) zero = let d = ap (λ k. f k w) (let z : i + 0 ≡ i = omega arith in z) in omega (arith, d)
-placed_from-part f i (None ∷ plan) (suc c) =
-    let z : i + 1 + c ≡ i + suc c = omega arith in
-    let d = ap (λ k. option_map_or (f k) (get_or plan c None) 0) z in omega (arith, placed_from-part f (i + 1) plan c, d)
-placed_from-part f i (Some w ∷ plan) (suc c) =
-    let z : i + 1 + c ≡ i + suc c = omega arith in
-    let d = ap (λ k. option_map_or (f k) (get_or plan c None) 0) z in omega (arith, placed_from-part f (i + 1) plan c, d)
-
-pub over_placed-part : (f : ℕ → Value → ℕ) (plan : List (Option Value)) (c : ℕ) → paid_at f plan c ≤ over_placed f plan
-over_placed-part f plan c =
-    let z : 0 + c ≡ c = omega arith in
-    let d = ap (λ k. option_map_or (f k) (get_or plan c None) 0) z in omega (arith, placed_from-part f 0 plan c, d)
