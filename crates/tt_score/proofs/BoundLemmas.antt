@@ -2,10 +2,12 @@
 use Rattle.std.proofs.Common.{◌≡◌, ◌∙◌, ◌⊎◌, ℕ, ◌+◌, ◌*◌, ◌<◌, ◌≤◌, Bool, true, false, cond, List, [], ◌∷◌, Option, Some, None, length, get_or, zero, suc, refl, sym, ap, arith, inl, inr}
 use Rattle.std.specs.Prelude.{slice_set, sum_by, slice_get, IfSome, IsSome, All, option_and_then}
 use Rattle.std.specs.Option.{option_map_or}
+use Rattle.std.specs.List.{range_with_len}
 use Rattle.std.proofs.lemmas.Bool.{cases_eq}
 use Rattle.std.proofs.lemmas.Option.{slice_get_within, get_or_from_slice_get, slice_get-get_or, slice_get_cases}
 use Rattle.std.proofs.lemmas.List.{length-set, get_or-set_same, get_or-set_other, get_or_default}
-use Rattle.std.proofs.lemmas.List.Sums.{sum_by-cons}
+use Rattle.std.proofs.lemmas.List.FromFn.{length-range_with_len}
+use Rattle.std.proofs.lemmas.List.Sums.{sum_by-cons, sum_by-le}
 use Rattle.tt_bits.specs.declared.times.Spot.{Spot}
 use Rattle.tt_bits.specs.declared.times.Value.{Value}
 use Rattle.tt_bits.specs.Spots.{spot_at, IsEmptyAt, cell_count}
@@ -17,7 +19,7 @@ use Rattle.tt_occupancy.specs.Clashes.{room_cells, cells_taken}
 use Rattle.tt_plan.specs.Domain.{IsOfDomain, IsValueFor, IsSpotOf, spot_at_value, spots_of, time_penalty, room_penalty}
 use Rattle.tt_score.specs.Members.{AreSpotsOf}
 use Rattle.tt_clash.specs.Blocked.{is_closed}
-use Rattle.tt_score.specs.Placed.{placed_from, over_placed, closed_count}
+use Rattle.tt_score.specs.Placed.{over_placed, paid_at, closed_count}
 use Rattle.tt_score.specs.Kept.{IsPlanOf}
 use Rattle.tt_score.proofs.PlanLemmas.{spot_in, length-spots_from}
 
@@ -52,13 +54,11 @@ pub few_closed : (p : Parts) (c : ℕ) (v : Value) → closed_count p c v ≤ 1
 unfolding closed_count
 few_closed p c v = le_map (λ x. cond (is_closed p x) 1 0) (spot_at_value p c v) 1 (λ x e. one_or_none (is_closed p x))
 
-placed_from_le : (f : ℕ → Value → ℕ) (m : ℕ) → ((c : ℕ) (v : Value) → f c v ≤ m) → (i : ℕ) (plan : List (Option Value)) → placed_from f i plan ≤ length plan * m
-placed_from_le f m each i [] = omega arith
-placed_from_le f m each i (None ∷ plan) = omega (arith, placed_from_le f m each (i + 1) plan)
-placed_from_le f m each i (Some v ∷ plan) = omega (arith, placed_from_le f m each (i + 1) plan, each i v)
-
 pub over_placed_le : (f : ℕ → Value → ℕ) (m : ℕ) (plan : List (Option Value)) → ((c : ℕ) (v : Value) → f c v ≤ m) → over_placed f plan ≤ length plan * m
-over_placed_le f m plan each = placed_from_le f m each 0 plan
+unfolding over_placed
+over_placed_le f m plan each =
+    let most = sum_by-le (paid_at f plan) m (range_with_len 0 (length plan)) (λ k c lt. le_map (f (get_or (range_with_len 0 (length plan)) k c)) (get_or plan (get_or (range_with_len 0 (length plan)) k c) None) m (λ v e. each _ v)) in
+    rw length-range_with_len at most
 
 -- a value of the domain has a spot
 pub spot_there : (p : Parts) (c : ℕ) (v : Value) → IsOfDomain p c v → IsSome (spot_at_value p c v)

@@ -5,7 +5,6 @@ pub mod Groups
 pub mod GroupLaws
 pub mod Members
 pub mod Placed
-pub mod Paid
 pub mod Unsectioned
 pub mod Weighted
 pub mod Totals

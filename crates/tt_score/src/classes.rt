@@ -2,8 +2,7 @@ ghost use Rattle.std.specs.Prelude.{◌≡◌, ◌+◌, ◌*◌, ◌<◌, ◌≤
 ghost use Rattle.std.specs.Prelude.{slice_index_or};
 ghost use Rattle.tt_problem.specs.Valid.{IsValid};
 ghost use Rattle.tt_plan.specs.Domain.{IsOfDomain, IsSpotOf, spot_at_value, time_penalty, room_penalty};
-ghost use Rattle.tt_score.specs.Placed.{closed_count, over_placed};
-ghost use Rattle.tt_score.specs.Paid.{paid_at};
+ghost use Rattle.tt_score.specs.Placed.{closed_count, over_placed, paid_at};
 ghost use Rattle.tt_score.specs.Kept.{AreClassSums, IsPlanOf};
 
 use tt_bits::{Spot, Value};
