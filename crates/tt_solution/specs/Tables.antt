@@ -1,9 +1,9 @@
 -- The published file, one line for each key, in the order in which they are read. It is read in two passes,
 -- and the second only where the first found no fault: first the shape of all, with no reference looked up;
 -- then all of it again, with the ids of the classes and the students known.
-use Rattle.std.specs.Prelude.{ℕ, List, [], ◌∷◌, ◌++◌, Bool, false, ◌==◌, Option, Some, None, Result, Ok, length, map, codes, nat_eq, if◌then◌else◌}
+use Rattle.std.specs.Prelude.{ℕ, List, [], ◌∷◌, ◌++◌, Bool, false, ◌==◌, Option, Some, None, Result, Ok, length, map, codes, nat_eq}
 use Rattle.std.specs.Option.{option_map, option_map_or}
-use Rattle.std.specs.List.{list_any, filter, range_with_len}
+use Rattle.std.specs.List.{list_any, filter, find, range_with_len}
 use Rattle.serde_json.specs.Data.{Data}
 use Rattle.tt_bits.specs.Sets.{days_text, weeks_text}
 use Rattle.tt_problem.specs.declared.parts.Parts.{Parts}
@@ -68,8 +68,7 @@ listed_in c p = do
 
 -- what is listed of a class
 abbrev pub entry_at : List Entry → ℕ → Option Entry
-entry_at [] class = None
-entry_at (e ∷ entries) class = if e.class == class then Some e else entry_at entries class
+entry_at entries class = find (λ e. e.class == class) entries
 
 -- when and where a class is listed to meet
 abbrev pub meeting_at : List Entry → ℕ → Option Meeting

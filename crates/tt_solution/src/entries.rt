@@ -1,9 +1,9 @@
-ghost use Rattle.std.specs.Prelude.{◌≡◌, ◌<◌, ◌≤◌, length, IfOk, OnOk, All};
+ghost use Rattle.std.specs.Prelude.{◌≡◌, ◌≤◌, IfOk, OnOk};
 ghost use Rattle.tt_problem.specs.Valid.{class_ids, student_ids};
 ghost use Rattle.tt_fields.specs.Answer.{Reads, Gives, part_of};
-ghost use Rattle.tt_fields.specs.Kinds.{a_reference, each, list_of};
-ghost use Rattle.tt_fields.specs.List.{items_of, known_of, IsFew, IsAmong};
-ghost use Rattle.tt_solution.specs.Tables.{meeting_in, entry_of, listed_in, unknown as unknown_of, known as known_of_problem};
+ghost use Rattle.tt_fields.specs.Kinds.{a_reference};
+ghost use Rattle.tt_fields.specs.List.{known_of, IsAmong};
+ghost use Rattle.tt_solution.specs.Tables.{meeting_in, entry_of, listed_in, Listed as ListedSeen, unknown as unknown_of, known as known_of_problem};
 ghost use Rattle.tt_solution.specs.Entries.{context_of, listed_read, IsContext, AreEntries, AreEntriesOf};
 
 use crate::meeting::Meeting;
@@ -11,8 +11,9 @@ use indexmap::IndexSet;
 use std::alloc::{AllocError, Global};
 use tt_base::Row;
 use tt_fields::{
-    Fault, Items, Known, Part, ProblemFault, add_id, as_object, days, item_reference, known_id,
-    list, list_or_none, number, optional_number, weeks,
+    Fault, ItemTable, Known, NextTable, Part, ProblemFault, add_id, as_object, days,
+    item_reference, known_id, list, list_or_none, number, optional_number, read_each, read_onto,
+    weeks,
 };
 use tt_problem::Problem;
 
@@ -59,70 +60,53 @@ fn meeting<'a>(context: &Context<'_>, object: &'a Part<'a>) -> Result<Meeting, F
     })
 }
 
-/// The places of the students that a list names.
-#[tactic(auto, using(tt_fields::proofs::Walk::collects_more, tt_fields::proofs::Walk::collects_fault, tt_fields::proofs::Walk::collects_all, tt_fields::proofs::Walk::passed_on))]
-fn students(alloc: Global, known: &Known<'_>, items: &Items<'_>) -> Result<Row<u32>, ProblemFault>
-    requires { IsFew known.now }
-    ensures reads { Gives (λ students. students) result (list_of (a_reference (known_of known.now)) (items_of items.now)) }
-    ensures among { IfOk result (λ students. All (IsAmong known.now) students) }
-{
-    let mut students = Vec::new(alloc);
-    for (i, value) in items.values.iter().enumerate() {
-        let item = (&*items).item(i, value);
-        let student = item_reference(known, &item)?;
-        students.push(student)?;
+/// A student of a listed class.
+impl ItemTable<u32> for Context<'_> {
+    ghost reads = { λ c. a_reference (known_of c.students) };
+
+    ghost valid = { λ c student. IsAmong c.students student };
+
+    ghost ready = { λ c. IsContext c };
+
+    fn read_item(&self, _alloc: Global, item: &Part<'_>) -> Result<u32, ProblemFault> {
+        Ok(item_reference(&self.students, &*item)?)
     }
-    Ok(Row::from_vec(students))
 }
 
 /// A listed class, after those that have been read.
-#[tactic(auto, using(crate::proofs::EntryLemmas::entries_push), unfolding(crate::specs::Tables::entry_of))]
-fn add_entry(
-    alloc: Global,
-    context: &Context<'_>,
-    object: &Part<'_>,
-    listed: &mut Listed,
-) -> Result<(), ProblemFault>
-    requires context { IsContext context.now }
-    requires valid { AreEntries context.now listed.old.entries.items }
-    ensures reads { Gives (λ _. listed_read listed.new) result
-        (entry_of (context_of context.now) (part_of object.now) (listed_read listed.old)) }
-    ensures valid { OnOk result (AreEntries context.now listed.new.entries.items) }
-{
-    as_object(object)?;
-    let id = number(&*object, "id", 0, u32::MAX)?;
-    add_id(object, id, &mut listed.ids)?;
-    let class = known_id(&context.classes, &*object, "id")?;
-    let meeting = meeting(context, &*object)?;
-    let items = list_or_none(&*object, "students", 100_000)?;
-    let students = students(alloc, &context.students, &items)?;
-    listed.entries.push(Entry {
-        class,
-        meeting,
-        students,
-    })?;
-    Ok(())
-}
+impl NextTable<Listed> for Context<'_> {
+    ghost Seen = { ListedSeen };
 
-/// All classes of a list.
-#[tactic(auto, using(tt_fields::proofs::Walk::threads_more, tt_fields::proofs::Walk::threads_fault, tt_fields::proofs::Walk::threads_all))]
-fn each_entry(
-    alloc: Global,
-    context: &Context<'_>,
-    items: &Items<'_>,
-    listed: &mut Listed,
-) -> Result<(), ProblemFault>
-    requires context { IsContext context.now }
-    requires valid { AreEntries context.now listed.old.entries.items }
-    ensures reads { Gives (λ _. listed_read listed.new) result
-        (each (entry_of (context_of context.now)) (items_of items.now) (listed_read listed.old)) }
-    ensures valid { OnOk result (AreEntries context.now listed.new.entries.items) }
-{
-    for (i, value) in items.values.iter().enumerate() {
-        let item = (&*items).item(i, value);
-        add_entry(alloc, context, &item, listed)?;
+    ghost seen = { listed_read };
+
+    ghost reads = { λ c. entry_of (context_of c) };
+
+    ghost most = { λ c. 20000 };
+
+    ghost valid = { λ c place listed. IsContext c × AreEntries c listed.entries.items };
+
+    #[tactic(auto, using(crate::proofs::EntryLemmas::entries_push), unfolding(crate::specs::Tables::entry_of))]
+    fn read_next(
+        &self,
+        alloc: Global,
+        _place: usize,
+        item: &Part<'_>,
+        before: &mut Listed,
+    ) -> Result<(), ProblemFault> {
+        as_object(item)?;
+        let id = number(&*item, "id", 0, u32::MAX)?;
+        add_id(item, id, &mut before.ids)?;
+        let class = known_id(&self.classes, &*item, "id")?;
+        let meeting = meeting(self, &*item)?;
+        let items = list_or_none(&*item, "students", 100_000)?;
+        let students = read_each(alloc, self, &items)?;
+        before.entries.push(Entry {
+            class,
+            meeting,
+            students: Row::from_vec(students),
+        })?;
+        Ok(())
     }
-    Ok(())
 }
 
 /// All classes of the whole value.
@@ -142,7 +126,7 @@ fn read_listed(
         ids: IndexSet::new(alloc),
         entries: Vec::new(alloc),
     };
-    each_entry(alloc, context, &items, &mut listed)?;
+    read_onto(alloc, context, &items, &mut listed)?;
     Ok(listed)
 }
 

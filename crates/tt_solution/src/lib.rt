@@ -13,6 +13,6 @@ mod text;
 
 pub use document::{SolutionFault, read_published};
 pub use meeting::Meeting;
-pub use moves::moved;
+pub use moves::{is_moved, moved};
 pub use published::Published;
 pub use text::write_published;
