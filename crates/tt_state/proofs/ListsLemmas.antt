@@ -10,8 +10,12 @@ use Rattle.std.proofs.lemmas.List.Elements.{All-set, All-replicate}
 use Rattle.tt_problem.specs.declared.parts.ClassPart.{ClassPart}
 use Rattle.tt_problem.specs.declared.parts.Parts.{Parts}
 use Rattle.tt_roster.specs.Lists.{Ascends, has_class, list_of}
-use Rattle.tt_state.specs.Seats.{limit_of, count_with, others_with, has_seat, first_without_seat}
-use Rattle.tt_state.specs.Sound.{IsEnrolled, AreListsOf}
+use Rattle.tt_state.specs.Seats.{limit_of, count_with, others_with, has_seat, first_without_seat, may_have}
+use Rattle.tt_state.specs.Sound.{AreListsOf}
+
+-- the list of a student who got it
+pub list_now : (now first : List (List ℕ)) (student : ℕ) (list : List ℕ) → student < length first → now ≡ slice_set first student list → list_of now student ≡ list
+list_now now first student list lt is = ap (λ l. list_of l student) is ∙ get_or-set_same first student list [] lt
 
 -- the count of students who have a class, where one gets another list
 pub count-list : (lists : List (List ℕ)) (student class : ℕ) (list : List ℕ) → student < length lists → count_with (slice_set lists student list) class ≡ others_with lists student class + cond (has_class class list) 1 0
@@ -37,7 +41,7 @@ limits_with p lists student list lt of seats class =
     (count-list lists student class list lt) (omega (arith, count-others lists student class lt)) (seats class) (of class)
 
 -- the lists with one more, that is a valid enrolment or empty and whose classes have a seat
-pub lists_with : (p : Parts) (lists : List (List ℕ)) (student : ℕ) (list : List ℕ) → student < length p.students → AreListsOf p lists → Ascends 0 (length p.classes) list → IsEnrolled p student list
+pub lists_with : (p : Parts) (lists : List (List ℕ)) (student : ℕ) (list : List ℕ) → student < length p.students → AreListsOf p lists → Ascends 0 (length p.classes) list → may_have p student list ≡ true
     → ((class : ℕ) → has_class class list ≡ true → has_seat p lists student class ≡ true) → AreListsOf p (slice_set lists student list)
 lists_with p lists student list within of up enrolled seats =
     let lt : student < length lists = omega (arith, of.whole) in
@@ -52,7 +56,7 @@ lists_with p lists student list within of up enrolled seats =
     }
 
 pub lists_without : (p : Parts) (lists : List (List ℕ)) (student : ℕ) → student < length p.students → AreListsOf p lists → AreListsOf p (slice_set lists student [])
-lists_without p lists student within of = lists_with p lists student [] within of tt tt (λ class has. absurd (cc has))
+lists_without p lists student within of = lists_with p lists student [] within of tt refl (λ class has. absurd (cc has))
 
 -- where no class is without a seat, each has one
 pub all_have_seats : (p : Parts) (lists : List (List ℕ)) (student : ℕ) (classes : List ℕ) → first_without_seat p lists student classes ≡ None → (class : ℕ) → has_class class classes ≡ true → has_seat p lists student class ≡ true
@@ -91,6 +95,6 @@ pub lists_empty : (p : Parts) (lists : List (List ℕ)) → lists ≡ replicate 
 lists_empty p lists is = record {
   whole = ap length is ∙ length-replicate {A = List ℕ} (length p.students) [];
   ordered = rw is (All-replicate (Ascends 0 (length p.classes)) (length p.students) [] tt);
-  enrolled = λ student. rw (is, no_list (length p.students) student) tt;
+  enrolled = λ student. rw (is, no_list (length p.students) student) refl;
   limits = λ class. rw is (no_limit (limit_of p class) (count_with (replicate (length p.students) []) class) (no_count (length p.students) class));
 }

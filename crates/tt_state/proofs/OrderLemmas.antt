@@ -20,7 +20,7 @@ use Rattle.tt_roster.specs.Lists.{with_class}
 use Rattle.tt_struct.specs.Enrolments.{is_enrolment, lists, has_no_repeat, has_one, has_none, fills, avoids, takes_one, takes_course, takes, is_of_courses, has_parent_of, has_parent, is_enrolment_of}
 use Rattle.tt_struct.proofs.LengthLemmas.{enrolment_fits}
 use Rattle.tt_state.specs.Snapshots.{in_order}
-use Rattle.tt_state.specs.Sound.{IsEnrolled}
+use Rattle.tt_state.specs.Seats.{may_have}
 use Rattle.tt_state.specs.Kept.{most_at}
 
 -- what a list in order has, with one class more
@@ -200,22 +200,22 @@ pub fits_student : (p : Parts) (student : ℕ) (list : List ℕ) → IsValid p �
 fits_student p student list valid is = fits_by p student (slice_get p.students student) list valid refl is
 
 -- a list that is empty or a valid enrolment
-pub enrolled_once : (p : Parts) (student : ℕ) (list : List ℕ) → IsEnrolled p student list → has_no_repeat list ≡ true
+pub enrolled_once : (p : Parts) (student : ℕ) (list : List ℕ) → may_have p student list ≡ true → has_no_repeat list ≡ true
 enrolled_once p student [] of = refl
 enrolled_once p student (class ∷ list) of = enrolment_has_no_repeat p student (class ∷ list) of
 
-pub enrolled_few : (p : Parts) (student : ℕ) (list : List ℕ) → IsValid p → IsEnrolled p student list → length list ≤ most_at p student
+pub enrolled_few : (p : Parts) (student : ℕ) (list : List ℕ) → IsValid p → may_have p student list ≡ true → length list ≤ most_at p student
 enrolled_few p student [] valid of = omega arith
 enrolled_few p student (class ∷ list) valid of = let fits = fits_student p student (class ∷ list) valid of in fits.few
 
-pub enrolled_short : (p : Parts) (student : ℕ) (list : List ℕ) → IsValid p → IsEnrolled p student list → length list ≤ 4000000
+pub enrolled_short : (p : Parts) (student : ℕ) (list : List ℕ) → IsValid p → may_have p student list ≡ true → length list ≤ 4000000
 enrolled_short p student [] valid of = omega arith
 enrolled_short p student (class ∷ list) valid of = let fits = fits_student p student (class ∷ list) valid of in omega (arith, fits.few, fits.most)
 
-pub enrolled_by : (p : Parts) (student : ℕ) (list : List ℕ) → is_enrolment p student list ≡ true → IsEnrolled p student list
-enrolled_by p student [] is = tt
+pub enrolled_by : (p : Parts) (student : ℕ) (list : List ℕ) → is_enrolment p student list ≡ true → may_have p student list ≡ true
+enrolled_by p student [] is = refl
 enrolled_by p student (class ∷ list) is = is
 
-pub enrolled_ordered : (p : Parts) (student : ℕ) (list : List ℕ) → IsEnrolled p student list → IsEnrolled p student (in_order list)
-enrolled_ordered p student [] of = tt
+pub enrolled_ordered : (p : Parts) (student : ℕ) (list : List ℕ) → may_have p student list ≡ true → may_have p student (in_order list) ≡ true
+enrolled_ordered p student [] of = refl
 enrolled_ordered p student (class ∷ list) of = enrolled_by p student (in_order (class ∷ list)) (is_enrolment-ordered p student (class ∷ list) ∙ of)

@@ -1,5 +1,5 @@
 -- What a state keeps after each change.
-use Rattle.std.proofs.Common.{◌≡◌, ◌∙◌, ℕ, ◌<◌, ◌≤◌, List, [], ◌∷◌, Option, Some, None, length, refl, ap, sym, subst, arith}
+use Rattle.std.proofs.Common.{◌≡◌, ◌∙◌, ℕ, ◌<◌, ◌≤◌, true, List, [], ◌∷◌, Option, Some, None, length, refl, ap, sym, subst, arith}
 use Rattle.std.specs.Prelude.{replicate, slice_index, slice_index_or, slice_set, All}
 use Rattle.std.specs.FinMap.{FinMap, empty}
 use Rattle.std.proofs.lemmas.List.{length-set}
@@ -18,8 +18,8 @@ use Rattle.tt_journal.specs.declared.Entry.{Entry}
 use Rattle.tt_journal.specs.declared.Entry.TheVariants.{Placed}
 use Rattle.tt_state.specs.Snapshots.{Snapshot, in_order, list_in, value_in, with_list, with_value}
 use Rattle.tt_state.specs.Values.{MayHave}
-use Rattle.tt_state.specs.Seats.{first_without_seat}
-use Rattle.tt_state.specs.Sound.{AreListsOf, IsEnrolled, IsSound}
+use Rattle.tt_state.specs.Seats.{first_without_seat, may_have}
+use Rattle.tt_state.specs.Sound.{AreListsOf, IsSound}
 use Rattle.tt_state.specs.History.{left_by, point_count, seated_by}
 use Rattle.tt_state.specs.declared.change.Beginning.{Beginning}
 use Rattle.tt_state.specs.declared.change.Beginning.TheVariants.{Step, Moment}
@@ -114,7 +114,7 @@ then p s t u es fs gs one two = record { stands = two.stands; past = past_then s
 -- a list that a student may get
 pub record MayGet (p : Parts) (s : Snapshot) (student : ℕ) (classes : List ℕ) : Type 0 where
   pub all : All (λ class. class < length p.classes) classes
-  pub valid : IsEnrolled p student classes
+  pub valid : may_have p student classes ≡ true
   pub seats : first_without_seat p s.lists student classes ≡ None
 
 -- a student got a list in place of another

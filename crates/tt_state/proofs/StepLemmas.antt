@@ -14,7 +14,7 @@ on_step p s (Mark k ∷ es) kept some = tt
 on_step p s (entry ∷ es) kept some = kept.0
 
 -- where there is an earlier snapshot, there is a step
-pub step_by : (s : Snapshot) (es : List Entry) → 0 < length (earlier_by s es) → HasStep es
+step_by : (s : Snapshot) (es : List Entry) → 0 < length (earlier_by s es) → HasStep es
 step_by s [] some = absurd (omega arith)
 step_by s (Mark k ∷ es) some = tt
 step_by s (entry ∷ es) some = step_by (undone entry s) es some

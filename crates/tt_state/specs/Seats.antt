@@ -27,7 +27,7 @@ first_without_seat p lists student [] = None
 first_without_seat p lists student (class ∷ classes) =
     if has_seat p lists student class then first_without_seat p lists student classes else Some class
 
--- whether a student may have these classes: none, or a valid enrolment
+-- a student may have these classes: they are none, or a valid enrolment
 abbrev pub may_have : Parts → (student : ℕ) → List ℕ → Bool
 may_have p student [] = true
 may_have p student (class ∷ classes) = is_enrolment p student (class ∷ classes)

@@ -10,20 +10,14 @@ use Rattle.tt_roster.specs.Lists.{Ascends, list_of}
 use Rattle.tt_score.specs.declared.totals.Totals.{Totals}
 use Rattle.tt_score.specs.Kept.{IsPlanOf}
 use Rattle.tt_score.specs.Totals.{totals_of}
-use Rattle.tt_struct.specs.Enrolments.{is_enrolment}
 use Rattle.tt_state.specs.Snapshots.{Snapshot}
-use Rattle.tt_state.specs.Seats.{limit_of, count_with}
-
--- the classes of a student are none, or a valid enrolment
-abbrev pub IsEnrolled : Parts → (student : ℕ) → List ℕ → Type 0
-IsEnrolled p student [] = Unit {0}
-IsEnrolled p student (class ∷ list) = is_enrolment p student (class ∷ list) ≡ true
+use Rattle.tt_state.specs.Seats.{limit_of, count_with, may_have}
 
 -- each student has no class or a valid enrolment in the problem's order, and no class has more students than its limit
 pub record AreListsOf (p : Parts) (lists : List (List ℕ)) : Type 0 where
   pub whole : length lists ≡ length p.students
   pub ordered : All (Ascends 0 (length p.classes)) lists
-  pub enrolled : (student : ℕ) → IsEnrolled p student (list_of lists student)
+  pub enrolled : (student : ℕ) → may_have p student (list_of lists student) ≡ true
   pub limits : (class : ℕ) → IfSome (limit_of p class) (λ limit. count_with lists class ≤ limit)
 
 -- what is counted is of classes of the problem, at values of their domains

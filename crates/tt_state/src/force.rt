@@ -91,36 +91,9 @@ fn take_out_placed(
     }
 }
 
-/// Takes out classes for another at a value, one after another, and counts them.
+/// Gives a class a value, for which others are taken out and counted first, one after another. Where
+/// memory is wanting, some of them may be out, and the entries lead back.
 #[tactic(auto, using(crate::proofs::ForceLemmas::same, crate::proofs::StateLemmas::then, crate::proofs::ForceLemmas::all_out_more, crate::proofs::ForceLemmas::out_by_more))]
-fn take_all_out(
-    problem: &Problem,
-    score: &mut Score,
-    journal: &mut Journal,
-    statistics: &mut Cbs,
-    class: u32,
-    value: Value,
-    others: &[u32],
-) -> Result<(), AllocError>
-    requires fits { Fits problem.now score.old }
-    requires stands { StandsOn problem.now (snapshot_of score.old statistics.old) journal.old.list }
-    requires spare { 2 * length others.now + 1 ≤ journal.old.spare }
-    requires value { IsOfDomain problem.now class value }
-    requires others { All (λ other. other < length problem.now.classes) others.now }
-    ensures fits { Fits problem.now score.new }
-    ensures leads { LeadsTo problem.now (snapshot_of score.old statistics.old) journal.old.list (snapshot_of score.new statistics.new) journal.new.list }
-    ensures now { OnOk result (snapshot_of score.new statistics.new ≡ all_out class value (snapshot_of score.old statistics.old) others.now) }
-    ensures entries { OnOk result (journal.new.list ≡ out_by class value (snapshot_of score.old statistics.old) others.now journal.old.list) }
-    ensures spare { OnOk result (1 ≤ journal.new.spare) }
-{
-    for other in others {
-        take_out_placed(problem, score, journal, statistics, class, value, *other)?;
-    }
-    Ok(())
-}
-
-/// Gives a class a value, for which others are taken out first. Where memory is wanting, some of
-/// them may be out, and the entries lead back.
 pub fn force(
     problem: &Problem,
     score: &mut Score,
@@ -140,7 +113,9 @@ pub fn force(
     ensures now { OnOk result (snapshot_of score.new statistics.new ≡ with_value (all_out class value (snapshot_of score.old statistics.old) others.now) class (Some value)) }
     ensures entries { OnOk result (journal.new.list ≡ Entry.Placed class (value_in (all_out class value (snapshot_of score.old statistics.old) others.now) class) ∷ out_by class value (snapshot_of score.old statistics.old) others.now journal.old.list) }
 {
-    take_all_out(problem, score, journal, statistics, class, value, others)?;
+    for other in others {
+        take_out_placed(problem, score, journal, statistics, class, value, *other)?;
+    }
     change(problem, score, journal, class, Some(value));
     Ok(())
 }

@@ -2,7 +2,7 @@ ghost use Rattle.std.specs.Prelude.{◌≡◌, ◌+◌, ◌<◌, ◌≤◌, ◌�
 ghost use Rattle.tt_score.specs.Kept.{Fits, plan_of, seats_of};
 ghost use Rattle.tt_roster.specs.Lists.{list_of};
 ghost use Rattle.tt_struct.specs.Enrolments.{has_no_repeat};
-ghost use Rattle.tt_state.specs.Sound.{IsEnrolled};
+ghost use Rattle.tt_state.specs.Seats.{may_have};
 ghost use Rattle.tt_state.specs.Snapshots.{in_order};
 ghost use Rattle.tt_state.specs.History.{left_by, seated_by};
 ghost use Rattle.tt_state.specs.Kept.{most_at};
@@ -89,51 +89,12 @@ fn seat_all(problem: &Problem, score: &mut Score, student: u32, classes: &[u32])
     }
 }
 
-/// Takes a student out of each class, and notes it.
-fn empty_list(problem: &Problem, score: &mut Score, journal: &mut Journal, student: u32)
-    requires fits { Fits problem.now score.old }
-    requires student { student < length problem.now.students }
-    requires spare { length (list_of (seats_of score.old) student) ≤ journal.old.spare }
-    ensures plan { plan_of score.new ≡ plan_of score.old }
-    ensures lists { seats_of score.new ≡ slice_set (seats_of score.old) student [] }
-    ensures fits { Fits problem.now score.new }
-    ensures entries { journal.new.list ≡ left_by student (list_of (seats_of score.old) student) journal.old.list }
-    ensures spare { journal.new.spare + length (list_of (seats_of score.old) student) ≡ journal.old.spare }
-{
-    note_left(score, journal, student);
-    leave_all(problem, score, student);
-}
-
-/// Gives a student who has no class a seat in each class of a list, and notes it.
-fn fill_list(
-    problem: &Problem,
-    score: &mut Score,
-    journal: &mut Journal,
-    student: u32,
-    classes: &[u32],
-)
-    requires fits { Fits problem.now score.old }
-    requires student { student < length problem.now.students }
-    requires classes { All (λ class. class < length problem.now.classes) classes.now }
-    requires no_repeat { has_no_repeat classes.now ≡ true }
-    requires few { length classes.now ≤ most_at problem.now student }
-    requires none { list_of (seats_of score.old) student ≡ [] }
-    requires spare { length classes.now ≤ journal.old.spare }
-    ensures plan { plan_of score.new ≡ plan_of score.old }
-    ensures lists { seats_of score.new ≡ slice_set (seats_of score.old) student (in_order classes.now) }
-    ensures fits { Fits problem.now score.new }
-    ensures entries { journal.new.list ≡ seated_by student (in_order classes.now) journal.old.list }
-{
-    seat_all(problem, score, student, classes);
-    note_seated(score, journal, student);
-}
-
 /// How many entries it takes to begin or to go on with a step, and to give a student these classes
 /// in place of those that the student has.
 pub fn entry_count(problem: &Problem, score: &Score, student: u32, classes: &[u32]) -> u32
     requires fits { Fits problem.now score.now }
     requires student { student < length problem.now.students }
-    requires valid { IsEnrolled problem.now student classes.now }
+    requires valid { may_have problem.now student classes.now ≡ true }
     ensures { result ≡ length (list_of (seats_of score.now) student) + length classes.now + 1 }
 {
     seat_count(problem, score, student) + classes.len() as u32 + 1
@@ -151,13 +112,15 @@ pub fn replace_list(
     requires fits { Fits problem.now score.old }
     requires student { student < length problem.now.students }
     requires classes { All (λ class. class < length problem.now.classes) classes.now }
-    requires valid { IsEnrolled problem.now student classes.now }
+    requires valid { may_have problem.now student classes.now ≡ true }
     requires spare { length (list_of (seats_of score.old) student) + length classes.now ≤ journal.old.spare }
     ensures plan { plan_of score.new ≡ plan_of score.old }
     ensures lists { seats_of score.new ≡ slice_set (seats_of score.old) student (in_order classes.now) }
     ensures fits { Fits problem.now score.new }
     ensures entries { journal.new.list ≡ seated_by student (in_order classes.now) (left_by student (list_of (seats_of score.old) student) journal.old.list) }
 {
-    empty_list(problem, score, journal, student);
-    fill_list(problem, score, journal, student, classes);
+    note_left(score, journal, student);
+    leave_all(problem, score, student);
+    seat_all(problem, score, student, classes);
+    note_seated(score, journal, student);
 }

@@ -7,7 +7,7 @@ ghost use Rattle.tt_state.specs.Values.{MayHave};
 ghost use Rattle.tt_state.specs.Refusals.{IsOfUnassign, IsOfSection, IsOfDrop};
 ghost use Rattle.tt_state.specs.Seats.{first_without_seat, may_have};
 ghost use Rattle.tt_state.specs.Snapshots.{in_order, list_in, opening_snapshot, value_in, with_list, with_value};
-ghost use Rattle.tt_state.specs.Sound.{ArePositive, AreSound, IsEnrolled, IsSound, is_ready, no_faults};
+ghost use Rattle.tt_state.specs.Sound.{ArePositive, AreSound, IsSound, is_ready, no_faults};
 ghost use Rattle.tt_state.specs.Kept.{counts_of};
 ghost use Rattle.tt_state.specs.Past.{HasPastOf, MayBegin, begun};
 ghost use Rattle.tt_state.specs.History.{before_step, desk_of, earlier, left_by, point_count, seated_by, stepped, moved_to, trail};
@@ -44,6 +44,16 @@ pub enum Refusal {
     NothingToUndo,
     /// Memory was refused.
     Memory,
+}
+
+impl From<AllocError> for Refusal {
+    ghost use Rattle.tt_state.specs.declared.state.Refusal.TheVariants.{Memory};
+
+    ghost from_gives = { λ _ e. e ≡ Memory };
+
+    fn from(_e: AllocError) -> Refusal {
+        Refusal::Memory
+    }
 }
 
 /// A problem, its present plan, lists and statistics with the sums over them, and the entries that
@@ -168,10 +178,7 @@ impl State {
         if value_now(&self.score, class).is_none() {
             return Err(Refusal::NotPlaced);
         }
-        match self.set_class(Beginning::Step, class, None) {
-            Ok(()) => Ok(()),
-            Err(_) => Err(Refusal::Memory),
-        }
+        Ok(self.set_class(Beginning::Step, class, None)?)
     }
 
     /// Gives a class a value or none, in the last step.
@@ -196,7 +203,7 @@ impl State {
     ) -> Result<(), AllocError>
         requires student { student < length self.old.problem.students }
         requires classes { All (λ class. class < length self.old.problem.classes) classes.now }
-        requires valid { IsEnrolled self.old.problem student classes.now }
+        requires valid { may_have self.old.problem student classes.now ≡ true }
         requires seats { first_without_seat self.old.problem self.old.present.lists student classes.now ≡ None }
         requires begins { MayBegin beginning self.old.entries }
         ensures now { OnOk result (self.new ≡ record { problem = self.old.problem; present = with_list self.old.present student (in_order classes.now); entries = seated_by student (in_order classes.now) (left_by student (list_in self.old.present student) (begun beginning self.old.entries)); taken = self.old.taken }) }
@@ -236,10 +243,7 @@ impl State {
         match section_fault(&self.problem, &self.score, student, classes) {
             Some(SectionFault::Invalid) => Err(Refusal::BadSection),
             Some(SectionFault::Full { class }) => Err(Refusal::NoSeat { class }),
-            None => match self.set_list(Beginning::Step, student, classes) {
-                Ok(()) => Ok(()),
-                Err(_) => Err(Refusal::Memory),
-            },
+            None => Ok(self.set_list(Beginning::Step, student, classes)?),
         }
     }
 
@@ -258,10 +262,7 @@ impl State {
         if first_class(&self.score, student).is_none() {
             return Err(Refusal::NotSectioned);
         }
-        match self.set_list(Beginning::Step, student, &[]) {
-            Ok(()) => Ok(()),
-            Err(_) => Err(Refusal::Memory),
-        }
+        Ok(self.set_list(Beginning::Step, student, &[])?)
     }
 
     /// Gives a student the classes of a list in place of those that the student has, in the last
@@ -284,10 +285,7 @@ impl State {
         match list_fault(&self.problem, &self.score, student, classes) {
             Some(SectionFault::Invalid) => Err(Refusal::BadSection),
             Some(SectionFault::Full { class }) => Err(Refusal::NoSeat { class }),
-            None => match self.set_list(Beginning::Moment, student, classes) {
-                Ok(()) => Ok(()),
-                Err(_) => Err(Refusal::Memory),
-            },
+            None => Ok(self.set_list(Beginning::Moment, student, classes)?),
         }
     }
 
@@ -308,7 +306,7 @@ impl State {
         Ok(())
     }
 
-    /// Goes back by a step, where there is one.
+    /// Goes back by a step; there must be one.
     #[tactic(auto, using(crate::proofs::BackLemmas::one_moment, crate::proofs::BackLemmas::entries_less))]
     pub fn take_back(&mut self)
         requires { 0 < length (earlier self.old) }

@@ -108,10 +108,7 @@ impl State {
             return Err(Refusal::Blocked { reason });
         }
         self.find_conflicts(class, value);
-        match self.force_found(beginning, class, value) {
-            Ok(()) => Ok(()),
-            Err(_) => Err(Refusal::Memory),
-        }
+        Ok(self.force_found(beginning, class, value)?)
     }
 
     /// Forces a class to a value, as one step: its conflict set is taken out and counted, and the

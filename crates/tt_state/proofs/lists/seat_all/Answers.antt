@@ -1,15 +1,12 @@
 use Rattle.std.proofs.Common.{◌≡◌, ◌∙◌, ◌<◌, ◌-◌, [], List, ℕ, length, drop, get_or, ap, arith}
 use Rattle.std.specs.Prelude.{slice_index, slice_set}
-use Rattle.std.proofs.lemmas.List.{get_or-set_same, set-set}
+use Rattle.std.proofs.lemmas.List.{set-set}
 use Rattle.tt_roster.specs.Lists.{has_class, list_of, with_class}
 use Rattle.tt_score.specs.Kept.{seats_of}
 use Rattle.tt_state.specs.Snapshots.{in_order}
+use Rattle.tt_state.proofs.ListsLemmas.{list_now}
 use Rattle.tt_state.proofs.SeatLemmas.{free_at, order_at, few_at}
 use Rattle.tt_state.proofs.lists.seat_all.Goals as goal
-
--- the list of the student so far
-list_now : (now first : List (List ℕ)) (student : ℕ) (list : List ℕ) → student < length first → now ≡ slice_set first student list → list_of now student ≡ list
-list_now now first student list lt is = ap (λ l. list_of l student) is ∙ get_or-set_same first student list [] lt
 
 list_next : (new now first : List (List ℕ)) (student class : ℕ) (list next : List ℕ) → student < length first → now ≡ slice_set first student list → new ≡ slice_set now student (with_class class (list_of now student)) → with_class class list ≡ next → new ≡ slice_set first student next
 list_next new now first student class list next lt is set more =

@@ -1,10 +1,9 @@
-use Rattle.std.proofs.Common.{◌≡◌, ◌∙◌, ◌<◌, None, length, ap, sym, subst}
+use Rattle.std.proofs.Common.{◌≡◌, ◌∙◌, ◌<◌, None, length, true, ap, sym, subst}
 use Rattle.std.specs.Prelude.{All}
 use Rattle.tt_roster.specs.Lists.{list_of}
 use Rattle.tt_score.specs.Kept.{seats_of}
 use Rattle.tt_state.specs.Snapshots.{in_order}
-use Rattle.tt_state.specs.Seats.{first_without_seat}
-use Rattle.tt_state.specs.Sound.{IsEnrolled}
+use Rattle.tt_state.specs.Seats.{first_without_seat, may_have}
 use Rattle.tt_state.specs.History.{Held, point_count, left_by, seated_by}
 use Rattle.tt_state.specs.Kept.{snapshot_of}
 use Rattle.tt_state.specs.Past.{HasPastOf, LeadsTo, MayBegin, begun}
@@ -21,7 +20,7 @@ leads c =
     let back = sym c.self.view_is in
     let within = subst (λ (h : Held). student < length h.problem.students) back c.requires.student in
     let all = subst (λ (h : Held). All (λ class. class < length h.problem.classes) classes) back c.requires.classes in
-    let valid = subst (λ (h : Held). IsEnrolled h.problem student classes) back c.requires.valid in
+    let valid = subst (λ (h : Held). may_have h.problem student classes ≡ true) back c.requires.valid in
     let seats = subst (λ (h : Held). first_without_seat h.problem h.present.lists student classes ≡ None) back c.requires.seats in
     let begins = subst (λ (h : Held). MayBegin c.args.beginning h.entries) back c.requires.begins in
     let begun_is = c.begin_change.ensures.entries ∙ ap (begun c.args.beginning) c.reserve.ensures.list in

@@ -3,7 +3,7 @@ use Rattle.tt_score.specs.Kept.{Fits}
 use Rattle.tt_state.specs.Forced.{all_out, out_by}
 use Rattle.tt_state.specs.Kept.{snapshot_of}
 use Rattle.tt_state.specs.Past.{LeadsTo}
-use Rattle.tt_state.proofs.force.take_all_out.Given as goal
+use Rattle.tt_state.proofs.force.force.Given as goal
 
 abbrev pub invariant-loop-other : goal.invariant-loop-other
 invariant-loop-other l = record {
