@@ -18,12 +18,8 @@ fn classes_found(alloc: Global, state: &State, student: u32) -> Result<Vec<u32>,
     ensures only { IfErr result IsOfEnrol }
 {
     let problem = state.problem();
-    let Ok(known) = Known::new(alloc, problem, state.score(), Some(student)) else {
-        return Err(Refusal::Memory);
-    };
-    let Ok(mut buffers) = Buffers::new(alloc, problem) else {
-        return Err(Refusal::Memory);
-    };
+    let known = Known::new(alloc, problem, state.score(), Some(student))?;
+    let mut buffers = Buffers::new(alloc, problem)?;
     match find(problem, &known, student, &mut buffers) {
         None => Err(Refusal::BadSection),
         Some(count) => {
