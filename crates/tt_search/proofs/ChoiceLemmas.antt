@@ -1,13 +1,18 @@
 -- A step of the walk along a domain.
-use Rattle.std.proofs.Common.{◌≡◌, ℕ, ◌+◌, ◌≤◌, length, Bool, true, false, Option, Some, None, List, refl}
+use Rattle.std.proofs.Common.{◌≡◌, ℕ, ◌+◌, ◌≤◌, length, drop, Bool, true, false, Option, Some, None, List, refl}
 use Rattle.std.specs.Prelude.{slice_get, IfSome}
+use Rattle.std.specs.List.{filter}
 use Rattle.tt_bits.specs.declared.times.Value.{Value}
 use Rattle.tt_search.specs.declared.turn.Offer.{Offer}
-use Rattle.tt_search.specs.Least.{comes_before, better}
+use Rattle.tt_search.specs.Least.{comes_before, better, least_after}
 use Rattle.tt_search.specs.Numbers.{price_numbers, IsPriced, offered}
-use Rattle.tt_search.specs.Chosen.{IsChosenOn}
 use Rattle.std.proofs.lemmas.List.{drop_all}
 use Rattle.tt_search.proofs.RangeLemmas.{drop_at}
+
+-- from the k-th value on the walk finds `all`, where `best` was found before
+pub record IsChosenOn (numbers : Value → List ℕ) (Of : Value → Type 0) (is_open : Value → Bool) (domain : List Value) (all : Option Value) (best : Option Offer) (k : ℕ) : Type 0 where
+  pub priced : IsPriced numbers Of best
+  pub choice : least_after numbers (offered best) (filter is_open (drop k domain)) ≡ all
 
 -- the earlier offer stays where the later one would not come before it
 pub stays : (numbers : Value → List ℕ) (best : Offer) (v : Value) → price_numbers best.price ≡ numbers best.value → comes_before (numbers v) (price_numbers best.price) ≡ false

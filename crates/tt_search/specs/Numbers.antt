@@ -1,7 +1,6 @@
 -- Proofs alone need it. The numbers of prices and ranks, in the order in which they are compared.
-use Rattle.std.specs.Prelude.{ℕ, ◌≡◌, Bool, List, [], ◌∷◌, Option, Some, None, slice_index_or, if◌then◌else◌}
+use Rattle.std.specs.Prelude.{ℕ, ◌≡◌, Bool, List, [], ◌∷◌, Option, Some, None, if◌then◌else◌}
 use Rattle.tt_plan.specs.Domain.{IsOfDomain}
-use Rattle.std.specs.Option.{is_none}
 use Rattle.tt_bits.specs.declared.times.Value.{Value}
 use Rattle.tt_problem.specs.declared.parts.Parts.{Parts}
 use Rattle.tt_search.specs.declared.price.Price.{Price}
@@ -41,9 +40,5 @@ offered None = None
 offered (Some o) = Some o.value
 
 -- a snapshot after a move
-abbrev pub forced_by : Parts → Snapshot → Move → Snapshot
-forced_by p s m = forced p s m.class m.value
-
--- the class has no value in a plan
-abbrev pub is_free : List (Option Value) → (class : ℕ) → Bool
-is_free plan class = is_none (slice_index_or plan class None)
+abbrev pub after_move : Parts → Snapshot → Move → Snapshot
+after_move p s m = forced p s m.class m.value

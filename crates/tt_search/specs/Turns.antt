@@ -1,5 +1,5 @@
 -- One turn of a search. `published` is the published timetable that a repair keeps to, and none in a search.
-use Rattle.std.specs.Prelude.{ℕ, ◌+◌, ◌*◌, ◌/◌, ◌^◌, Bool, not, ◌&&◌, List, [], ◌∷◌, Option, Some, None, length, slice_get, if◌then◌else◌}
+use Rattle.std.specs.Prelude.{ℕ, ◌+◌, ◌*◌, ◌/◌, ◌^◌, Bool, not, ◌&&◌, List, [], ◌∷◌, Option, Some, None, length, slice_get, slice_index_or, if◌then◌else◌}
 use Rattle.std.specs.Option.{is_none, option_map, option_and_then}
 use Rattle.std.specs.List.{filter, range_with_len, sum_by, list_any}
 use Rattle.tt_bits.specs.declared.times.Value.{Value}
@@ -28,13 +28,13 @@ has_open_value p class = list_any (is_open p class) (domain_of p class)
 unfoldable pub hopeful : Parts → List ℕ
 hopeful p = filter (has_open_value p) (range_with_len 0 (length p.classes))
 
--- the class has no value
-abbrev pub is_unplaced : Snapshot → (class : ℕ) → Bool
-is_unplaced s class = is_none (value_in s class)
+-- the class has no value in a plan
+abbrev pub is_unplaced : List (Option Value) → (class : ℕ) → Bool
+is_unplaced plan class = is_none (slice_index_or plan class None)
 
 -- the candidates: the unplaced classes that have an open value, in the problem's order
 abbrev pub candidates : Parts → Snapshot → List ℕ
-candidates p s = filter (is_unplaced s) (hopeful p)
+candidates p s = filter (is_unplaced s.plan) (hopeful p)
 
 -- the candidate that a random word of 32 bits draws: number `word * count / 2^32`, counted from 0
 abbrev pub drawn : (word : ℕ) → List ℕ → Option ℕ

@@ -8,7 +8,7 @@ ghost use Rattle.tt_search.specs.Turns.{hopeful};
 ghost use Rattle.tt_search.specs.Full.{full_rank, full_best, moved_in};
 ghost use Rattle.tt_search.specs.MovedNow.{AreMoved};
 ghost use Rattle.tt_search.specs.Searched.{rank_of, way_of, best_of, turns_of, searched, repaired};
-ghost use Rattle.tt_search.specs.Numbers.{IsOpenValue, forced_by, rank_numbers};
+ghost use Rattle.tt_search.specs.Numbers.{IsOpenValue, after_move, rank_numbers};
 ghost use Rattle.tt_search.specs.UnderWay.{IsUnderWay};
 
 use crate::moving::MovedClasses;
@@ -62,7 +62,7 @@ fn better(best: Best, now: Best) -> Best
 fn make(state: &mut State, next: Move) -> Result<(), AllocError>
     requires open { IsOpenValue state.old.problem next.class next.value }
     requires step { 0 < length (earlier state.old) }
-    ensures desk { OnOk result (desk_of state.new ≡ moved_to (desk_of state.old) (forced_by state.old.problem state.old.present next)) }
+    ensures desk { OnOk result (desk_of state.new ≡ moved_to (desk_of state.old) (after_move state.old.problem state.old.present next)) }
     ensures trail { OnOk result (trail state.new ≡ trail state.old ++ state.new.present ∷ []) }
     ensures taken { OnOk result (state.new.taken ≡ conflicts_of state.old.problem state.old.present next.class next.value) }
     ensures step { IsWithinStep state.old state.new }

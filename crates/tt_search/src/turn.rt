@@ -9,7 +9,7 @@ ghost use Rattle.tt_state.specs.Forced.{forced};
 ghost use Rattle.tt_search.specs.Turns.{hopeful, is_open, has_open_value, is_unplaced, candidates, drawn, toll_of, weight_of, choice_of, turn_of};
 ghost use Rattle.tt_search.specs.Least.{better, least_after};
 ghost use Rattle.tt_search.specs.Full.{full_price, full_choice};
-ghost use Rattle.tt_search.specs.Numbers.{price_numbers, IsOpenValue, IsPriced, is_free, offered, forced_by};
+ghost use Rattle.tt_search.specs.Numbers.{price_numbers, IsOpenValue, IsPriced, after_move, offered};
 
 use crate::price::{Price, strays};
 use std::alloc::{AllocError, Global};
@@ -86,7 +86,7 @@ fn value_of(plan: &[Option<Value>], class: u32) -> Option<Value>
 /// The candidate that a random word draws.
 fn drawn_class(state: &State, hopeful: &[u32], word: u32) -> Option<u32>
     requires { length hopeful.now ≤ 20000 }
-    ensures { result ≡ drawn word (filter (is_unplaced state.now.present) hopeful.now) }
+    ensures { result ≡ drawn word (filter (is_unplaced state.now.present.plan) hopeful.now) }
 {
     let plan = state.score().plan();
     let count = free_among(plan, hopeful);
@@ -95,7 +95,7 @@ fn drawn_class(state: &State, hopeful: &[u32], word: u32) -> Option<u32>
 
 /// How many of some classes have no value in a plan.
 fn free_among(plan: &[Option<Value>], hopeful: &[u32]) -> u64
-    ensures count { result ≡ length (filter (is_free plan.now) hopeful.now) }
+    ensures count { result ≡ length (filter (is_unplaced plan.now) hopeful.now) }
     ensures few { result ≤ length hopeful.now }
 {
     hopeful
@@ -106,7 +106,7 @@ fn free_among(plan: &[Option<Value>], hopeful: &[u32]) -> u64
 
 /// The class at a place among those that have no value in a plan.
 fn nth_free(plan: &[Option<Value>], hopeful: &[u32], place: u64) -> Option<u32>
-    ensures { result ≡ slice_get (filter (is_free plan.now) hopeful.now) place }
+    ensures { result ≡ slice_get (filter (is_unplaced plan.now) hopeful.now) place }
 {
     let mut left = place;
     for class in hopeful {
@@ -237,7 +237,7 @@ pub(crate) fn next_move(
     ensures problem { state.new.problem ≡ state.old.problem }
     ensures present { state.new.present ≡ state.old.present }
     ensures entries { state.new.entries ≡ state.old.entries }
-    ensures turn { turn_of state.old.problem (option_copied published.entry) word state.old.present ≡ option_map (forced_by state.old.problem state.old.present) result }
+    ensures turn { turn_of state.old.problem (option_copied published.entry) word state.old.present ≡ option_map (after_move state.old.problem state.old.present) result }
     ensures open { IfSome result (λ m. IsOpenValue state.old.problem m.class m.value) }
 {
     let class = drawn_class(state, classes, word)?;

@@ -3,8 +3,8 @@ use Rattle.std.specs.Option.{option_copied}
 use Rattle.tt_plan.specs.Domain.{domain_of}
 use Rattle.tt_search.specs.Turns.{is_open}
 use Rattle.tt_search.specs.Full.{full_price, full_choice}
-use Rattle.tt_search.specs.Chosen.{IsChosenOn}
 use Rattle.tt_search.specs.Numbers.{IsOpenValue}
+use Rattle.tt_search.proofs.ChoiceLemmas.{IsChosenOn}
 use Rattle.tt_search.proofs.turn.choice.Given as goal
 
 abbrev pub invariant-loop-k : goal.invariant-loop-k
