@@ -1,4 +1,4 @@
--- What a problem keeps beside its parts.
+-- What a problem keeps beside its parts. Proofs alone need it.
 use Rattle.std.specs.Prelude.{◌≡◌, length, map}
 use Rattle.tt_problem.specs.declared.problem.Problem.TheInside.{Inside}
 use Rattle.tt_problem.specs.Tables.{IsTableOf}

@@ -1,4 +1,4 @@
--- The table of the rules by class, while it is made.
+-- The table of the rules by class, while it is made. Proofs alone need it.
 use Rattle.std.specs.Prelude.{◌≡◌, ℕ, ◌<◌, List, [], ◌++◌, length, slice_index_or, position, nat_eq}
 use Rattle.std.specs.declared.vec.Vec.{Vec}
 use Rattle.std.specs.declared.alloc.Global.{Global}

@@ -13,7 +13,7 @@ use Rattle.tt_problem.specs.declared.parts.Rule.{Rule}
 use Rattle.tt_problem.specs.declared.parts.StudentPart.{StudentPart}
 use Rattle.tt_problem.specs.declared.parts.Parts.{Parts}
 use Rattle.tt_problem.specs.Sums.{cells_of, member_count, links_of, seats_of}
-use Rattle.tt_travel.specs.Table.{IsTravel}
+use Rattle.tt_travel.specs.Table.{IsTravel, most_rooms}
 use Rattle.tt_problem.specs.Spans.{Covers}
 
 -- a week has 1 to 7 days, and a term 1 to 64 weeks
@@ -116,7 +116,7 @@ pub record IsValid (p : Parts) : Type 0 where
   -- the limits of size
   pub few_courses : length p.courses ≤ 20000
   pub few_classes : length p.classes ≤ 20000
-  pub few_rooms : length p.rooms ≤ 2500
+  pub few_rooms : length p.rooms ≤ most_rooms
   pub few_rules : length p.rules ≤ 20000
   pub few_students : length p.students ≤ 100000
   pub few_cells : cells_of p ≤ 8000000

@@ -1,4 +1,5 @@
 ghost use Rattle.std.specs.Prelude.{◌≡◌, ◌<◌, ◌≤◌, length, slice_get, Some, IfOk, IfSome};
+ghost use Rattle.tt_travel.specs.Table.{most_rooms};
 ghost use Rattle.tt_problem.specs.Spans.{IsSpanWithin};
 ghost use Rattle.tt_problem.specs.Valid.{AreValidWeights, IsValid, IsValidClass, IsValidRoom, IsValidRule, IsValidStudent};
 ghost use Rattle.tt_problem.specs.RulePlaces.{rules_of};
@@ -7,7 +8,9 @@ ghost use Rattle.tt_problem.specs.Places.{place_of_id, class_of, room_of, studen
 use crate::parts::{
     ClassPart, CoursePart, Parts, RoomPart, Rule, RulePlace, Span, StudentPart, Weights,
 };
-use crate::tables::{class_ids, course_table, room_ids, rule_table, student_ids, table_of};
+use crate::tables::{
+    course_table, ids_of_classes, ids_of_rooms, ids_of_students, rule_table, table_of,
+};
 use indexmap::IndexSet;
 use std::alloc::{AllocError, Global};
 use std::marker::Model;
@@ -47,9 +50,9 @@ impl Problem {
         requires { IsValid parts }
         ensures { IfOk result (λ p. p ≡ parts) }
     {
-        let class_ids = class_ids(alloc, parts.classes.as_slice())?;
-        let room_ids = room_ids(alloc, parts.rooms.as_slice())?;
-        let student_ids = student_ids(alloc, parts.students.as_slice())?;
+        let class_ids = ids_of_classes(alloc, parts.classes.as_slice())?;
+        let room_ids = ids_of_rooms(alloc, parts.rooms.as_slice())?;
+        let student_ids = ids_of_students(alloc, parts.students.as_slice())?;
         let class_subparts = table_of(alloc, parts.subparts.as_slice(), parts.classes.len())?;
         let subpart_configs = table_of(alloc, parts.configs.as_slice(), parts.subparts.len())?;
         let config_courses = course_table(alloc, parts.courses.as_slice(), parts.configs.len())?;
@@ -253,7 +256,7 @@ impl Problem {
     /// How many rooms there are.
     pub fn room_count(&self) -> u32
         ensures count { result ≡ length self.now.rooms }
-        ensures few { result ≤ 2500 }
+        ensures few { result ≤ most_rooms }
     {
         self.parts.rooms.len() as u32
     }
