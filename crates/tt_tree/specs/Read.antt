@@ -4,7 +4,7 @@ use Rattle.std.specs.List.{IsDistinct}
 use Rattle.tt_tree.specs.declared.context as context
 use Rattle.tt_tree.specs.declared.rooms as rooms
 use Rattle.tt_tree.specs.declared.courses as courses
-use Rattle.tt_travel.specs.Table.{Table, IsTravel}
+use Rattle.tt_travel.specs.Table.{Table, IsTravel, most_rooms}
 use Rattle.tt_problem.specs.declared.parts.RoomChoice.{RoomChoice}
 use Rattle.tt_problem.specs.declared.parts.ClassPart.{ClassPart}
 use Rattle.tt_problem.specs.Spans.{Covers}
@@ -38,7 +38,7 @@ tree_read t = record { courses = t.courses.items; configs = configs_read t.confi
 pub record IsTravelAmong (c : context.Context.Context) (count : ℕ) (t : Table) : Type 0 where
   pub sound : IsTravel t
   pub rooms : t.rooms ≡ count
-  pub few : count ≤ 2500
+  pub few : count ≤ most_rooms
   pub known : HasIds c.rooms count
 
 -- the rooms are valid and have these ids, which differ, and there is the travel between `count` rooms

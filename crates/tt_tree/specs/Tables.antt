@@ -23,7 +23,8 @@ length_after start o = do
   length ← required (a_number 0 65535) (codes "length") o
   if length == 0 || nat_lt 65535 (start + length) then fault 36 (at o.path (codes "length")) else Ok length
 
--- a time object, within the days of a week and the weeks of the term
+-- a time object, within the days of a week and the weeks of the term; its length has been read as one that a
+-- time has, so that the last line always finds a time
 unfoldable pub time_in : Context → Part → Result Time Fault
 time_in c o = do
   days ← required (a_set days_text c.nr_days) (codes "days") o

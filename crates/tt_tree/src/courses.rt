@@ -2,7 +2,7 @@ ghost use Rattle.std.specs.Prelude.{◌≡◌, ◌<◌, ◌≤◌, ◌^◌, List
 ghost use Rattle.std.specs.List.{IsDistinct};
 ghost use Rattle.tt_problem.specs.Spans.{Covers};
 ghost use Rattle.tt_problem.specs.declared.parts.ClassPart.{ClassPart as ClassSeen};
-ghost use Rattle.tt_fields.specs.Answer.{Gives, part_of};
+ghost use Rattle.tt_fields.specs.Answer.{Reads, Gives, part_of};
 ghost use Rattle.tt_fields.specs.List.{items_of};
 ghost use Rattle.tt_tree.specs.Context.{context_of, IsContext};
 ghost use Rattle.tt_tree.specs.Read.{classes_read, subparts_read, configs_read, tree_read, IsChoiceAmong, IsClassAmong, AreClasses, IsSubparts, IsConfigs, IsTree};
@@ -14,7 +14,7 @@ use indexmap::IndexSet;
 use std::alloc::{AllocError, Global};
 use tt_base::Row;
 use tt_fields::{
-    ItemTable, Items, NextTable, Part, ProblemFault, add_id, as_object, known_id, list,
+    Fault, ItemTable, Items, NextTable, Part, ProblemFault, add_id, as_object, known_id, list,
     list_or_none, number, optional_number, optional_reference, read_each, read_onto, truth_or,
 };
 use tt_problem::{ClassPart, CoursePart, RoomChoice, Span};
@@ -48,6 +48,19 @@ pub struct Tree {
     pub configs: Configs,
 }
 
+/// A room of a class, with its penalty. Faults: 31, 32 and 34.
+#[tactic(auto, unfolding(crate::specs::Tables::room_choice_of))]
+fn read_room_choice<'a>(context: &Context<'_>, item: &'a Part<'a>) -> Result<RoomChoice, Fault<'a>>
+    requires { IsContext context.now }
+    ensures reads { Reads (λ choice. choice) result (room_choice_of (context_of context.now) (part_of item.now)) }
+    ensures valid { IfOk result (λ choice. IsChoiceAmong context.now.rooms choice) }
+{
+    as_object(item)?;
+    let room = known_id(&context.rooms, item, "id")?;
+    let penalty = number(item, "penalty", 0, 1_000_000)?;
+    Ok(RoomChoice { room, penalty })
+}
+
 /// A room of a class.
 impl ItemTable<RoomChoice> for Context<'_> {
     ghost reads = { λ c. room_choice_of (context_of c) };
@@ -56,12 +69,8 @@ impl ItemTable<RoomChoice> for Context<'_> {
 
     ghost ready = { λ c. IsContext c };
 
-    #[tactic(auto, unfolding(crate::specs::Tables::room_choice_of))]
     fn read_item(&self, _alloc: Global, item: &Part<'_>) -> Result<RoomChoice, ProblemFault> {
-        as_object(item)?;
-        let room = known_id(&self.rooms, &*item, "id")?;
-        let penalty = number(&*item, "penalty", 0, 1_000_000)?;
-        Ok(RoomChoice { room, penalty })
+        Ok(read_room_choice(self, &*item)?)
     }
 }
 

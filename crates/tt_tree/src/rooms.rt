@@ -1,8 +1,8 @@
 ghost use Rattle.std.specs.Prelude.{◌≡◌, ◌<◌, ◌≤◌, [], ◌∷◌, ◌++◌, length, nat_eq, IfOk, OnOk};
 ghost use Rattle.std.specs.List.{IsDistinct};
-ghost use Rattle.tt_travel.specs.Table.{Table};
+ghost use Rattle.tt_travel.specs.Table.{Table, most_rooms};
 ghost use Rattle.tt_problem.specs.Valid.{IsValidRoom};
-ghost use Rattle.tt_fields.specs.Answer.{Gives, part_of};
+ghost use Rattle.tt_fields.specs.Answer.{Reads, Gives, part_of};
 ghost use Rattle.tt_fields.specs.List.{items_of};
 ghost use Rattle.tt_tree.specs.Context.{context_of, IsContext, HasIds};
 ghost use Rattle.tt_tree.specs.Read.{rooms_read, IsTravelAmong, IsRooms};
@@ -13,8 +13,8 @@ use indexmap::IndexSet;
 use std::alloc::Global;
 use tt_base::Row;
 use tt_fields::{
-    Items, NextTable, Part, ProblemFault, add_id, as_object, list_or_none, number, read_each,
-    read_onto, reference,
+    Fault, Items, NextTable, Part, ProblemFault, add_id, as_object, list_or_none, number,
+    read_each, read_onto, reference,
 };
 use tt_problem::RoomPart;
 use tt_travel::Travel;
@@ -36,6 +36,27 @@ struct EntryTable<'a> {
     from: u32,
 }
 
+/// Enters a travel that a room has. Faults: 31, 32 and 34.
+#[tactic(auto, unfolding(crate::specs::Tables::travel_of))]
+fn enter_travel<'a>(
+    entries: &EntryTable<'_>,
+    item: &'a Part<'a>,
+    travel: &mut Travel,
+) -> Result<(), Fault<'a>>
+    requires context { IsContext entries.now.context }
+    requires room { entries.now.from < entries.now.count }
+    requires among { IsTravelAmong entries.now.context entries.now.count travel.old }
+    ensures reads { Reads (λ _. travel.new) result
+        (travel_of (context_of entries.now.context) entries.now.from (part_of item.now) travel.old) }
+    ensures among { OnOk result (IsTravelAmong entries.now.context entries.now.count travel.new) }
+{
+    as_object(item)?;
+    let to = reference(&entries.context.rooms, item, "room")?;
+    let slots = number(item, "value", 0, 65_535)? as u16;
+    travel.set(entries.from, to, slots);
+    Ok(())
+}
+
 impl NextTable<Travel> for EntryTable<'_> {
     ghost Seen = { Table };
 
@@ -47,7 +68,6 @@ impl NextTable<Travel> for EntryTable<'_> {
 
     ghost valid = { λ t place travel. IsContext t.context × (t.from < t.count) × IsTravelAmong t.context t.count travel };
 
-    #[tactic(auto, unfolding(crate::specs::Tables::travel_of))]
     fn read_next(
         &self,
         _alloc: Global,
@@ -55,11 +75,7 @@ impl NextTable<Travel> for EntryTable<'_> {
         item: &Part<'_>,
         before: &mut Travel,
     ) -> Result<(), ProblemFault> {
-        as_object(item)?;
-        let to = reference(&self.context.rooms, &*item, "room")?;
-        let slots = number(&*item, "value", 0, 65_535)? as u16;
-        before.set(self.from, to, slots);
-        Ok(())
+        Ok(enter_travel(self, &*item, before)?)
     }
 }
 
@@ -117,7 +133,7 @@ pub fn read_rooms(
     items: &Items<'_>,
 ) -> Result<Rooms, ProblemFault>
     requires context { IsContext context.now }
-    requires few { length items.now.values.now ≤ 2500 }
+    requires few { length items.now.values.now ≤ most_rooms }
     requires known { HasIds context.now.rooms (length items.now.values.now) }
     ensures reads { Gives rooms_read result (rooms_in (context_of context.now) (items_of items.now)) }
     ensures rooms { IfOk result (λ rooms. IsRooms context.now (length items.now.values.now) rooms) }

@@ -40,6 +40,19 @@ fn read_time<'a>(context: &Context<'_>, object: &'a Part<'a>) -> Result<Time, Fa
     }
 }
 
+/// A time of a class, with its penalty. Faults: 31, 32, 35 and 36.
+#[tactic(auto, unfolding(crate::specs::Tables::choice_of))]
+fn read_time_choice<'a>(context: &Context<'_>, item: &'a Part<'a>) -> Result<TimeChoice, Fault<'a>>
+    requires { IsContext context.now }
+    ensures reads { Reads (λ choice. choice) result (choice_of (context_of context.now) (part_of item.now)) }
+    ensures valid { IfOk result (λ choice. IsValidTime context.now.nr_days context.now.nr_weeks choice) }
+{
+    as_object(item)?;
+    let time = read_time(context, item)?;
+    let penalty = number(item, "penalty", 0, 1_000_000)?;
+    Ok(TimeChoice { time, penalty })
+}
+
 /// A time of a class.
 impl ItemTable<TimeChoice> for Context<'_> {
     ghost reads = { λ c. choice_of (context_of c) };
@@ -48,13 +61,20 @@ impl ItemTable<TimeChoice> for Context<'_> {
 
     ghost ready = { λ c. IsContext c };
 
-    #[tactic(auto, unfolding(crate::specs::Tables::choice_of))]
     fn read_item(&self, _alloc: Global, item: &Part<'_>) -> Result<TimeChoice, ProblemFault> {
-        as_object(item)?;
-        let time = read_time(self, &*item)?;
-        let penalty = number(&*item, "penalty", 0, 1_000_000)?;
-        Ok(TimeChoice { time, penalty })
+        Ok(read_time_choice(self, &*item)?)
     }
+}
+
+/// An unavailable time of a room. Faults: 31, 32, 35 and 36.
+#[tactic(auto, unfolding(crate::specs::Tables::closed_of))]
+fn read_closed<'a>(context: &Context<'_>, item: &'a Part<'a>) -> Result<Time, Fault<'a>>
+    requires { IsContext context.now }
+    ensures reads { Reads (λ t. t) result (closed_of (context_of context.now) (part_of item.now)) }
+    ensures within { IfOk result (λ t. IsTimeOf context.now.nr_days context.now.nr_weeks t) }
+{
+    as_object(item)?;
+    read_time(context, item)
 }
 
 /// An unavailable time of a room.
@@ -65,9 +85,7 @@ impl ItemTable<Time> for Context<'_> {
 
     ghost ready = { λ c. IsContext c };
 
-    #[tactic(auto, unfolding(crate::specs::Tables::closed_of))]
     fn read_item(&self, _alloc: Global, item: &Part<'_>) -> Result<Time, ProblemFault> {
-        as_object(item)?;
-        Ok(read_time(self, &*item)?)
+        Ok(read_closed(self, &*item)?)
     }
 }
