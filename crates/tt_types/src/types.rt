@@ -56,19 +56,19 @@ fn plain_type(name: &[u8]) -> Option<DistKind>
 fn type_with_one(name: &[u8], n: Option<u16>) -> Option<DistKind>
     ensures { result ≡ with_one name.now n }
 {
-    let n = n?;
+    let value = n?;
     if is(name, "WorkDay") {
         Some(DistKind::Pair {
-            kind: PairKind::WorkDay { span: n },
+            kind: PairKind::WorkDay { span: value },
         })
     } else if is(name, "MinGap") {
         Some(DistKind::Pair {
-            kind: PairKind::MinGap { gap: n },
+            kind: PairKind::MinGap { gap: value },
         })
     } else if is(name, "MaxDays") {
-        Some(DistKind::MaxDays { most: n })
+        Some(DistKind::MaxDays { most: value })
     } else if is(name, "MaxDayLoad") {
-        Some(DistKind::MaxDayLoad { most: n })
+        Some(DistKind::MaxDayLoad { most: value })
     } else {
         None
     }
@@ -79,17 +79,17 @@ fn type_with_one(name: &[u8], n: Option<u16>) -> Option<DistKind>
 fn type_with_two(name: &[u8], first: Option<u16>, second: Option<u16>) -> Option<DistKind>
     ensures { result ≡ with_two name.now first second }
 {
-    let first = first?;
-    let second = second?;
+    let first_value = first?;
+    let second_value = second?;
     if is(name, "MaxBreaks") {
         Some(DistKind::MaxBreaks {
-            breaks: first,
-            gap: second,
+            breaks: first_value,
+            gap: second_value,
         })
     } else if is(name, "MaxBlock") {
         Some(DistKind::MaxBlock {
-            most: first,
-            gap: second,
+            most: first_value,
+            gap: second_value,
         })
     } else {
         None
@@ -128,9 +128,9 @@ fn type_with_rest(name: &[u8], rest: &[u8]) -> Option<DistKind>
 pub fn read_type(text: &str) -> Option<DistKind>
     ensures { result ≡ type_of text.now }
 {
-    let text = text.as_bytes();
-    match cut(b'(', text) {
-        None => plain_type(text),
+    let bytes = text.as_bytes();
+    match cut(b'(', bytes) {
+        None => plain_type(bytes),
         Some((name, rest)) => type_with_rest(name, rest),
     }
 }
