@@ -1,13 +1,11 @@
 ghost use Rattle.std.specs.Prelude.{◌≡◌, ℕ, ◌<◌, Some};
-ghost use Rattle.tt_travel.specs.Table.{IsRoomOf};
 ghost use Rattle.tt_bits.specs.Spots.{spot_at};
 ghost use Rattle.tt_bits.specs.declared.times.Spot.{Spot};
-ghost use Rattle.tt_roster.specs.Conflicts.{conflict};
 ghost use Rattle.tt_enrol.specs.Least.{is_one_of};
 
 use tt_bits::Spot;
 use tt_problem::Problem;
-use tt_travel::Travel;
+use tt_roster::conflict;
 
 /// What the choices of a student are judged by: the spot of each class or none, and how many other
 /// students have it.
@@ -128,15 +126,4 @@ pub fn is_one_of(classes: &[u32], class: u32) -> bool
     ensures { result ≡ is_one_of classes.now class }
 {
     classes.iter().any(|other| class == *other)
-}
-
-/// Whether nobody can attend both of two spots: they overlap, or they share a day and a week and the
-/// slots between them are fewer than the travel.
-fn conflict(travel: &Travel, a: &Spot, b: &Spot) -> bool
-    requires from { IsRoomOf travel.now a.now.room }
-    requires to { IsRoomOf travel.now b.now.room }
-    ensures { result ≡ conflict travel.now a.now b.now }
-{
-    let slots = travel.between(a.room, b.room);
-    a.time.shares_day_and_week(&b.time) && !a.time.is_apart(&b.time, slots)
 }

@@ -11,8 +11,9 @@ use crate::rows::ClassRow;
 use tt_bits::Spot;
 use tt_travel::Travel;
 
-/// Whether nobody can attend both of two spots.
-fn conflict(travel: &Travel, a: &Spot, b: &Spot) -> bool
+/// Whether nobody can attend both of two spots: they overlap, or they share a day and a week and the
+/// slots between them are fewer than the travel.
+pub fn conflict(travel: &Travel, a: &Spot, b: &Spot) -> bool
     requires from { IsRoomOf travel.now a.now.room }
     requires to { IsRoomOf travel.now b.now.room }
     ensures { result ≡ conflict travel.now a.now b.now }
