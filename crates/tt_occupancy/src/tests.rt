@@ -62,3 +62,12 @@ fn the_class_that_is_left_out_is_neither_counted_nor_marked(rt: HostRuntime) -> 
     assert_eq!(rt; marks, [true, true, false, false]);
     Ok(())
 }
+
+#[test]
+fn largest_occupancy_and_one_without_rooms_are_made(rt: HostRuntime) -> Result<(), Fail> {
+    let largest = Occupancy::new(rt.alloc(), 20_000, 2_500, 64, 8_000_000)?;
+    assert_eq!(rt; largest.clashes(), 0);
+    let without_rooms = Occupancy::new(rt.alloc(), 1, 0, 1, 0)?;
+    assert_eq!(rt; without_rooms.spots().len(), 1);
+    Ok(())
+}

@@ -435,6 +435,15 @@ mod tests {
     }
 
     #[test]
+    fn largest_and_smallest_pool_are_made(rt: HostRuntime) -> Result<(), Fail> {
+        let largest = Pool::new(rt.alloc(), 20_000, 4_000_000)?;
+        assert_eq!(rt; largest.spare(), 4_000_000);
+        let smallest = Pool::new(rt.alloc(), 0, 0)?;
+        assert_eq!(rt; smallest.spare(), 0);
+        Ok(())
+    }
+
+    #[test]
     fn an_item_goes_before_the_first_that_is_above_it(rt: HostRuntime) -> Result<(), Fail> {
         assert_eq!(rt; place_in_order(&[2, 5, 9], 5), 2);
         assert_eq!(rt; place_in_order(&[2, 5, 9], 1), 0);
