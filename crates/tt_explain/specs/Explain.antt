@@ -1,5 +1,5 @@
 -- What `explain` writes of a class.
-use Rattle.std.specs.Prelude.{ℕ, ◌+◌, Bool, ◌==◌, List, [], ◌++◌, Option, Some, None, length, filter, slice_get, if◌then◌else◌, codes, decimal}
+use Rattle.std.specs.Prelude.{ℕ, ◌+◌, Bool, ◌==◌, List, [], ◌++◌, Option, Some, None, length, filter, slice_get, if◌then◌else◌, codes}
 use Rattle.std.specs.List.{flat_map, range_with_len}
 use Rattle.std.specs.Option.{option_map_or}
 use Rattle.tt_bits.specs.declared.times.Spot.{Spot}
@@ -17,6 +17,7 @@ use Rattle.tt_roster.specs.Conflicts.{class_conflicts}
 use Rattle.tt_score.specs.Amounts.{rule_amount, cost_of}
 use Rattle.tt_state.specs.Seats.{count_with}
 use Rattle.tt_state.specs.Snapshots.{Snapshot, value_in}
+use Rattle.tt_text.specs.Fields.{field}
 use Rattle.tt_explain.specs.Names.{class_id, value_text}
 use Rattle.tt_explain.specs.TypeTexts.{type_text}
 
@@ -28,7 +29,7 @@ value_line p class v = codes "value " ++ value_text p class v ++ codes "\n"
 
 -- `penalty time X room Y`
 unfoldable pub penalty_line : (time room : ℕ) → List ℕ
-penalty_line time room = codes "penalty time " ++ decimal time ++ codes " room " ++ decimal room ++ codes "\n"
+penalty_line time room = field (codes "penalty time ") time ++ field (codes " room ") room ++ codes "\n"
 
 -- `closed`, where the room of the spot is unavailable at an overlapping time
 unfoldable pub closed_line : Parts → Spot → List ℕ
@@ -36,7 +37,7 @@ closed_line p x = if is_closed p x then codes "closed\n" else []
 
 -- `clash D`
 unfoldable pub clash_line : Parts → (other : ℕ) → List ℕ
-clash_line p other = codes "clash " ++ decimal (class_id p other) ++ codes "\n"
+clash_line p other = field (codes "clash ") (class_id p other) ++ codes "\n"
 
 -- the other class is placed, and it overlaps the class at the spot in its room
 abbrev pub clashes_in_room : List (Option Spot) → (class : ℕ) → Spot → (other : ℕ) → Bool
@@ -62,12 +63,12 @@ value_lines p s class (Some v) =
 
 -- `required`, or `cost Z` for a soft rule
 unfoldable pub rule_end : Parts → Rule → (amount : ℕ) → List ℕ
-rule_end p rule amount = if rule.required then codes "required" else codes "cost " ++ decimal (cost_of p rule amount)
+rule_end p rule amount = if rule.required then codes "required" else field (codes "cost ") (cost_of p rule amount)
 
 -- `rule K TYPE amount A cost Z` or `rule K TYPE amount A required`. K counts rules from 1
 unfoldable pub amount_line : Parts → (place : ℕ) → Rule → (amount : ℕ) → List ℕ
 amount_line p place rule amount =
-    codes "rule " ++ decimal (place + 1) ++ codes " " ++ type_text rule.kind ++ codes " amount " ++ decimal amount ++ codes " " ++ rule_end p rule amount ++ codes "\n"
+    field (codes "rule ") (place + 1) ++ codes " " ++ type_text rule.kind ++ field (codes " amount ") amount ++ codes " " ++ rule_end p rule amount ++ codes "\n"
 
 -- the line on a rule, none where its amount is 0
 unfoldable pub rule_line : Parts → List (Option Spot) → (place : ℕ) → Rule → List ℕ
@@ -93,7 +94,7 @@ pairs_with p s class = option_map_or (class_conflicts p.travel (spots_of p s.pla
 
 -- `students N conflicts M`
 unfoldable pub students_line : Parts → Snapshot → (class : ℕ) → List ℕ
-students_line p s class = codes "students " ++ decimal (count_with s.lists class) ++ codes " conflicts " ++ decimal (pairs_with p s class) ++ codes "\n"
+students_line p s class = field (codes "students ") (count_with s.lists class) ++ field (codes " conflicts ") (pairs_with p s class) ++ codes "\n"
 
 -- ---- all lines
 

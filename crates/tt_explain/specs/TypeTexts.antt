@@ -1,17 +1,18 @@
 -- The distribution types as they are printed: without spaces, and numbers without leading zeros.
-use Rattle.std.specs.Prelude.{ℕ, List, ◌++◌, codes, decimal}
+use Rattle.std.specs.Prelude.{ℕ, List, ◌++◌, codes}
 use Rattle.tt_bits.specs.declared.pairs.PairKind.{PairKind}
 use Rattle.tt_bits.specs.declared.pairs.PairKind.TheVariants.{SameStart, SameTime, DifferentTime, SameDays, DifferentDays, SameWeeks, DifferentWeeks, Overlap, NotOverlap, SameRoom, DifferentRoom, SameAttendees, Precedence, WorkDay, MinGap}
 use Rattle.tt_problem.specs.declared.parts.DistKind.{DistKind}
 use Rattle.tt_problem.specs.declared.parts.DistKind.TheVariants.{Pair, MaxDays, MaxDayLoad, MaxBreaks, MaxBlock}
+use Rattle.tt_text.specs.Fields.{field}
 
 -- a name with one parameter
 unfoldable pub with_one : List ℕ → ℕ → List ℕ
-with_one name n = name ++ codes "(" ++ decimal n ++ codes ")"
+with_one name n = name ++ field (codes "(") n ++ codes ")"
 
 -- a name with two parameters
 unfoldable pub with_two : List ℕ → ℕ → ℕ → List ℕ
-with_two name m n = name ++ codes "(" ++ decimal m ++ codes "," ++ decimal n ++ codes ")"
+with_two name m n = name ++ field (codes "(") m ++ field (codes ",") n ++ codes ")"
 
 -- a type that speaks of pairs
 unfoldable pub pair_text : PairKind → List ℕ

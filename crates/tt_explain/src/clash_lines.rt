@@ -2,7 +2,7 @@ ghost use Rattle.std.specs.Prelude.{◌≡◌, ◌++◌, OnOk};
 ghost use Rattle.tt_plan.specs.Domain.{spots_of};
 ghost use Rattle.tt_explain.specs.Explain.{clash_line, clash_lines, clashes_in_room};
 
-use crate::names::{add_field, class_id};
+use crate::names::class_id;
 use crate::now::spot_in;
 use std::alloc::AllocError;
 use tt_bits::Spot;
@@ -29,7 +29,7 @@ fn clashes_in_room(state: &State, class: u32, spot: Spot, other: u32) -> bool
 fn add_clash_line(out: &mut Reply, problem: &Problem, other: u32) -> Result<(), AllocError>
     ensures { OnOk result (out.new ≡ out.old ++ clash_line problem.now other) }
 {
-    add_field(out, "clash ", u128::from(class_id(problem, other)))?;
+    out.field("clash ", u128::from(class_id(problem, other)))?;
     out.text("\n")
 }
 
@@ -42,7 +42,11 @@ pub fn add_clash_lines(
 ) -> Result<(), AllocError>
     ensures { OnOk result (out.new ≡ out.old ++ clash_lines state.now.problem (spots_of state.now.problem state.now.present.plan) class spot) }
 {
-    for other in 0..state.problem().class_count() {
+    state.soundness();
+    let Some(classes) = state.score().occupancy().classes_in(spot.room) else {
+        return Ok(());
+    };
+    for other in classes {
         if clashes_in_room(state, class, spot, other) {
             add_clash_line(out, state.problem(), other)?;
         }

@@ -1,7 +1,6 @@
 ghost use Rattle.std.specs.Prelude.{◌≡◌, ◌++◌, OnOk};
 ghost use Rattle.tt_explain.specs.TypeTexts.{with_one, with_two, pair_text, type_text};
 
-use crate::names::add_field;
 use std::alloc::AllocError;
 use tt_bits::PairKind;
 use tt_problem::DistKind;
@@ -13,7 +12,7 @@ fn add_with_one(out: &mut Reply, name: &str, n: u16) -> Result<(), AllocError>
     ensures { OnOk result (out.new ≡ out.old ++ with_one name.now n) }
 {
     out.text(name)?;
-    add_field(out, "(", u128::from(n))?;
+    out.field("(", u128::from(n))?;
     out.text(")")
 }
 
@@ -23,8 +22,8 @@ fn add_with_two(out: &mut Reply, name: &str, m: u16, n: u16) -> Result<(), Alloc
     ensures { OnOk result (out.new ≡ out.old ++ with_two name.now m n) }
 {
     out.text(name)?;
-    add_field(out, "(", u128::from(m))?;
-    add_field(out, ",", u128::from(n))?;
+    out.field("(", u128::from(m))?;
+    out.field(",", u128::from(n))?;
     out.text(")")
 }
 
