@@ -42,7 +42,7 @@ use Rattle.tt_state.specs.Values.{blocked_of, conflicts_of}
 use Rattle.tt_state.specs.Forced.{forced}
 use Rattle.tt_solution.specs.Timetable.{Timetable}
 use Rattle.tt_explain.specs.Names.{class_id}
-use Rattle.tt_desk.specs.Desk.{Session, Answer, carried_out, known_classes, step_from, with_step, with_published, not_ready, out_lines}
+use Rattle.tt_desk.specs.Desk.{Session, Answer, carried_out, known_classes, step_from, with_step, with_published, not_ready, taken_lines}
 use Rattle.tt_desk.specs.Chain.{◌>>=◌}
 use Rattle.tt_desk.specs.Causes.{block_of}
 use Rattle.std.specs.Prelude.{OnErr, IsOk}
@@ -150,7 +150,7 @@ none_unplaced t is = eqb-true _ _ (first_of _ _ (first_of _ _ is))
 -- ---- `force`
 
 module _ (s : Session) (class time : ℕ) (room : Option ℕ) (c : ℕ) (v : Value) (known : class_of s.desk.problem class ≡ Some c) (named : find_value s.desk.problem c time room ≡ Ok v) where
-  pub force_open : blocked_of s.desk.problem c v ≡ None → carried_out s (Force class time room) ≡ Ok (with_step s (forced s.desk.problem s.desk.present c v) (out_lines s.desk.problem (conflicts_of s.desk.problem s.desk.present c v)))
+  pub force_open : blocked_of s.desk.problem c v ≡ None → carried_out s (Force class time room) ≡ Ok (with_step s (forced s.desk.problem s.desk.present c v) (taken_lines s.desk.problem (conflicts_of s.desk.problem s.desk.present c v)))
   force_open free = rw (known, named, free) refl
 
   pub force_blocked : (reason : Block) → blocked_of s.desk.problem c v ≡ Some reason → carried_out s (Force class time room) ≡ Err (Blocked reason)

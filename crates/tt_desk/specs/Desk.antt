@@ -153,9 +153,9 @@ abbrev pub with_all_enrolled : Session → AllEnrolled → Answer
 with_all_enrolled s all = with_step s all.snapshot (field (codes "enrolled ") all.enrolled ++ field (codes " left ") all.left ++ codes "\n")
 
 -- a line for each class that is taken out, by its id
-abbrev pub out_lines : Parts → List ℕ → List ℕ
-out_lines p [] = []
-out_lines p (class ∷ classes) = field (codes "out ") (class_id p class) ++ codes "\n" ++ out_lines p classes
+abbrev pub taken_lines : Parts → List ℕ → List ℕ
+taken_lines p [] = []
+taken_lines p (class ∷ classes) = field (codes "out ") (class_id p class) ++ codes "\n" ++ taken_lines p classes
 
 -- ---- the commands
 
@@ -173,7 +173,7 @@ carried_out s (Force class time room) = do
   c ← known_class s.desk.problem class
   v ← known_value s.desk.problem c time room
   free ← open_value s.desk.problem c v
-  Ok (with_step s (forced s.desk.problem s.desk.present c v) (out_lines s.desk.problem (conflicts_of s.desk.problem s.desk.present c v)))
+  Ok (with_step s (forced s.desk.problem s.desk.present c v) (taken_lines s.desk.problem (conflicts_of s.desk.problem s.desk.present c v)))
 carried_out s (Section student classes) = do
   list ← known_classes s.desk.problem classes
   i ← known_student s.desk.problem student

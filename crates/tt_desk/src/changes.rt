@@ -5,7 +5,7 @@ ghost use Rattle.tt_desk.specs.Desk.{command_step, known_classes, value_refusal}
 ghost use Rattle.tt_desk.specs.Causes.{MayTake, block_of};
 
 use crate::refusal::{Outcome, Refusal};
-use crate::reply::add_out;
+use crate::reply::add_taken;
 use crate::session::Session;
 use std::alloc::AllocError;
 use tt_clash::Block;
@@ -158,7 +158,7 @@ impl Session {
             };
             return Ok(Outcome::Refused(Refusal::Blocked { reason }));
         }
-        add_out(reply, self.state.problem(), self.state.taken())?;
+        add_taken(reply, self.state.problem(), self.state.taken())?;
         Ok(Outcome::Accepted)
     }
 }

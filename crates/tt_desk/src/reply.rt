@@ -1,6 +1,5 @@
 ghost use Rattle.std.specs.Prelude.{◌≡◌, ◌++◌, [], OnOk, OnErr, codes};
-ghost use Rattle.tt_text.specs.Fields.{field};
-ghost use Rattle.tt_desk.specs.Desk.{out_lines};
+ghost use Rattle.tt_desk.specs.Desk.{taken_lines};
 ghost use Rattle.tt_desk.specs.Refusals.{refusal_number, refusal_text, refusal_line};
 ghost use Rattle.tt_desk.specs.Replies.{HasReply, counts_text, moved_text, reply_to, sums_text, totals_line};
 
@@ -11,15 +10,6 @@ use tt_explain::{add_block, class_id};
 use tt_problem::Problem;
 use tt_score::Totals;
 use tt_text::Reply;
-
-/// Appends a word and a number.
-#[tactic(auto, unfolding(crate::specs::Fields::field))]
-pub fn add_field(reply: &mut Reply, word: &str, number: u128) -> Result<(), AllocError>
-    ensures { OnOk result (reply.new ≡ reply.old ++ field word.now number) }
-{
-    reply.text(word)?;
-    reply.number(number)
-}
 
 // Appends a number, or a dash where there is none.
 fn add_number_or_dash(reply: &mut Reply, moved: Option<u32>) -> Result<(), AllocError>
@@ -35,20 +25,20 @@ fn add_number_or_dash(reply: &mut Reply, moved: Option<u32>) -> Result<(), Alloc
 fn add_sums(reply: &mut Reply, totals: &Totals) -> Result<(), AllocError>
     ensures { OnOk result (reply.new ≡ reply.old ++ sums_text totals.now) }
 {
-    add_field(reply, "ok time ", u128::from(totals.time))?;
-    add_field(reply, " room ", u128::from(totals.room))?;
-    add_field(reply, " distribution ", totals.distribution)?;
-    add_field(reply, " student ", u128::from(totals.student))?;
-    add_field(reply, " total ", totals.total)
+    reply.field("ok time ", u128::from(totals.time))?;
+    reply.field(" room ", u128::from(totals.room))?;
+    reply.field(" distribution ", totals.distribution)?;
+    reply.field(" student ", u128::from(totals.student))?;
+    reply.field(" total ", totals.total)
 }
 
 // Appends the counts of a line of totals.
 fn add_counts(reply: &mut Reply, totals: &Totals) -> Result<(), AllocError>
     ensures { OnOk result (reply.new ≡ reply.old ++ counts_text totals.now) }
 {
-    add_field(reply, " hard ", u128::from(totals.hard))?;
-    add_field(reply, " unplaced ", u128::from(totals.unplaced))?;
-    add_field(reply, " unsectioned ", u128::from(totals.unsectioned))
+    reply.field(" hard ", u128::from(totals.hard))?;
+    reply.field(" unplaced ", u128::from(totals.unplaced))?;
+    reply.field(" unsectioned ", u128::from(totals.unsectioned))
 }
 
 // Appends the end of a line of totals: how many published classes moved.
@@ -69,7 +59,8 @@ fn add_totals(reply: &mut Reply, totals: &Totals, moved: Option<u32>) -> Result<
     add_moved(reply, moved)
 }
 
-fn number_of(refusal: Refusal) -> u8
+// The number of a refusal.
+fn refusal_number(refusal: Refusal) -> u8
     ensures { result ≡ refusal_number refusal }
 {
     match refusal {
@@ -98,9 +89,9 @@ fn add_not_ready(
 ) -> Result<(), AllocError>
     ensures { OnOk result (reply.new ≡ reply.old ++ refusal_text (Refusal.NotReady unplaced unsectioned hard)) }
 {
-    add_field(reply, "not ready ", u128::from(unplaced))?;
-    add_field(reply, " ", u128::from(unsectioned))?;
-    add_field(reply, " ", u128::from(hard))
+    reply.field("not ready ", u128::from(unplaced))?;
+    reply.field(" ", u128::from(unsectioned))?;
+    reply.field(" ", u128::from(hard))
 }
 
 // Appends the words of a refusal.
@@ -117,7 +108,7 @@ fn add_words(reply: &mut Reply, refusal: Refusal) -> Result<(), AllocError>
         Refusal::NotPlaced => reply.text("not placed"),
         Refusal::Blocked { reason } => add_block(reply, reason),
         Refusal::NoEnrolment => reply.text("no valid enrolment"),
-        Refusal::NoSeat { class } => add_field(reply, "no seat in class ", u128::from(class)),
+        Refusal::NoSeat { class } => reply.field("no seat in class ", u128::from(class)),
         Refusal::NotSectioned => reply.text("not sectioned"),
         Refusal::NothingToUndo => reply.text("nothing to undo"),
         Refusal::NotReady {
@@ -134,22 +125,22 @@ fn put_refusal(reply: &mut Reply, refusal: Refusal) -> Result<(), AllocError>
     requires { reply.old ≡ [] }
     ensures { OnOk result (reply.new ≡ refusal_line refusal) }
 {
-    add_field(reply, "refused ", u128::from(number_of(refusal)))?;
+    reply.field("refused ", u128::from(refusal_number(refusal)))?;
     reply.text(" ")?;
     add_words(reply, refusal)?;
     reply.text("\n")
 }
 
 /// Appends a line for each class that was taken out.
-pub(crate) fn add_out(
+pub(crate) fn add_taken(
     reply: &mut Reply,
     problem: &Problem,
     classes: &[u32],
 ) -> Result<(), AllocError>
-    ensures { OnOk result (reply.new ≡ reply.old ++ out_lines problem.now classes.now) }
+    ensures { OnOk result (reply.new ≡ reply.old ++ taken_lines problem.now classes.now) }
 {
     for class in classes {
-        add_field(reply, "out ", u128::from(class_id(problem, *class)))?;
+        reply.field("out ", u128::from(class_id(problem, *class)))?;
         reply.text("\n")?;
     }
     Ok(())

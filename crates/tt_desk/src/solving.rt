@@ -5,7 +5,6 @@ ghost use Rattle.tt_desk.specs.Desk.{command_step};
 ghost use Rattle.tt_desk.specs.Causes.{MayTake};
 
 use crate::refusal::{Outcome, Refusal};
-use crate::reply::add_field;
 use crate::session::Session;
 use std::alloc::{AllocError, Global};
 use tt_enrol::{enrol, enrol_all};
@@ -40,8 +39,8 @@ impl Session {
         ensures ok { IfOk result (λ outcome. command_step self.old Command.EnrolAll ≡ record { session = self.new; outcome = outcome; lines = reply.new }) }
     {
         let counts = enrol_all(alloc, &mut self.state)?;
-        add_field(reply, "enrolled ", u128::from(counts.enrolled))?;
-        add_field(reply, " left ", u128::from(counts.left))?;
+        reply.field("enrolled ", u128::from(counts.enrolled))?;
+        reply.field(" left ", u128::from(counts.left))?;
         reply.text("\n")?;
         Ok(Outcome::Accepted)
     }
@@ -58,7 +57,7 @@ impl Session {
         ensures ok { IfOk result (λ outcome. command_step self.old (Command.Search turns seed) ≡ record { session = self.new; outcome = outcome; lines = reply.new }) }
     {
         let made = search(alloc, &mut self.state, turns, seed)?;
-        add_field(reply, "turns ", u128::from(made))?;
+        reply.field("turns ", u128::from(made))?;
         reply.text("\n")?;
         Ok(Outcome::Accepted)
     }
@@ -79,7 +78,7 @@ impl Session {
             return Ok(Outcome::Refused(Refusal::NothingPublished));
         };
         let made = repair(alloc, &mut self.state, published, turns, seed)?;
-        add_field(reply, "turns ", u128::from(made))?;
+        reply.field("turns ", u128::from(made))?;
         reply.text("\n")?;
         Ok(Outcome::Accepted)
     }

@@ -10,7 +10,7 @@ use crate::file_run::status;
 use crate::load::problem_in;
 use crate::serve::{hand_on, serve_all, write_first};
 use std::alloc::{AllocError, Global};
-use tt_desk::{Session, add_field};
+use tt_desk::Session;
 use tt_io::Sink;
 use tt_make::make_text;
 use tt_text::Reply;
@@ -51,8 +51,8 @@ fn begin_made<S: Sink>(
 fn add_search(reply: &mut Reply, seed: u64, turns: u32) -> Result<(), AllocError>
     ensures { OnOk result (reply.new ≡ reply.old ++ field (codes "enrol all\nsearch ") turns ++ field (codes " ") seed) }
 {
-    add_field(reply, "enrol all\nsearch ", u128::from(turns))?;
-    add_field(reply, " ", u128::from(seed))
+    reply.field("enrol all\nsearch ", u128::from(turns))?;
+    reply.field(" ", u128::from(seed))
 }
 
 // Puts the script of `demo` into an empty reply.

@@ -4,7 +4,7 @@ ghost use Rattle.tt_top.specs.Ends.{input_name, refused_file, seen};
 
 use crate::end::{Input, InputFault, Loaded};
 use std::alloc::AllocError;
-use tt_desk::{Session, add_field};
+use tt_desk::Session;
 use tt_problem::Problem;
 use tt_text::Reply;
 
@@ -13,10 +13,10 @@ fn put_opening(reply: &mut Reply, problem: &Problem) -> Result<(), AllocError>
     requires { reply.old ≡ [] }
     ensures { OnOk result (reply.new ≡ opening_line problem.now) }
 {
-    add_field(reply, "open ", u128::from(problem.class_count()))?;
-    add_field(reply, " ", u128::from(problem.room_count()))?;
-    add_field(reply, " ", u128::from(problem.rule_count()))?;
-    add_field(reply, " ", u128::from(problem.student_count()))?;
+    reply.field("open ", u128::from(problem.class_count()))?;
+    reply.field(" ", u128::from(problem.room_count()))?;
+    reply.field(" ", u128::from(problem.rule_count()))?;
+    reply.field(" ", u128::from(problem.student_count()))?;
     reply.text("\n")
 }
 
@@ -36,7 +36,7 @@ fn put_fault(reply: &mut Reply, fault: &InputFault) -> Result<(), AllocError>
     ensures { OnOk result (reply.new ≡ (refused_file fault.now).line) }
 {
     reply.text(input_name(fault.input))?;
-    add_field(reply, " refused ", u128::from(fault.number))?;
+    reply.field(" refused ", u128::from(fault.number))?;
     reply.text(" ")?;
     reply.append(fault.path.bytes())?;
     reply.text("\n")

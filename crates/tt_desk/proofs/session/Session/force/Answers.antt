@@ -1,5 +1,5 @@
 use Rattle.std.proofs.Common.{◌≡◌, ◌∙◌, ◌++◌, sym, ap, Ok, Err, Some, None, refl}
-use Rattle.tt_desk.specs.Desk.{out_lines}
+use Rattle.tt_desk.specs.Desk.{taken_lines}
 use Rattle.tt_problem.specs.declared.parts.Parts.{Parts}
 use Rattle.tt_problem.specs.Places.{class_of}
 use Rattle.tt_plan.specs.Named.{find_value}
@@ -26,8 +26,8 @@ returns-in-Err-force-clause-ok c =
     let blocked : blocked_of held.problem c.in-Some.class c.in-Ok.value ≡ Some c.in-Some-block_of.reason = (c.force.ensures.blocked c.in-Some-block_of.reason).0 (c.in-Err-force.is ∙ ap Err why) in
     rw (c.requires, ← c.self.view_is) (refused _ _ _ _ (force_blocked (with_desk_of c.self.inside.published (desk_of held)) _ _ _ _ _ known named _ blocked) (same_but_taken c.self.inside.published c.force.new.self held c.in-Err-force.ensures.err))
 
-pub returns-in_err-add_out-clause-memory : goal.returns-in_err-add_out-clause-memory
-returns-in_err-add_out-clause-memory c =
+pub returns-in_err-add_taken-clause-memory : goal.returns-in_err-add_taken-clause-memory
+returns-in_err-add_taken-clause-memory c =
     let held = c.self.inside.state in
     let known : class_of held.problem c.args.class ≡ Some c.in-Some.class = ap (λ (p : Parts). class_of p c.args.class) (sym c.problem.ensures) ∙ sym c.in-Some.ensures.place in
     let named : find_value held.problem c.in-Some.class c.args.time c.args.room ≡ Ok c.in-Ok.value = ap (λ (p : Parts). find_value p c.in-Some.class c.args.time c.args.room) (sym c.problem-2.ensures) ∙ sym c.in-Ok.ensures.value in
@@ -41,5 +41,5 @@ returns-clause-ok c =
     let named : find_value held.problem c.in-Some.class c.args.time c.args.room ≡ Ok c.in-Ok.value = ap (λ (p : Parts). find_value p c.in-Some.class c.args.time c.args.room) (sym c.problem-2.ensures) ∙ sym c.in-Ok.ensures.value in
     let free : blocked_of held.problem c.in-Some.class c.in-Ok.value ≡ None = open_if_forced c.force.result _ c.force.ensures.blocked (λ reason no. let both : Ok c.in_default-force.field-0 ≡ Err (Blocked reason) = sym c.in_default-force.is ∙ no in cc) in
     let same : c.problem-3.result.now ≡ held.problem = c.problem-3.ensures ∙ ap (λ (d : Desk). d.problem) c.in_default-force.ensures.desk in
-    let own : out_lines c.problem-3.result.now c.taken.result.now ≡ out_lines held.problem (conflicts_of held.problem held.present c.in-Some.class c.in-Ok.value) = rw (c.taken.ensures.classes ∙ c.in_default-force.ensures.taken, same) refl in
-    rw (← c.self.view_is) (accepted _ _ _ _ _ (force_open (with_desk_of c.self.inside.published (desk_of held)) _ _ _ _ _ known named free) (ap (with_desk_of c.self.inside.published) c.in_default-force.ensures.desk) (c.in_ok-add_out.ensures ∙ ap (λ t. t ++ out_lines c.problem-3.result.now c.taken.result.now) c.requires ∙ own))
+    let own : taken_lines c.problem-3.result.now c.taken.result.now ≡ taken_lines held.problem (conflicts_of held.problem held.present c.in-Some.class c.in-Ok.value) = rw (c.taken.ensures.classes ∙ c.in_default-force.ensures.taken, same) refl in
+    rw (← c.self.view_is) (accepted _ _ _ _ _ (force_open (with_desk_of c.self.inside.published (desk_of held)) _ _ _ _ _ known named free) (ap (with_desk_of c.self.inside.published) c.in_default-force.ensures.desk) (c.in_ok-add_taken.ensures ∙ ap (λ t. t ++ taken_lines c.problem-3.result.now c.taken.result.now) c.requires ∙ own))
