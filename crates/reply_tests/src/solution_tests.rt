@@ -4,7 +4,7 @@ use std::test::Fail;
 use tt_plan::find;
 use tt_problem::Problem;
 use tt_read::read;
-use tt_solution::{Published, SolutionFault, moved, read_published, write_published};
+use tt_solution::{Published, moved, read_published, write_published};
 use tt_state::State;
 use tt_text::Reply;
 
@@ -22,67 +22,6 @@ const LINE: &str = r#"{"classes":[{"days":"1","id":1,"start":10,"students":[],"w
 const TWO: &str = r#"{"classes":[
     {"id":"23","days":"11","start":16,"weeks":"11","room":9,"students":[32,{"id":31},"32"]},
     {"students":[31],"weeks":"10","start":4,"room":null,"days":"10","id":21}]}"#;
-
-// Whether a published file has this fault.
-fn is_fault(alloc: Global, problem: &Problem, text: &str, want: u8, at: &str) -> bool {
-    match read_published(alloc, problem, text.as_bytes()) {
-        Ok(_) => false,
-        Err(SolutionFault::Fault { number, path }) => number == want
-            && path.bytes() == at.as_bytes(),
-        Err(SolutionFault::Memory) => false,
-    }
-}
-
-// Whether faults of the shape come first, in the order of the file.
-fn has_faults_of_shape(alloc: Global, problem: &Problem) -> bool {
-    is_fault(alloc, problem, "{\"classes\":[]}x", 30, "/")
-        && is_fault(alloc, problem, "{}", 31, "/classes")
-        && is_fault(
-            alloc,
-            problem,
-            r#"{"classes":[{"id":2,"days":"1","start":65536,"weeks":"1"}]}"#,
-            32,
-            "/classes/0/start",
-        )
-        && is_fault(
-            alloc,
-            problem,
-            r#"{"classes":[{"id":1,"days":"1","start":10,"weeks":"1"},{"id":1}]}"#,
-            33,
-            "/classes/1/id",
-        )
-        && is_fault(
-            alloc,
-            problem,
-            r#"{"classes":[{"id":2,"days":"1","start":10,"weeks":"1"},
-                {"id":1,"days":"","start":10,"weeks":"1"}]}"#,
-            35,
-            "/classes/1/days",
-        )
-}
-
-// Whether a class and a student that the problem doesn't have are faults of the reference.
-fn has_faults_of_references(alloc: Global, problem: &Problem) -> bool {
-    is_fault(
-        alloc,
-        problem,
-        r#"{"classes":[{"id":2,"days":"1","start":10,"weeks":"1"}]}"#,
-        34,
-        "/classes/0/id",
-    ) && is_fault(
-        alloc,
-        problem,
-        r#"{"classes":[{"id":1,"days":"1","start":10,"weeks":"1","students":[5]}]}"#,
-        34,
-        "/classes/0/students/0",
-    ) && is_fault(
-        alloc,
-        problem,
-        r#"{"classes":[{"id":1,"days":"1","start":10,"weeks":"1","students":[{"id":5}]}]}"#,
-        34,
-        "/classes/0/students/0/id",
-    )
-}
 
 // Whether the one class gets its value.
 fn assigns(state: &mut State) -> bool {
@@ -140,22 +79,6 @@ fn reads(alloc: Global, problem: &Problem) -> bool {
         && !published.same(problem, 0, value)
         && published.classes_of(0) == [0, 2].as_slice()
         && published.classes_of(1) == [2].as_slice()
-}
-
-#[test]
-fn shape_comes_before_references(rt: HostRuntime) -> Result<(), Fail> {
-    let problem = read(rt.alloc(), ONE.as_bytes())?;
-    assert!(rt; has_faults_of_shape(rt.alloc(), &problem));
-    drop(problem);
-    Ok(())
-}
-
-#[test]
-fn references_are_looked_up(rt: HostRuntime) -> Result<(), Fail> {
-    let problem = read(rt.alloc(), ONE.as_bytes())?;
-    assert!(rt; has_faults_of_references(rt.alloc(), &problem));
-    drop(problem);
-    Ok(())
 }
 
 #[test]

@@ -4,13 +4,10 @@ use tt_io::{MemFiles, MemSink, SureFiles, SureSink};
 use tt_top::{run, run_within};
 
 const ONE_CLASS: &str =
-    "{\"nrDays\":1,\"nrWeeks\":1,\"slotsPerDay\":288,\"optimization\":{\"time\":2,\"room\":1,\"distribution\":1,\"student\":1},\"courses\":[{\"id\":1,\"configs\":[{\"id\":1,\"subparts\":[{\"id\":1,\"classes\":[{\"id\":1,\"room\":false,\"times\":[{\"days\":\"1\",\"start\":10,\"length\":4,\"weeks\":\"1\",\"penalty\":4}]}]}]}]}]}";
+    r#"{"nrDays":1,"nrWeeks":1,"slotsPerDay":288,"optimization":{"time":2,"room":1,"distribution":1,"student":1},"courses":[{"id":1,"configs":[{"id":1,"subparts":[{"id":1,"classes":[{"id":1,"room":false,"times":[{"days":"1","start":10,"length":4,"weeks":"1","penalty":4}]}]}]}]}]}"#;
 
 const AT_ITS_TIME: &str =
-    "{\"classes\":[{\"days\":\"1\",\"id\":1,\"start\":10,\"students\":[],\"weeks\":\"1\"}]}";
-
-const USAGE: &str =
-    "usage: uttab run PROBLEM SCRIPT [PUBLISHED] | check PROBLEM | demo SEED CLASSES TURNS | make SEED CLASSES\n";
+    r#"{"classes":[{"days":"1","id":1,"start":10,"students":[],"weeks":"1"}]}"#;
 
 const OPENED: &str = "open 1 0 0 0\n";
 
@@ -26,30 +23,6 @@ fn words(alloc: Global, texts: &[&str]) -> Result<Vec<String>, AllocError> {
         words.push(String::from_str(alloc, text)?)?;
     }
     Ok(words)
-}
-
-#[test]
-fn words_of_no_form_give_the_usage_line(rt: HostRuntime) -> Result<(), Fail> {
-    let alloc = rt.alloc();
-    for texts in [
-        &["run", "a"][..],
-        &[],
-        &["check"],
-        &["check", "a", "b"],
-        &["run", "a", "b", "c", "d"],
-        &["Run", "a", "b"],
-        &["make", "1", "0"],
-        &["make", "1", "20001"],
-        &["demo", "1", "1"],
-        &["demo", "1", "1", "1000001"],
-    ] {
-        let mut files = SureFiles::new(alloc);
-        let mut out = SureSink::new(alloc);
-        let status = run(alloc, &words(alloc, texts)?, &mut files, &mut out);
-        assert_eq!(rt; status, 2);
-        assert_eq!(rt; out.bytes(), Some(USAGE.as_bytes()));
-    }
-    Ok(())
 }
 
 // A run in which these calls fail, and what it must write.
@@ -231,26 +204,5 @@ fn a_problem_that_is_made_is_accepted(rt: HostRuntime) -> Result<(), Fail> {
         &mut out,
     );
     assert_eq!(rt; status, 0);
-    Ok(())
-}
-
-// `demo` answers its five lines after the opening line.
-#[test]
-fn a_demo_answers_its_lines(rt: HostRuntime) -> Result<(), Fail> {
-    let alloc = rt.alloc();
-    let mut files = SureFiles::new(alloc);
-    let mut out = SureSink::new(alloc);
-    let status = run(
-        alloc,
-        &words(alloc, &["demo", "1", "30", "10"])?,
-        &mut files,
-        &mut out,
-    );
-    assert_eq!(rt; status, 0);
-    let mut lines = 0;
-    if let Some(text) = out.bytes() {
-        lines = text.iter().filter(|b| **b == b'\n').count();
-    }
-    assert_eq!(rt; lines, 8);
     Ok(())
 }
