@@ -1,5 +1,5 @@
 -- The forms of a line, and the command of each.
-use Rattle.std.specs.Prelude.{ℕ, IsTrue, List, [], ◌∷◌, Option, None, Some, option_map, if◌then◌else◌, codes, bytes_eq}
+use Rattle.std.specs.Prelude.{ℕ, IsTrue, IsSome, List, [], ◌∷◌, Option, None, Some, option_map, if◌then◌else◌, codes, bytes_eq}
 use Rattle.tt_text.specs.Decimal.{decimal_of, at_most}
 use Rattle.tt_script.specs.declared.command.Command.{Command}
 use Rattle.tt_script.specs.declared.command.Command.TheVariants.{Assign, Unassign, Force, Section, Drop, Enrol, EnrolAll, Search, Repair, Recall, Undo, Publish, Totals, Explain, Why, Stats, Quit}
@@ -107,7 +107,7 @@ command_of (word ∷ words) =
     else if bytes_eq word (codes "quit") then alone Quit words
     else None
 
--- The first word is `section`.
+-- The first word is `section`, and the others are in its form.
 abbrev pub IsSectionLine : List (List ℕ) → Type 0
 IsSectionLine [] = ⊥
-IsSectionLine (word ∷ words) = IsTrue (bytes_eq word (codes "section"))
+IsSectionLine (word ∷ words) = IsTrue (bytes_eq word (codes "section")) × IsSome (section_of words)
