@@ -23,13 +23,13 @@ abbrev pub or_wrong : {A : Type 0} → Part → Option A → Result A Fault
 or_wrong p found = or_fault 31 p found
 
 -- the number that a value is: a JSON number that `as_u64` gives, or a text of 1 to 20 decimal digits
-abbrev pub number_of : Data → Option ℕ
-number_of null = None
-number_of (boolean b) = None
-number_of (number n) = as_u64 n
-number_of (string s) = decimal_of s
-number_of (array ds) = None
-number_of (object ms) = None
+abbrev pub json_number : Data → Option ℕ
+json_number null = None
+json_number (boolean b) = None
+json_number (number n) = as_u64 n
+json_number (string s) = decimal_of s
+json_number (array ds) = None
+json_number (object ms) = None
 
 -- the number, which has fault 32 outside the range from `least` to `most`
 abbrev pub in_range : ℕ → ℕ → Part → ℕ → Result ℕ Fault
@@ -37,7 +37,7 @@ in_range least most p n = if nat_lt n least || nat_lt most n then fault 32 p.pat
 
 -- a number from `least` to `most`
 unfoldable pub a_number : ℕ → ℕ → Part → Result ℕ Fault
-a_number least most p = or_wrong p (number_of p.value) >>= in_range least most p
+a_number least most p = or_wrong p (json_number p.value) >>= in_range least most p
 
 -- the truth value that a value is: `true` or `false`, as such or as text
 abbrev pub truth_of : Data → Option Bool

@@ -4,7 +4,7 @@ ghost use Rattle.serde_json.specs.View.{view, items_view};
 ghost use Rattle.tt_bits.specs.Sets.{day_set, week_set, days_text, weeks_text};
 ghost use Rattle.tt_fields.specs.List.{items_of, path_of, known_of, IsFew, IsAmong};
 ghost use Rattle.tt_fields.specs.Answer.{Reads, Gives, part_of, fault_of};
-ghost use Rattle.tt_fields.specs.Kinds.{number_of, a_number, truth_of, a_truth, a_text, a_set, an_object, items_at, a_list, found_at, value_at, required, optional, or_else, new_id, placed_in, place_of, a_reference};
+ghost use Rattle.tt_fields.specs.Kinds.{json_number, a_number, truth_of, a_truth, a_text, a_set, an_object, items_at, a_list, found_at, value_at, required, optional, or_else, new_id, placed_in, place_of, a_reference};
 ghost use Rattle.tt_fields.specs.Path.{at, shown, steps_of};
 
 use crate::answer::ProblemFault;
@@ -40,8 +40,8 @@ pub fn fault_at<'a>(number: u8, object: &'a Part<'a>, key: &'static str) -> Faul
 
 /// The number that a value is: a JSON number that is no less than 0 and has no fraction, or a text of 1
 /// to 20 decimal digits, which may be above what 64 bits hold.
-fn number_of(value: &Value) -> Option<u128>
-    ensures { result ≡ number_of (view value.now) }
+fn json_number(value: &Value) -> Option<u128>
+    ensures { result ≡ json_number (view value.now) }
 {
     match value.as_u64() {
         Some(n) => Some(u128::from(n)),
@@ -59,7 +59,7 @@ pub fn as_number<'a>(part: &Part<'a>, least: u32, most: u32) -> Result<u32, Faul
     ensures reads { Reads (λ n. n) result (a_number least most (part_of part.now)) }
     ensures within { IfOk result (λ n. (least ≤ n) × (n ≤ most)) }
 {
-    match number_of(part.value) {
+    match json_number(part.value) {
         None => Err(fault(31, part)),
         Some(n) => {
             if n < u128::from(least) || n > u128::from(most) {
