@@ -93,8 +93,8 @@ fn class_rooms(
 fn number_if(number: Option<u32>) -> Option<Value>
     ensures { option_map view result ≡ option_map num number }
 {
-    let number = number?;
-    Some(Value::from(number))
+    let value = number?;
+    Some(Value::from(value))
 }
 
 #[tactic(auto, unfolding(crate::specs::Classes::class_data))]
@@ -107,14 +107,14 @@ fn class_value(
 ) -> Result<Value, AllocError>
     ensures { IfOk result (λ v. view v ≡ class_data id parent (option_map (λ rooms. map view rooms.items) choices) (map view times.items)) }
 {
-    let class = Object::new(alloc)
+    let fields = Object::new(alloc)
         .number("id", id)?
         .number("limit", 50)?
         .with_if("parent", number_if(parent))?
         .with("times", Value::Array(times))?;
-    let class = match choices {
-        Some(rooms) => class.with("rooms", Value::Array(rooms))?,
-        None => class.truth("room", false)?,
+    let whole = match choices {
+        Some(rooms) => fields.with("rooms", Value::Array(rooms))?,
+        None => fields.truth("room", false)?,
     };
-    Ok(class.into_value())
+    Ok(whole.into_value())
 }

@@ -25,9 +25,9 @@ impl Part for Rooms {
 
     #[tactic(auto, unfolding(crate::specs::Rooms::room))]
     fn draw(&self, alloc: Global, words: &mut Lcg64Xsh32, id: u32) -> Result<Value, AllocError> {
-        let travel = travel(alloc, words, id)?;
-        let unavailable = unavailable(alloc, id)?;
-        room_value(alloc, id, travel, unavailable)
+        let entries = travel(alloc, words, id)?;
+        let closed = unavailable(alloc, id)?;
+        room_value(alloc, id, entries, closed)
     }
 }
 
@@ -43,8 +43,8 @@ fn travel(alloc: Global, words: &mut Lcg64Xsh32, id: u32) -> Result<Option<Value
     let entry = Object::new(alloc)
         .number("room", id - 1)?
         .number("value", 1 + steps)?;
-    let travel = single(alloc, entry.into_value())?;
-    Ok(Some(travel))
+    let entries = single(alloc, entry.into_value())?;
+    Ok(Some(entries))
 }
 
 #[tactic(auto, unfolding(crate::specs::Rooms::friday_afternoon))]

@@ -1,5 +1,6 @@
--- What the code has read so far.
+-- What the code has read so far. Proofs alone need it.
 use Rattle.std.specs.Prelude.{◌≡◌, ◌≤◌, length, All}
+use Rattle.tt_travel.specs.Table.{most_rooms}
 use Rattle.tt_problem.specs.declared.parts.Parts.{Parts}
 use Rattle.tt_problem.specs.Spans.{Covers}
 use Rattle.tt_problem.specs.Sums.{cells_of, member_count, links_of, seats_of}
@@ -28,7 +29,7 @@ shape_read s = record {
 pub record IsShape (s : passes.Shape.Shape) : Type 0 where
   pub term : IsValidTerm s.term.nr_days s.term.nr_weeks
   pub weights : AreValidWeights s.weights
-  pub few_rooms : length s.rooms.values.now ≤ 2500
+  pub few_rooms : length s.rooms.values.now ≤ most_rooms
   pub rooms : length s.room_ids.keys ≡ length s.rooms.values.now
   pub few_courses : length s.courses.values.now ≤ 20000
   pub courses : length s.course_ids.keys ≡ length s.courses.values.now

@@ -3,6 +3,7 @@
 -- with no reference looked up; then all of it again, with the ids of the first pass known; then the sums.
 use Rattle.std.specs.Prelude.{ℕ, List, [], Option, Some, None, Result, Ok, codes, nat_lt, if◌then◌else◌}
 use Rattle.serde_json.specs.Data.{Data}
+use Rattle.tt_travel.specs.Table.{most_rooms}
 use Rattle.tt_problem.specs.declared.parts.Weights.{Weights}
 use Rattle.tt_problem.specs.declared.parts.Rule.{Rule}
 use Rattle.tt_problem.specs.declared.parts.StudentPart.{StudentPart}
@@ -59,7 +60,7 @@ shape_of p = do
   term ← term_of o
   optimization ← required an_object (codes "optimization") o
   weights ← weights_of optimization
-  room_items ← or_else [] (a_list 0 2500) (codes "rooms") o
+  room_items ← or_else [] (a_list 0 most_rooms) (codes "rooms") o
   rooms ← rooms_in (unknown term) room_items
   course_items ← required (a_list 0 20000) (codes "courses") o
   tree ← courses_in (unknown term) course_items
