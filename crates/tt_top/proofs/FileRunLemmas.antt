@@ -5,7 +5,7 @@ use Rattle.std.specs.List.{concat}
 use Rattle.std.proofs.lemmas.List.{append-nil, take-append-drop, take-append-le, length-append}
 use Rattle.std.proofs.lemmas.List.Folds.{concat-append}
 use Rattle.std.proofs.Math.Seq.{take-length}
-use Rattle.tt_io.specs.Causes.{Writes}
+use Rattle.tt_io.specs.Causes.{Writes, AsksAll}
 use Rattle.tt_io.specs.Whole.{WritesFront, Grows}
 use Rattle.tt_io.proofs.WrittenLemmas.{Writes-append, Writes-front, WritesFront-after, WritesFront-first, none_written, nothing_written, past, past_whole}
 use Rattle.tt_desk.specs.Script.{lines_of}
@@ -20,7 +20,7 @@ use Rattle.tt_top.specs.declared.end.Input.TheVariants.{Problem, Published}
 use Rattle.tt_top.specs.declared.end.InputFault.{InputFault}
 use Rattle.tt_top.specs.Words.{FileWords, first_words, file_words}
 use Rattle.tt_top.specs.Transcript.{Bytes, RefusedFile, opened, transcript, transcript_from, text_of, first_line, opening_line}
-use Rattle.tt_top.specs.Run.{Outside, TellFirst, Tell, IsTold, is_long, opens_published, opens_script, due_status, WritesFirst, IsTranscript, IsDue, IsComplete, HasCauses, AsksAll, AsksInOrder, IsStatus, IsFileRun}
+use Rattle.tt_top.specs.Run.{Outside, TellFirst, Tell, IsTold, is_long, opens_published, opens_script, due_status, WritesFirst, IsTranscript, IsDue, IsComplete, HasCauses, AsksInOrder, IsStatus, IsFileRun}
 use Rattle.tt_top.specs.Ends.{input_status, refused_file, seen, end_status, done_status, status_of, HasEndCause, front_words, Begins, Opens, IsRefusedAt, AsksFirst, Serves}
 use Rattle.tt_top.proofs.LoadLemmas.{not_longer, longer}
 

@@ -3,7 +3,7 @@ use Rattle.std.proofs.Common.{◌≡◌, ◌≢◌, ◌≤◌, ◌<◌, ℕ, tru
 use Rattle.std.specs.Prelude.{IfOk, IfErr, IsErrAnd, IsSome, is_ok, option_to_list}
 use Rattle.std.proofs.lemmas.Bool.{lt-ltb, le-ltb}
 use Rattle.std.proofs.Math.Seq.{take-length}
-use Rattle.tt_io.specs.Causes.{Asks}
+use Rattle.tt_io.specs.Causes.{Asks, AsksAll}
 use Rattle.tt_problem.specs.declared.parts.Parts.{Parts}
 use Rattle.tt_fields.specs.Answer.{Fault}
 use Rattle.tt_read.specs.Tables.{problem_of}
@@ -16,7 +16,7 @@ use Rattle.tt_top.specs.declared.end.Input.TheVariants.{Problem, Published}
 use Rattle.tt_top.specs.declared.end.InputFault.{InputFault}
 use Rattle.tt_top.specs.Words.{FileWords, first_words}
 use Rattle.tt_top.specs.Transcript.{Bytes, RefusedFile, problem_read, published_in, opened}
-use Rattle.tt_top.specs.Run.{AsksAll, IsTold, TellFirst, is_long, opens_published}
+use Rattle.tt_top.specs.Run.{IsTold, TellFirst, is_long, opens_published}
 use Rattle.tt_top.specs.Ends.{refused_file, seen, rest_of, Begins, AsksFirst, IsRefusedAt, IsAsked}
 
 -- ---- ends

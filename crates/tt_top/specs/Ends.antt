@@ -1,7 +1,7 @@
 -- Proofs alone need it. How the phases of a run end, and what each of them leaves.
 use Rattle.std.specs.Prelude.{◌≡◌, ◌≢◌, ◌≤◌, ◌<◌, ◌⊎◌, ℕ, Bool, true, false, ⊤, IsTrue, IsSome, List, [], length, take, codes, None, Option, unwrap_or, Result, Ok, Err, if◌then◌else◌}
 use Rattle.std.specs.List.{concat}
-use Rattle.tt_io.specs.Causes.{Writes, one_more}
+use Rattle.tt_io.specs.Causes.{Writes, one_more, AsksAll}
 use Rattle.tt_io.specs.Whole.{WritesFront}
 use Rattle.tt_problem.specs.declared.parts.Parts.{Parts}
 use Rattle.tt_desk.specs.Chain.{◌>>=◌}
@@ -17,7 +17,7 @@ use Rattle.tt_top.specs.declared.end.Input.TheVariants.{Problem, Published}
 use Rattle.tt_top.specs.declared.end.InputFault.{InputFault}
 use Rattle.tt_top.specs.Words.{FileWords, first_words}
 use Rattle.tt_top.specs.Transcript.{Bytes, RefusedFile, Transcript, fault_line, published_in, opened, first_line, text_of}
-use Rattle.tt_top.specs.Run.{WritesFirst, AsksAll, TellFirst, is_long, opens_published, opens_script, due_status}
+use Rattle.tt_top.specs.Run.{WritesFirst, TellFirst, is_long, opens_published, opens_script, due_status}
 
 -- ---- files that are refused
 

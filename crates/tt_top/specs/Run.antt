@@ -1,7 +1,7 @@
 -- The clauses of the top call.
 use Rattle.std.specs.Prelude.{◌≡◌, ◌≢◌, ◌≤◌, ◌<◌, ◌&&◌, ℕ, Bool, false, List, [], ◌∷◌, ◌++◌, ◌⊎◌, ⊤, IsTrue, IsSome, take, length, nat_lt, is_ok, if◌then◌else◌, None, Some, Option, not}
 use Rattle.std.specs.List.{concat}
-use Rattle.tt_io.specs.Causes.{Writes, one_more}
+use Rattle.tt_io.specs.Causes.{Writes, one_more, AsksAll}
 use Rattle.tt_io.specs.Whole.{WritesFront, WritesPast}
 use Rattle.tt_read.specs.Tables.{problem_of}
 use Rattle.tt_top.specs.Words.{FileWords, Form, Files, Demo, Make, first_words, file_words, usage_line}
@@ -95,12 +95,6 @@ pub record HasCauses (o : Outside) (status : ℕ) : Type 0 where
   pub sink : status ≡ 6 → o.now.sink ≡ one_more o.before.sink
   pub files_same : status ≢ 5 → o.now.files ≡ o.before.files
   pub sink_same : status ≢ 6 → o.now.sink ≡ o.before.sink
-
--- Where the names asked for are told, they were told before, and grew by these.
-abbrev pub AsksAll : Option (List (List ℕ)) → Option (List (List ℕ)) → List (List ℕ) → Type 0
-AsksAll before None names = ⊤
-AsksAll None (Some now) names = ⊥
-AsksAll (Some before) (Some now) names = now ≡ before ++ names
 
 -- The names asked for are the first of the file words.
 pub record AsksInOrder (words : FileWords) (limit : ℕ) (o : Outside) (status : ℕ) : Type 0 where

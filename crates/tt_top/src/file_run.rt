@@ -1,7 +1,8 @@
 ghost use Rattle.std.specs.Prelude.{◌≡◌, ℕ, List, Option, option_map, option_to_list};
+ghost use Rattle.tt_io.specs.Causes.{AsksAll};
 ghost use Rattle.tt_io.specs.Whole.{Grows};
 ghost use Rattle.tt_top.specs.Transcript.{Bytes};
-ghost use Rattle.tt_top.specs.Run.{AsksAll, AsksInOrder, IsDue, IsFileRun, IsTold, IsTranscript, TellFirst};
+ghost use Rattle.tt_top.specs.Run.{AsksInOrder, IsDue, IsFileRun, IsTold, IsTranscript, TellFirst};
 ghost use Rattle.tt_top.specs.Ends.{AsksFirst, HasEndCause, Opens, Serves, front_words, status_of};
 
 use crate::end::{Done, End, Input, Loaded};

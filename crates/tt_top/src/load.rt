@@ -1,9 +1,9 @@
 ghost use Rattle.std.specs.Prelude.{◌≡◌, ◌≢◌, ◌≤◌, ◌<◌, ℕ, false, true, List, Some, None, Option, IfOk, IfErr, IfSome, IsSome, length, option_map, option_to_list};
-ghost use Rattle.tt_io.specs.Causes.{Asks};
+ghost use Rattle.tt_io.specs.Causes.{Asks, AsksAll};
 ghost use Rattle.tt_read.specs.Tables.{problem_of};
 ghost use Rattle.tt_solution.specs.Timetable.{IsTimetableOf};
 ghost use Rattle.tt_top.specs.Transcript.{Bytes, problem_read, published_in};
-ghost use Rattle.tt_top.specs.Run.{AsksAll, IsTold, TellFirst, is_long};
+ghost use Rattle.tt_top.specs.Run.{IsTold, TellFirst, is_long};
 ghost use Rattle.tt_top.specs.Ends.{AsksFirst, Begins, HasEndCause, front_words, rest_of, seen};
 
 use crate::end::{End, Input, InputFault, Loaded};
