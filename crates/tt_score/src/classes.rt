@@ -7,7 +7,7 @@ ghost use Rattle.tt_score.specs.Kept.{AreClassSums, IsPlanOf};
 
 use tt_bits::{Spot, Value};
 use tt_clash::is_closed;
-use tt_plan::{room_penalty, spot, time_penalty};
+use tt_plan::{room_penalty, time_penalty};
 use tt_problem::Problem;
 
 /// The sums over the placed classes, and how many classes aren't placed.
@@ -26,7 +26,7 @@ fn closed_count(problem: &Problem, class: u32, value: Value) -> u64
     ensures count { result ≡ closed_count problem.now class value }
     ensures few { result ≤ 1 }
 {
-    let spot = spot(problem, class, value);
+    let spot = tt_plan::spot(problem, class, value);
     if is_closed(problem, spot) { 1 } else { 0 }
 }
 
@@ -142,6 +142,6 @@ pub fn spot_now(problem: &Problem, plan: &[Option<Value>], class: u32) -> Option
 {
     match plan[class as usize] {
         None => None,
-        Some(value) => Some(spot(problem, class, value)),
+        Some(value) => Some(tt_plan::spot(problem, class, value)),
     }
 }

@@ -12,7 +12,6 @@ use tt_bits::Value;
 use tt_clash::conflicts;
 use tt_measure::Measure;
 use tt_occupancy::Occupancy;
-use tt_plan::spot;
 use tt_problem::sums::cells_of;
 use tt_problem::{Problem, Weights};
 use tt_roster::Roster;
@@ -174,7 +173,7 @@ impl Score {
         ensures seats { seats_of self.new ≡ seats_of self.old }
         ensures fits { Fits problem.now self.new }
     {
-        let spot = spot(problem, class, value);
+        let spot = tt_plan::spot(problem, class, value);
         self.classes = with(problem, self.plan.as_slice(), class, value, self.classes);
         self.rules = set_in_rules(
             problem,
@@ -246,7 +245,7 @@ impl Score {
         ensures same { self.new ≡ self.old }
     {
         problem.validity();
-        let spot = spot(problem, class, value);
+        let spot = tt_plan::spot(problem, class, value);
         let has = spot_now(problem, self.plan.as_slice(), class);
         let paid = paid_with(problem, self.plan.as_slice(), class, value, self.classes);
         let distribution = costs_with(
@@ -289,7 +288,7 @@ impl Score {
         ensures seats { seats_of self.new ≡ seats_of self.old }
         ensures fits { Fits problem.now self.new }
     {
-        let spot = spot(problem, class, value);
+        let spot = tt_plan::spot(problem, class, value);
         conflicts(
             problem,
             self.occupancy.spots(),

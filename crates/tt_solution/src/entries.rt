@@ -11,9 +11,8 @@ use indexmap::IndexSet;
 use std::alloc::{AllocError, Global};
 use tt_base::Row;
 use tt_fields::{
-    Fault, ItemTable, Known, NextTable, Part, ProblemFault, add_id, as_object, days,
-    item_reference, known_id, list, list_or_none, number, optional_number, read_each, read_onto,
-    weeks,
+    Fault, ItemTable, Known, NextTable, Part, ProblemFault, add_id, as_object, item_reference,
+    known_id, list, list_or_none, number, optional_number, read_each, read_onto,
 };
 use tt_problem::Problem;
 
@@ -44,13 +43,13 @@ pub struct Listed {
 
 /// When and where a class meets.
 #[tactic(auto, unfolding(crate::specs::Tables::meeting_in))]
-fn meeting<'a>(context: &Context<'_>, object: &'a Part<'a>) -> Result<Meeting, Fault<'a>>
+fn read_meeting<'a>(context: &Context<'_>, object: &'a Part<'a>) -> Result<Meeting, Fault<'a>>
     requires { IsContext context.now }
     ensures { Reads (λ m. m) result (meeting_in (context_of context.now) (part_of object.now)) }
 {
-    let days = days(object, "days", context.nr_days)?;
+    let days = tt_fields::days(object, "days", context.nr_days)?;
     let start = number(object, "start", 0, 65535)? as u16;
-    let weeks = weeks(object, "weeks", context.nr_weeks)?;
+    let weeks = tt_fields::weeks(object, "weeks", context.nr_weeks)?;
     let room = optional_number(object, "room", 0, u32::MAX)?;
     Ok(Meeting {
         days,
@@ -97,7 +96,7 @@ impl NextTable<Listed> for Context<'_> {
         let id = number(&*item, "id", 0, u32::MAX)?;
         add_id(item, id, &mut before.ids)?;
         let class = known_id(&self.classes, &*item, "id")?;
-        let meeting = meeting(self, &*item)?;
+        let meeting = read_meeting(self, &*item)?;
         let items = list_or_none(&*item, "students", 100_000)?;
         let students = read_each(alloc, self, &items)?;
         before.entries.push(Entry {

@@ -109,7 +109,7 @@ fn class_value(
     meeting.sizes();
     let days = days_text(alloc, meeting.days, problem.nr_days())?;
     let weeks = weeks_text(alloc, meeting.weeks, problem.nr_weeks())?;
-    let students = students(alloc, problem, roster, class)?;
+    let ids = students(alloc, problem, roster, class)?;
     let mut members = Map::new(alloc);
     put(&mut members, alloc, "days", Json::from(days))?;
     put(
@@ -119,7 +119,7 @@ fn class_value(
         Json::from(class_id(problem, class)),
     )?;
     put(&mut members, alloc, "start", Json::from(meeting.start))?;
-    put(&mut members, alloc, "students", Json::from(students))?;
+    put(&mut members, alloc, "students", Json::from(ids))?;
     put(&mut members, alloc, "weeks", Json::from(weeks))?;
     if let Some(room) = meeting.room {
         put(&mut members, alloc, "room", Json::from(room))?;
