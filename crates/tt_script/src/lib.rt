@@ -7,4 +7,4 @@ mod reading;
 mod tests;
 
 pub use command::{Command, Ids, LineFault};
-pub use reading::parse;
+pub use reading::{parse, read_count, read_seed};

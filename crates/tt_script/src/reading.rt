@@ -47,8 +47,8 @@ fn read_room(word: &[u8]) -> Option<Option<u32>>
     }
 }
 
-// The number of turns that a word is.
-fn read_count(word: &[u8]) -> Option<u32>
+/// The number of turns that a word is: a decimal number up to 1,000,000.
+pub fn read_count(word: &[u8]) -> Option<u32>
     ensures { result ≡ count_of word.now }
 {
     match read_decimal(word, MOST_TURNS) {
@@ -57,8 +57,8 @@ fn read_count(word: &[u8]) -> Option<u32>
     }
 }
 
-// The seed that a word is.
-fn read_seed(word: &[u8]) -> Option<u64>
+/// The seed that a word is: a decimal number below 2^64.
+pub fn read_seed(word: &[u8]) -> Option<u64>
     ensures { result ≡ seed_of word.now }
 {
     read_decimal(word, u64::MAX)

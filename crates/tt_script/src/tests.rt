@@ -1,4 +1,4 @@
-use crate::{Command, LineFault, parse};
+use crate::{Command, LineFault, parse, read_count, read_seed};
 use std::test::Fail;
 
 // Numbers may have leading zeros up to 20 digits, and words are parted by spaces and tabs.
@@ -123,4 +123,14 @@ fn a_line_in_no_form_is_bad(rt: HostRuntime) {
             "line {i}"
         );
     }
+}
+
+// A number of turns and a seed, each with the largest and one above it.
+#[test]
+fn numbers_are_read_alone(rt: HostRuntime) -> Result<(), Fail> {
+    assert_eq!(rt; read_count(b"1000000"), Some(1_000_000));
+    assert_eq!(rt; read_count(b"1000001"), None);
+    assert_eq!(rt; read_seed(b"18446744073709551615"), Some(u64::MAX));
+    assert_eq!(rt; read_seed(b"18446744073709551616"), None);
+    Ok(())
 }

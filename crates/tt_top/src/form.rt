@@ -1,13 +1,11 @@
 ghost use Rattle.std.specs.Prelude.{◌≡◌, IfSome, map, string_bytes, option_map};
-ghost use Rattle.tt_script.specs.Forms.{count_of, seed_of};
 ghost use Rattle.tt_top.specs.Words.{check_of, classes_of, demo_of, form_of, make_of, run_of};
 ghost use Rattle.tt_top.specs.Asked.{IsClassCount, HasClasses, form_seen};
 
+use tt_script::{read_count, read_seed};
 use tt_text::read_decimal;
 
-// The most turns of a search, and the most classes of a problem that is made.
-const MOST_TURNS: u64 = 1_000_000;
-
+// The most classes of a problem that is made.
 const MOST_CLASSES: u64 = 20_000;
 
 /// What the words of the command line ask for.
@@ -31,21 +29,6 @@ pub enum Form<'a> {
         seed: u64,
         classes: u32,
     },
-}
-
-fn read_seed(word: &str) -> Option<u64>
-    ensures { result ≡ seed_of word.now }
-{
-    read_decimal(word.as_bytes(), u64::MAX)
-}
-
-fn read_turns(word: &str) -> Option<u32>
-    ensures { result ≡ count_of word.now }
-{
-    match read_decimal(word.as_bytes(), MOST_TURNS) {
-        Some(turns) => Some(turns as u32),
-        None => None,
-    }
 }
 
 // A number of classes is at least 1.
@@ -103,9 +86,9 @@ fn demo_form(words: &[String]) -> Option<Form<'_>>
         return None;
     };
     Some(Form::Demo {
-        seed: read_seed(seed.as_str())?,
+        seed: read_seed(seed.as_bytes())?,
         classes: read_classes(classes.as_str())?,
-        turns: read_turns(turns.as_str())?,
+        turns: read_count(turns.as_bytes())?,
     })
 }
 
@@ -118,7 +101,7 @@ fn make_form(words: &[String]) -> Option<Form<'_>>
         return None;
     };
     Some(Form::Make {
-        seed: read_seed(seed.as_str())?,
+        seed: read_seed(seed.as_bytes())?,
         classes: read_classes(classes.as_str())?,
     })
 }
