@@ -2,7 +2,7 @@
 #![tactic(auto)]
 
 use std::alloc::Global;
-use tt_fields::ProblemFault;
+use tt_fields::FileFault;
 use tt_problem::Problem;
 use tt_read::read;
 
@@ -36,11 +36,11 @@ const SMALL_TEXT: &str = r#"{"nrDays":1,"nrWeeks":1,"slotsPerDay":288,
         {"days":"1","start":0,"length":1,"weeks":"1","penalty":0}]}]}]}]}]}"#;
 
 /// The problem that the first text holds. A part is named by its place in it.
-pub fn problem(alloc: Global) -> Result<Problem, ProblemFault> {
+pub fn problem(alloc: Global) -> Result<Problem, FileFault> {
     read(alloc, TEXT.as_bytes())
 }
 
 /// The problem that the second text holds.
-pub fn small_problem(alloc: Global) -> Result<Problem, ProblemFault> {
+pub fn small_problem(alloc: Global) -> Result<Problem, FileFault> {
     read(alloc, SMALL_TEXT.as_bytes())
 }

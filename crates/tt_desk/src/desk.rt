@@ -31,7 +31,7 @@ impl Session {
             Command::EnrolAll => self.enrol_all(alloc, reply),
             Command::Search { turns, seed } => self.search(alloc, turns, seed, reply),
             Command::Repair { turns, seed } => self.repair(alloc, turns, seed, reply),
-            Command::Recall => self.recall(alloc),
+            Command::Recall => self.recall(),
             Command::Undo => Ok(self.undo()),
             Command::Publish => self.publish(alloc, reply),
             Command::Totals => Ok(Outcome::Accepted),

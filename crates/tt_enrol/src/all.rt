@@ -68,13 +68,9 @@ fn seat_and_count(
     ensures err { OnErr result (state.new ≡ state.old) }
 {
     state.soundness();
-    match seat(state, student, classes) {
-        Err(error) => Err(error),
-        Ok(()) => {
-            known.count(state.score().roster(), student);
-            Ok(())
-        }
-    }
+    seat(state, student, classes)?;
+    known.count(state.score().roster(), student);
+    Ok(())
 }
 
 /// Enrols a student who has no class, in the last step, where there is an enrolment; whether there
@@ -103,10 +99,8 @@ fn enrol_one(
         None => Ok(false),
         Some(count) => {
             let classes = &buffers.taken.as_slice()[..count];
-            match seat_and_count(state, known, student, classes) {
-                Err(error) => Err(error),
-                Ok(()) => Ok(true),
-            }
+            seat_and_count(state, known, student, classes)?;
+            Ok(true)
         }
     }
 }
@@ -136,16 +130,16 @@ fn enrol_next(
     if !lacks_classes(state, student) {
         return Ok(so_far);
     }
-    match enrol_one(state, known, buffers, student) {
-        Err(error) => Err(error),
-        Ok(true) => Ok(Enrolled {
+    if enrol_one(state, known, buffers, student)? {
+        Ok(Enrolled {
             enrolled: so_far.enrolled + 1,
             left: so_far.left,
-        }),
-        Ok(false) => Ok(Enrolled {
+        })
+    } else {
+        Ok(Enrolled {
             enrolled: so_far.enrolled,
             left: so_far.left + 1,
-        }),
+        })
     }
 }
 
@@ -166,10 +160,7 @@ fn enrol_each(
         left: 0,
     };
     for student in 0..state.problem().student_count() {
-        match enrol_next(state, known, buffers, student, so_far) {
-            Err(error) => return Err(error),
-            Ok(more) => so_far = more,
-        }
+        so_far = enrol_next(state, known, buffers, student, so_far)?;
     }
     Ok(so_far)
 }

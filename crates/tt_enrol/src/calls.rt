@@ -46,8 +46,6 @@ pub fn enrol(alloc: Global, state: &mut State, student: u32) -> Result<(), Refus
     ensures bad_section { result ≡ Err Refusal.BadSection → enrolled state.old.problem state.old.present student ≡ None }
     ensures only { IfErr result IsOfEnrol }
 {
-    match classes_found(alloc, state, student) {
-        Err(refusal) => Err(refusal),
-        Ok(classes) => state.section(student, classes.as_slice()),
-    }
+    let classes = classes_found(alloc, state, student)?;
+    state.section(student, classes.as_slice())
 }

@@ -7,7 +7,7 @@ ghost use Rattle.tt_fields.specs.Answer.{Reads, Gives, part_of, fault_of};
 ghost use Rattle.tt_fields.specs.Kinds.{json_number, a_number, truth_of, a_truth, a_text, a_set, an_object, items_at, a_list, found_at, value_at, required, optional, or_else, new_id, placed_in, place_of, a_reference};
 ghost use Rattle.tt_fields.specs.Path.{at, shown, steps_of};
 
-use crate::answer::ProblemFault;
+use crate::answer::FileFault;
 use crate::part::{Fault, Part};
 use crate::trail::Trail;
 use indexmap::IndexSet;
@@ -344,7 +344,7 @@ pub fn list_or_none<'a>(
 /// Adds the id of an object to those of the objects of its kind before it. Fault 33 at the key `id`
 /// where it is one of them.
 #[tactic(auto, unfolding(crate::specs::Kinds::new_id))]
-pub fn add_id(object: &Part<'_>, id: u32, ids: &mut IndexSet<u32>) -> Result<(), ProblemFault>
+pub fn add_id(object: &Part<'_>, id: u32, ids: &mut IndexSet<u32>) -> Result<(), FileFault>
     ensures reads { Gives (λ _. ids.new.keys) result (new_id id ids.old.keys (part_of object.now)) }
     ensures last { OnOk result (ids.new.keys ≡ ids.old.keys ++ id ∷ []) }
     ensures one { OnOk result (length ids.new.keys ≡ length ids.old.keys + 1) }
@@ -353,7 +353,7 @@ pub fn add_id(object: &Part<'_>, id: u32, ids: &mut IndexSet<u32>) -> Result<(),
     if ids.insert(id)? {
         Ok(())
     } else {
-        Err(ProblemFault::from(fault_at(33, object, "id")))
+        Err(FileFault::from(fault_at(33, object, "id")))
     }
 }
 

@@ -1,5 +1,5 @@
 //! The kinds of values in a file of the ITC 2019 format, with the faults that they have and where.
-//! A reader of one value takes no memory, and its fault becomes a [`ProblemFault`], with the path
+//! A reader of one value takes no memory, and its fault becomes a [`FileFault`], with the path
 //! as text, by `?`.
 #![tactic(auto)]
 
@@ -10,7 +10,7 @@ mod lists;
 mod part;
 mod trail;
 
-pub use answer::{Path, ProblemFault};
+pub use answer::{FileFault, Path};
 pub use document::json_value;
 pub use kinds::{
     Items, Known, add_id, as_object, as_text, days, fault, fault_at, item_reference, known_id,

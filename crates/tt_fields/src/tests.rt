@@ -1,7 +1,7 @@
 ghost use Rattle.tt_fields.specs.List.{IsFew};
 
 use crate::{
-    Known, ProblemFault, add_id, as_object, days, item_reference, known_id, list, list_or_none,
+    FileFault, Known, add_id, as_object, days, item_reference, known_id, list, list_or_none,
     number, object, optional_number, optional_reference, reference, text, truth_or, weeks, whole,
 };
 use indexmap::IndexSet;
@@ -10,22 +10,21 @@ use std::alloc::Global;
 use std::test::Fail;
 
 // Whether a reader answers with this fault.
-fn is_fault<T: Drop>(answer: Result<T, ProblemFault>, want: u8, at: &str) -> bool {
+fn is_fault<T: Drop>(answer: Result<T, FileFault>, want: u8, at: &str) -> bool {
     match answer {
         Ok(_) => false,
-        Err(ProblemFault::Fault { number, path }) => number == want
-            && path.bytes() == at.as_bytes(),
-        Err(ProblemFault::Memory) => false,
+        Err(FileFault::Fault { number, path }) => number == want && path.bytes() == at.as_bytes(),
+        Err(FileFault::Memory) => false,
     }
 }
 
 // The value of a text, which is one.
-fn value(alloc: Global, text: &str) -> Result<Value, ProblemFault> {
-    Value::from_str(alloc, text).map_err(|_| ProblemFault::Memory)
+fn value(alloc: Global, text: &str) -> Result<Value, FileFault> {
+    Value::from_str(alloc, text).map_err(|_| FileFault::Memory)
 }
 
 // The number from 2 to 7 at `/a/n`.
-fn number_in(alloc: Global, text: &str) -> Result<u32, ProblemFault> {
+fn number_in(alloc: Global, text: &str) -> Result<u32, FileFault> {
     let value = value(alloc, text)?;
     let whole = whole(alloc, &value);
     let a = object(&whole, "a")?;
@@ -63,7 +62,7 @@ fn a_number_is_in_its_range_in_both_spellings(rt: HostRuntime) {
 }
 
 // The number from 0 to 4,294,967,295 at `/n`, if it is there.
-fn number_if_any(alloc: Global, text: &str) -> Result<Option<u32>, ProblemFault> {
+fn number_if_any(alloc: Global, text: &str) -> Result<Option<u32>, FileFault> {
     let value = value(alloc, text)?;
     let whole = whole(alloc, &value);
     as_object(&whole)?;
@@ -94,7 +93,7 @@ fn a_number_may_be_absent(rt: HostRuntime) {
 }
 
 // The truth value at `/b`, true where it is absent.
-fn truth_in(alloc: Global, text: &str) -> Result<bool, ProblemFault> {
+fn truth_in(alloc: Global, text: &str) -> Result<bool, FileFault> {
     let value = value(alloc, text)?;
     Ok(truth_or(true, &whole(alloc, &value), "b")?)
 }
@@ -122,13 +121,13 @@ fn a_truth_value_has_two_spellings(rt: HostRuntime) {
 }
 
 // How long the text at `/t` is.
-fn text_length(alloc: Global, json: &str) -> Result<usize, ProblemFault> {
+fn text_length(alloc: Global, json: &str) -> Result<usize, FileFault> {
     let value = value(alloc, json)?;
     Ok(text(&whole(alloc, &value), "t")?.len())
 }
 
 // How many days and weeks the sets at `/d` and `/w` have, of 7 and of 4.
-fn set_counts(alloc: Global, text: &str) -> Result<(u8, u8), ProblemFault> {
+fn set_counts(alloc: Global, text: &str) -> Result<(u8, u8), FileFault> {
     let value = value(alloc, text)?;
     let whole = whole(alloc, &value);
     let days = days(&whole, "d", 7)?;
@@ -157,7 +156,7 @@ fn texts_and_sets(rt: HostRuntime) {
 }
 
 // How many items the list at `/l` has, from 1 to 2, and the list at `/m`, at most 2.
-fn item_counts(alloc: Global, text: &str) -> Result<(usize, usize), ProblemFault> {
+fn item_counts(alloc: Global, text: &str) -> Result<(usize, usize), FileFault> {
     let value = value(alloc, text)?;
     let whole = whole(alloc, &value);
     let required = list(&whole, "l", 1, 2)?;
@@ -190,7 +189,7 @@ fn a_list_has_no_more_and_no_fewer_items_than_its_limits(rt: HostRuntime) {
 }
 
 // The place that the last reference of the list at `/l` names.
-fn last_place(alloc: Global, known: &Known<'_>, text: &str) -> Result<u32, ProblemFault>
+fn last_place(alloc: Global, known: &Known<'_>, text: &str) -> Result<u32, FileFault>
     requires { IsFew known.now }
 {
     let value = value(alloc, text)?;
@@ -209,7 +208,7 @@ fn three_places(
     alloc: Global,
     known: &Known<'_>,
     text: &str,
-) -> Result<(Option<u32>, u32, u32), ProblemFault>
+) -> Result<(Option<u32>, u32, u32), FileFault>
     requires { IsFew known.now }
 {
     let value = value(alloc, text)?;
@@ -299,7 +298,7 @@ fn any_reference_is_place_0_before_ids_are_known(rt: HostRuntime) {
 }
 
 // How many ids the objects of a list have.
-fn id_count(alloc: Global, text: &str) -> Result<usize, ProblemFault> {
+fn id_count(alloc: Global, text: &str) -> Result<usize, FileFault> {
     let value = value(alloc, text)?;
     let whole = whole(alloc, &value);
     let items = list(&whole, "l", 0, 3)?;

@@ -7,8 +7,8 @@ use Rattle.std.proofs.lemmas.List.Elements.{All-push}
 use Rattle.serde_json.specs.declared.value.Value.{Value}
 use Rattle.serde_json.specs.View.{items_view}
 use Rattle.tt_problem.specs.declared.parts.StudentPart.{StudentPart}
-use Rattle.tt_fields.specs.declared.answer.ProblemFault.{ProblemFault}
-use Rattle.tt_fields.specs.declared.answer.ProblemFault.TheVariants as faults
+use Rattle.tt_fields.specs.declared.answer.FileFault.{FileFault}
+use Rattle.tt_fields.specs.declared.answer.FileFault.TheVariants as faults
 use Rattle.tt_fields.specs.declared.kinds.Known.{Known}
 use Rattle.tt_fields.specs.Answer.{Part, Fault, ◌>>=◌, Fails}
 use Rattle.tt_fields.specs.Kinds.{items_at, each}
@@ -29,7 +29,7 @@ pub none_read : (courses : Known) (path : List ℕ) (vs : List Value) → AreRea
 unfolding IsDistinct
 none_read courses path vs = record { so_far = record { same = refl }; ids_are = refl; distinct = tt; valid = λ k d below. absurd (omega arith); count = refl }
 
-not_added : (courses : Option (List ℕ)) (e : ProblemFault) (p : Part) (students : List StudentPart) → Fails e (student_of courses (ids_of students) p) → Fails e (with_student courses p students)
+not_added : (courses : Option (List ℕ)) (e : FileFault) (p : Part) (students : List StudentPart) → Fails e (student_of courses (ids_of students) p) → Fails e (with_student courses p students)
 not_added courses faults.Memory p students h = tt
 not_added courses (faults.Fault n at) p students h = ap (λ (r : Result StudentPart Fault). r >>= λ x. Ok (students ++ x ∷ [])) h
 
@@ -47,7 +47,7 @@ module _ {courses : Known} {path : List ℕ} {vs : List Value} {i : ℕ} {ids : 
         count = omega (arith, length-append students (s ∷ []), before.count);
       }
 
-  pub one_fails : (e : ProblemFault) (v : Value) (p : Part) → AreRead courses path vs i ids students → i < length vs → v ≡ get_or vs i v
+  pub one_fails : (e : FileFault) (v : Value) (p : Part) → AreRead courses path vs i ids students → i < length vs → v ≡ get_or vs i v
       → p ≡ one path i v → Fails e (student_of (known_of courses) ids p) → Fails e (each (with_student (known_of courses)) (items_at path 0 (items_view vs)) [])
   one_fails e v p before lt is at_i h =
       threads_fault e v p before.so_far lt is at_i (not_added (known_of courses) e p students (rw (← before.ids_are) h))

@@ -7,7 +7,7 @@ ghost use Rattle.tt_lists.specs.Tables.{member_of, members_of};
 use indexmap::IndexSet;
 use std::alloc::Global;
 use tt_base::Row;
-use tt_fields::{Items, Known, NextTable, Part, ProblemFault, item_reference, read_onto};
+use tt_fields::{FileFault, Items, Known, NextTable, Part, item_reference, read_onto};
 
 /// The references of a list, which are looked up among these ids.
 #[derive(Clone, Copy)]
@@ -33,7 +33,7 @@ impl NextTable<IndexSet<u32>> for ReferenceTable<'_> {
         _place: usize,
         item: &Part<'_>,
         before: &mut IndexSet<u32>,
-    ) -> Result<(), ProblemFault> {
+    ) -> Result<(), FileFault> {
         let place = item_reference(&self.known, &*item)?;
         before.insert(place)?;
         Ok(())
@@ -45,7 +45,7 @@ pub fn distinct_places(
     alloc: Global,
     known: &Known<'_>,
     items: &Items<'_>,
-) -> Result<Row<u32>, ProblemFault>
+) -> Result<Row<u32>, FileFault>
     requires { IsFew known.now }
     ensures reads { Gives (λ members. members) result (members_of (known_of known.now) (items_of items.now)) }
     ensures known { IfOk result (λ members. All (IsAmong known.now) members) }

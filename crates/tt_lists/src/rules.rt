@@ -9,7 +9,7 @@ use crate::members::distinct_places;
 use std::alloc::Global;
 use tt_base::Row;
 use tt_fields::{
-    Fault, ItemTable, Items, Known, Part, ProblemFault, as_object, as_text, fault, list, number,
+    Fault, FileFault, ItemTable, Items, Known, Part, as_object, as_text, fault, list, number,
     read_each, required, truth_or,
 };
 use tt_problem::{DistKind, Rule};
@@ -54,7 +54,7 @@ impl ItemTable<Rule> for RuleTable<'_> {
     ghost ready = { λ t. IsFew t.classes };
 
     #[tactic(auto, unfolding(crate::specs::Tables::rule_of))]
-    fn read_item(&self, alloc: Global, item: &Part<'_>) -> Result<Rule, ProblemFault> {
+    fn read_item(&self, alloc: Global, item: &Part<'_>) -> Result<Rule, FileFault> {
         as_object(item)?;
         let kind = read_kind(&*item)?;
         let required = truth_or(false, &*item, "required")?;
@@ -76,7 +76,7 @@ pub fn read_rules(
     alloc: Global,
     known: &Known<'_>,
     items: &Items<'_>,
-) -> Result<Row<Rule>, ProblemFault>
+) -> Result<Row<Rule>, FileFault>
     requires { IsFew known.now }
     ensures reads { Gives (λ rules. rules) result (rules_of (known_of known.now) (items_of items.now)) }
     ensures valid { IfOk result (λ rules. All (IsRuleAmong known.now) rules) }

@@ -9,7 +9,7 @@ use crate::members::distinct_places;
 use indexmap::IndexSet;
 use std::alloc::Global;
 use tt_base::Row;
-use tt_fields::{Items, Known, Part, ProblemFault, add_id, as_object, list, number};
+use tt_fields::{FileFault, Items, Known, Part, add_id, as_object, list, number};
 use tt_problem::StudentPart;
 
 /// A student. The id is added to those of the students before.
@@ -19,7 +19,7 @@ fn student(
     known: &Known<'_>,
     object: &Part<'_>,
     ids: &mut IndexSet<u32>,
-) -> Result<StudentPart, ProblemFault>
+) -> Result<StudentPart, FileFault>
     requires { IsFew known.now }
     ensures reads { Gives (λ student. student) result
         (student_of (known_of known.now) ids.old.keys (part_of object.now)) }
@@ -42,7 +42,7 @@ pub fn read_students(
     alloc: Global,
     known: &Known<'_>,
     items: &Items<'_>,
-) -> Result<Row<StudentPart>, ProblemFault>
+) -> Result<Row<StudentPart>, FileFault>
     requires { IsFew known.now }
     ensures reads { Gives (λ students. students) result (students_of (known_of known.now) (items_of items.now)) }
     ensures ids { IfOk result (λ students. IsDistinct nat_eq (ids_of students)) }

@@ -7,24 +7,23 @@ use std::alloc::Global;
 use std::test::Fail;
 use tt_base::Row;
 use tt_bits::PairKind;
-use tt_fields::{Known, ProblemFault, list, whole};
+use tt_fields::{FileFault, Known, list, whole};
 use tt_problem::{DistKind, Rule, StudentPart};
 
 // Whether a reader answers with this fault.
-fn is_fault<T: Drop>(answer: Result<T, ProblemFault>, want: u8, at: &str) -> bool {
+fn is_fault<T: Drop>(answer: Result<T, FileFault>, want: u8, at: &str) -> bool {
     match answer {
         Ok(_) => false,
-        Err(ProblemFault::Fault { number, path }) => number == want
-            && path.bytes() == at.as_bytes(),
-        Err(ProblemFault::Memory) => false,
+        Err(FileFault::Fault { number, path }) => number == want && path.bytes() == at.as_bytes(),
+        Err(FileFault::Memory) => false,
     }
 }
 
 // The distributions of the list at `/d`.
-fn rules_in(alloc: Global, known: &Known<'_>, text: &str) -> Result<Row<Rule>, ProblemFault>
+fn rules_in(alloc: Global, known: &Known<'_>, text: &str) -> Result<Row<Rule>, FileFault>
     requires { IsFew known.now }
 {
-    let value = Value::from_str(alloc, text).map_err(|_| ProblemFault::Memory)?;
+    let value = Value::from_str(alloc, text).map_err(|_| FileFault::Memory)?;
     let whole = whole(alloc, &value);
     let items = list(&whole, "d", 0, 9)?;
     read_rules(alloc, known, &items)
@@ -113,14 +112,10 @@ fn faults_of_distributions(rt: HostRuntime) -> Result<(), Fail> {
 }
 
 // The students of the list at `/s`.
-fn students_in(
-    alloc: Global,
-    known: &Known<'_>,
-    text: &str,
-) -> Result<Row<StudentPart>, ProblemFault>
+fn students_in(alloc: Global, known: &Known<'_>, text: &str) -> Result<Row<StudentPart>, FileFault>
     requires { IsFew known.now }
 {
-    let value = Value::from_str(alloc, text).map_err(|_| ProblemFault::Memory)?;
+    let value = Value::from_str(alloc, text).map_err(|_| FileFault::Memory)?;
     let whole = whole(alloc, &value);
     let items = list(&whole, "s", 0, 9)?;
     read_students(alloc, known, &items)

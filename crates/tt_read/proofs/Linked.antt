@@ -12,8 +12,8 @@ use Rattle.tt_problem.specs.declared.parts.Parts.{Parts}
 use Rattle.tt_problem.specs.Sums.{cells_of, member_count, links_of, seats_of}
 use Rattle.tt_problem.specs.Valid.{IsValid, IsValidTime, IsValidRoom, IsValidChoice, IsValidClass, IsValidRule, IsValidStudent}
 use Rattle.tt_fields.specs.declared.kinds.Known.{Known}
-use Rattle.tt_fields.specs.declared.answer.ProblemFault.{ProblemFault}
-use Rattle.tt_fields.specs.declared.answer.ProblemFault.TheVariants as faults
+use Rattle.tt_fields.specs.declared.answer.FileFault.{FileFault}
+use Rattle.tt_fields.specs.declared.answer.FileFault.TheVariants as faults
 use Rattle.tt_fields.specs.Answer.{Fails}
 use Rattle.tt_fields.specs.List.{items_of, known_of, IsAmong}
 use Rattle.tt_tree.specs.declared.context as context
@@ -143,7 +143,7 @@ valid_within p h cells members links seats = h.valid cells members links seats
 -- ---- the last list of the second pass
 
 -- a fault of the students is the fault of the pass, where the other lists have none
-pub students_fail : (s : Shape) (c : Context) (k : Option (List ℕ)) (r : Rooms) (t : Tree) (rules : List Rule) (e : ProblemFault)
+pub students_fail : (s : Shape) (c : Context) (k : Option (List ℕ)) (r : Rooms) (t : Tree) (rules : List Rule) (e : FileFault)
     → c ≡ known s → rooms_in c s.rooms ≡ Ok r → courses_in c s.courses ≡ Ok t → rules_of c.classes s.distributions ≡ Ok rules → k ≡ Some s.course_ids
     → Fails e (students_of k s.students) → Fails e (linked_of s)
 unfolding linked_of

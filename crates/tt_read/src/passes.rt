@@ -12,7 +12,7 @@ use indexmap::IndexSet;
 use std::alloc::Global;
 use tt_base::Row;
 use tt_fields::{
-    Fault, Items, Known, Part, ProblemFault, as_object, list, list_or_none, number,
+    Fault, FileFault, Items, Known, Part, as_object, list, list_or_none, number,
     object as required_object,
 };
 use tt_lists::{read_rules, read_students};
@@ -79,7 +79,7 @@ fn unknown(term: Term) -> Context<'static>
 
 /// The first pass: the shape of all.
 #[tactic(auto, using(crate::proofs::Linked::ids_count), unfolding(crate::specs::Tables::shape_of))]
-pub fn first_pass<'a>(alloc: Global, object: &'a Part<'a>) -> Result<Shape<'a>, ProblemFault>
+pub fn first_pass<'a>(alloc: Global, object: &'a Part<'a>) -> Result<Shape<'a>, FileFault>
     ensures reads { Gives shape_read result (shape_of (part_of object.now)) }
     ensures valid { IfOk result IsShape }
 {
@@ -171,7 +171,7 @@ fn parts_with(
 
 /// The second pass: the same lists again, with each reference looked up.
 #[tactic(auto, unfolding(crate::specs::Tables::linked_of))]
-pub fn second_pass(alloc: Global, shape: &Shape<'_>) -> Result<Parts, ProblemFault>
+pub fn second_pass(alloc: Global, shape: &Shape<'_>) -> Result<Parts, FileFault>
     requires { IsShape shape.now }
     ensures reads { Gives (λ parts. parts) result (linked_of (shape_read shape.now)) }
     ensures linked { IfOk result IsLinked }

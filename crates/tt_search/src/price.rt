@@ -54,7 +54,7 @@ impl Rank {
 
 /// Whether a class is published, and doesn't meet as published with this value. False in a search.
 #[tactic(auto, unfolding(crate::specs::Turns::strays))]
-pub(crate) fn strays(
+pub(crate) fn is_stray(
     problem: &Problem,
     published: Option<&Published>,
     class: u32,

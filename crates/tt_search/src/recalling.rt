@@ -8,7 +8,7 @@ ghost use Rattle.tt_search.specs.Recalled.{may_return, recalled, recalled_lists,
 ghost use Rattle.tt_search.specs.Changed.{with_lists, with_plan};
 
 use crate::steps::want_of_memory;
-use std::alloc::{AllocError, Global};
+use std::alloc::AllocError;
 use tt_bits::Value;
 use tt_plan::{domain_size, value_at};
 use tt_problem::Problem;
@@ -20,7 +20,7 @@ use tt_state::{Refusal, State};
 /// published becomes unplaced. All students lose their lists, and then each in order gets the
 /// published one, where it is a valid enrolment and each class has a seat. The statistics stay. Where
 /// memory is wanting, only the conflict set found last may differ.
-pub fn recall(_alloc: Global, state: &mut State, published: &Published) -> Result<(), AllocError>
+pub fn recall(state: &mut State, published: &Published) -> Result<(), AllocError>
     requires { IsTimetableOf state.old.problem published.now }
     ensures desk { OnOk result (desk_of state.new ≡ stepped (desk_of state.old) (recalled state.old.problem published.now state.old.present)) }
     ensures err { OnErr result (with_taken state.new [] ≡ with_taken state.old []) }

@@ -11,7 +11,7 @@ ghost use Rattle.tt_search.specs.Least.{better, least_after};
 ghost use Rattle.tt_search.specs.Full.{full_price, full_choice};
 ghost use Rattle.tt_search.specs.Numbers.{price_numbers, IsOpenValue, IsPriced, after_move, offered};
 
-use crate::price::{Price, strays};
+use crate::price::{Price, is_stray};
 use std::alloc::{AllocError, Global};
 use tt_bits::{Key, Value};
 use tt_clash::blocked;
@@ -139,7 +139,7 @@ fn toll(state: &State, class: u32, value: Value, other: u32) -> u128
 
 /// The tolls of the whole conflict set, which was found last.
 #[tactic(auto, unfolding(crate::specs::Turns::weight_of))]
-fn weight(state: &State, class: u32, value: Value) -> u128
+fn weight_of(state: &State, class: u32, value: Value) -> u128
     requires { state.now.taken ≡ conflicts_of state.now.problem state.now.present class value }
     ensures { result ≡ weight_of state.now.problem state.now.present class value }
 {
@@ -171,8 +171,8 @@ fn look_at(
     ensures better { offered result ≡ Some (better (full_price state.old.problem (option_copied published.entry) state.old.present class) (offered best) value) }
 {
     state.find_conflicts(class, value);
-    let weight = weight(state, class, value);
-    let strays = strays(state.problem(), published, class, value);
+    let weight = weight_of(state, class, value);
+    let strays = is_stray(state.problem(), published, class, value);
     match best {
         None => {
             let total = state.trial(class, value);

@@ -11,7 +11,7 @@ use indexmap::IndexSet;
 use std::alloc::{AllocError, Global};
 use tt_base::Row;
 use tt_fields::{
-    Fault, ItemTable, Known, NextTable, Part, ProblemFault, add_id, as_object, item_reference,
+    Fault, FileFault, ItemTable, Known, NextTable, Part, add_id, as_object, item_reference,
     known_id, list, list_or_none, number, optional_number, read_each, read_onto,
 };
 use tt_problem::Problem;
@@ -67,7 +67,7 @@ impl ItemTable<u32> for Context<'_> {
 
     ghost ready = { λ c. IsContext c };
 
-    fn read_item(&self, _alloc: Global, item: &Part<'_>) -> Result<u32, ProblemFault> {
+    fn read_item(&self, _alloc: Global, item: &Part<'_>) -> Result<u32, FileFault> {
         Ok(item_reference(&self.students, &*item)?)
     }
 }
@@ -91,7 +91,7 @@ impl NextTable<Listed> for Context<'_> {
         _place: usize,
         item: &Part<'_>,
         before: &mut Listed,
-    ) -> Result<(), ProblemFault> {
+    ) -> Result<(), FileFault> {
         as_object(item)?;
         let id = number(&*item, "id", 0, u32::MAX)?;
         add_id(item, id, &mut before.ids)?;
@@ -110,11 +110,7 @@ impl NextTable<Listed> for Context<'_> {
 
 /// All classes of the whole value.
 #[tactic(auto, unfolding(crate::specs::Tables::listed_in))]
-fn read_listed(
-    alloc: Global,
-    context: &Context<'_>,
-    object: &Part<'_>,
-) -> Result<Listed, ProblemFault>
+fn read_listed(alloc: Global, context: &Context<'_>, object: &Part<'_>) -> Result<Listed, FileFault>
     requires { IsContext context.now }
     ensures reads { Gives listed_read result (listed_in (context_of context.now) (part_of object.now)) }
     ensures valid { IfOk result (λ l. AreEntries context.now l.entries.items) }
@@ -130,11 +126,7 @@ fn read_listed(
 }
 
 /// The first pass: the shape of all, with nothing looked up.
-pub fn first_pass(
-    alloc: Global,
-    problem: &Problem,
-    object: &Part<'_>,
-) -> Result<Listed, ProblemFault>
+pub fn first_pass(alloc: Global, problem: &Problem, object: &Part<'_>) -> Result<Listed, FileFault>
     ensures { Gives listed_read result (listed_in (unknown_of problem.now) (part_of object.now)) }
 {
     let context = Context {
@@ -167,11 +159,7 @@ fn ids_of_students(alloc: Global, problem: &Problem) -> Result<IndexSet<u32>, Al
 }
 
 /// The second pass: all of it again, with classes and students looked up.
-pub fn second_pass(
-    alloc: Global,
-    problem: &Problem,
-    object: &Part<'_>,
-) -> Result<Listed, ProblemFault>
+pub fn second_pass(alloc: Global, problem: &Problem, object: &Part<'_>) -> Result<Listed, FileFault>
     ensures reads { Gives listed_read result (listed_in (known_of_problem problem.now) (part_of object.now)) }
     ensures valid { IfOk result (λ l. AreEntriesOf problem.now (listed_read l).entries) }
 {

@@ -14,14 +14,14 @@ use Rattle.tt_desk.specs.Replies.{replies_to, refuses}
 use Rattle.tt_top.specs.declared.end.End.{End}
 use Rattle.tt_top.specs.declared.end.End.TheVariants.{Files, Sink, Memory, TooLong}
 use Rattle.tt_top.specs.declared.end.Done.{Done}
-use Rattle.tt_top.specs.declared.end.Done.TheVariants.{Served, Refused, Made}
+use Rattle.tt_top.specs.declared.end.Done.TheVariants.{Served, Faulty, Made}
 use Rattle.tt_top.specs.declared.end.Input.{Input}
 use Rattle.tt_top.specs.declared.end.Input.TheVariants.{Problem, Published}
 use Rattle.tt_top.specs.declared.end.InputFault.{InputFault}
 use Rattle.tt_top.specs.Words.{FileWords, first_words, file_words}
-use Rattle.tt_top.specs.Transcript.{Bytes, RefusedFile, opened, transcript, transcript_from, text_of, first_line, opening_line}
-use Rattle.tt_top.specs.Run.{Outside, TellFirst, Tell, IsTold, is_long, opens_published, opens_script, due_status, WritesFirst, IsTranscript, IsDue, IsComplete, HasCauses, AsksInOrder, IsStatus, IsFileRun}
-use Rattle.tt_top.specs.Ends.{input_status, refused_file, seen, end_status, done_status, status_of, HasEndCause, front_words, Begins, Opens, IsRefusedAt, AsksFirst, Serves}
+use Rattle.tt_top.specs.Transcript.{Bytes, FaultyFile, opened, transcript, transcript_from, text_of, first_line, opening_line}
+use Rattle.tt_top.specs.Run.{Moment, Outside, TellFirst, Tell, IsTold, is_long, opens_published, opens_script, due_status, WritesFirst, IsTranscript, IsDue, IsComplete, HasCauses, AsksInOrder, IsStatus, IsFileRun}
+use Rattle.tt_top.specs.Ends.{input_status, faulty_file, seen, end_status, done_status, status_of, HasEndCause, front_words, Begins, Opens, IsFaultyAt, AsksFirst, Serves}
 use Rattle.tt_top.proofs.LoadLemmas.{not_longer, longer}
 
 -- ---- statuses
@@ -61,6 +61,13 @@ cause_after which before mid now value r first second =
     let same : mid ≡ before = first.same (λ is. cc) in
     subst (λ (n : ℕ). HasEndCause which n now r) same second
 
+-- a phase that goes well, with another value
+done_cause : {T U : Type 0} (which : End) (before now : ℕ) (x : T) (y : U) → HasEndCause {T = T} which before now (Ok x) → HasEndCause {T = U} which before now (Ok y)
+done_cause which before now x y cause = record {
+  rose = λ is. absurd cc;
+  same = λ _. cause.same (λ is. cc);
+}
+
 -- a phase that fails, after one that went well, by another end
 pub no_cause : {T U : Type 0} (which e : End) (before now : ℕ) (value : T) → HasEndCause {T = T} which before now (Ok value) → e ≢ which → HasEndCause {T = U} which before now (Err e)
 no_cause which e before now value first ne = record {
@@ -90,18 +97,18 @@ first_front (Some before) (Some now) pieces some =
     (concat (take some.0 pieces), concat (drop some.0 pieces), sym (ap concat (take-append-drop some.0 pieces)) ∙ concat-append (take some.0 pieces) (drop some.0 pieces), some.1)
 
 -- the first line is a front of the whole
-pub first_line_front : (before now : Option (List ℕ)) (o : Result Session RefusedFile) (s : List ℕ) → WritesFront before now (first_line o) → WritesFront before now (text_of (transcript_from o s))
-first_line_front before now (Err refused) s front = WritesFront-first before now refused.line [] front
+pub first_line_front : (before now : Option (List ℕ)) (o : Result Session FaultyFile) (s : List ℕ) → WritesFront before now (first_line o) → WritesFront before now (text_of (transcript_from o s))
+first_line_front before now (Err faulty) s front = WritesFront-first before now faulty.line [] front
 first_line_front before now (Ok session) s front = WritesFront-first before now (opening_line session.desk.problem) _ front
 
--- ---- what begins, and then a file that is refused
+-- ---- a file with a fault
 
-pub refused_whole : (before now : Option (List ℕ)) (o : Result Session RefusedFile) (f : InputFault) (s : List ℕ) → o ≡ Err (refused_file f) → Writes before now (refused_file f).line → Writes before now (text_of (transcript_from o s))
-refused_whole before now o f s is all = rw (is, append-nil (refused_file f).line) all
+pub faulty_whole : (before now : Option (List ℕ)) (o : Result Session FaultyFile) (f : InputFault) (s : List ℕ) → o ≡ Err (faulty_file f) → Writes before now (faulty_file f).line → Writes before now (text_of (transcript_from o s))
+faulty_whole before now o f s is all = rw (is, append-nil (faulty_file f).line) all
 
 -- ---- a script that is served
 
-module _ (before mid now : Option (List ℕ)) (o : Result Session RefusedFile) (session : Session) (s : List ℕ) (is : o ≡ Ok session) (first : Writes before mid (opening_line session.desk.problem)) where
+module _ (before mid now : Option (List ℕ)) (o : Result Session FaultyFile) (session : Session) (s : List ℕ) (is : o ≡ Ok session) (first : Writes before mid (opening_line session.desk.problem)) where
   pub served_whole : Writes mid now (concat (replies_to session (lines_of s))) → Writes before now (text_of (transcript_from o s))
   served_whole all = rw is (Writes-append before mid now _ _ first all)
 
@@ -111,7 +118,7 @@ module _ (before mid now : Option (List ℕ)) (o : Result Session RefusedFile) (
   pub served_front : WritesFront mid now (concat (replies_to session (lines_of s))) → WritesFront before now (text_of (transcript_from o s))
   served_front front = rw is (WritesFront-after before mid now _ _ first front)
 
-pub served_status : (o : Result Session RefusedFile) (session : Session) (s : List ℕ) (refused : Bool) → o ≡ Ok session → refused ≡ refuses session (lines_of s) → done_status (Served refused) ≡ (transcript_from o s).status
+pub served_status : (o : Result Session FaultyFile) (session : Session) (s : List ℕ) (refused : Bool) → o ≡ Ok session → refused ≡ refuses session (lines_of s) → done_status (Served refused) ≡ (transcript_from o s).status
 served_status o session s refused is refuses_is = rw (is, ← refuses_is) refl
 
 module _ (limit : ℕ) (mid now : Option (List ℕ)) (d : Session) (s : Option (List ℕ)) where
@@ -237,17 +244,17 @@ asks_append a None (Some c) xs ys first second = absurd second
 asks_append None (Some b) (Some c) xs ys first second = absurd first
 asks_append (Some a) (Some b) (Some c) xs ys first second = second ∙ ap (λ t. t ++ ys) first ∙ append_assoc a xs ys
 
-refused_one : (words : FileWords) (count : ℕ) (input : Input) → IsRefusedAt words count input → input_status input ≡ 3 → count ≡ 1
-refused_one words count Problem at is = at
-refused_one words count Published at is = absurd (omega arith)
+faulty_one : (words : FileWords) (count : ℕ) (input : Input) → IsFaultyAt words count input → input_status input ≡ 3 → count ≡ 1
+faulty_one words count Problem at is = at
+faulty_one words count Published at is = absurd (omega arith)
 
-refused_two : (words : FileWords) (count : ℕ) (input : Input) → IsRefusedAt words count input → input_status input ≡ 4 → IsSome words.published × (count ≡ 2)
-refused_two words count Problem at is = absurd (omega arith)
-refused_two words count Published at is = at
+faulty_two : (words : FileWords) (count : ℕ) (input : Input) → IsFaultyAt words count input → input_status input ≡ 4 → IsSome words.published × (count ≡ 2)
+faulty_two words count Problem at is = absurd (omega arith)
+faulty_two words count Published at is = at
 
-not_refused : (r : Result Bool End) → (serve_status r ≡ 3) ⊎ (serve_status r ≡ 4) → ⊥
-not_refused (Ok refused) is = let le : done_status (Served refused) ≤ 1 = at_most_one refused in elim is [ inl three ↦ omega arith | inr four ↦ omega arith ]
-not_refused (Err e) is = over_four e (elim is [ inl three ↦ omega arith | inr four ↦ omega arith ])
+not_faulty : (r : Result Bool End) → (serve_status r ≡ 3) ⊎ (serve_status r ≡ 4) → ⊥
+not_faulty (Ok refused) is = let le : done_status (Served refused) ≤ 1 = at_most_one refused in elim is [ inl three ↦ omega arith | inr four ↦ omega arith ]
+not_faulty (Err e) is = over_four e (elim is [ inl three ↦ omega arith | inr four ↦ omega arith ])
 
 -- ---- the records of a run
 
@@ -263,7 +270,7 @@ module _ (words : FileWords) (limit : ℕ) (o : Outside) where
   all_words = let is : length (file_words words) ≡ length (first_words words) + length (option_to_list words.script) = length-append (first_words words) (option_to_list words.script) in omega arith
 
   module _ (e : End) (opens : (b : Bytes) → TellFirst o.holds (front_words words.problem words.published) limit b → Opens limit o.before.written o.now.written b (Err e)) where
-    pub ended_early : IsTranscript words limit o (end_status e)
+    ended_early : IsTranscript words limit o (end_status e)
     ended_early = record {
       whole = λ b told le. absurd (over_four e le);
       pieces = λ b told ne. none_first _ _ _ (unwritten limit _ _ b e (opens b (told_first b told.begins)) ne);
@@ -271,47 +278,47 @@ module _ (words : FileWords) (limit : ℕ) (o : Outside) where
       first = λ b told ne. inl (nothing_written _ _ (unwritten limit _ _ b e (opens b (told_first b told)) ne));
     }
 
-    pub early_is_due : IsDue words limit o (end_status e)
+    early_is_due : IsDue words limit o (end_status e)
     early_is_due = record { due = λ b told which. ended_due limit _ _ b e (opens b (told_first b told.begins)) which }
 
-  pub asks_early : (e : End) → AsksFirst (front_words words.problem words.published) limit o.holds o.before.asked o.now.asked (Err e) → AsksInOrder words limit o (end_status e)
+  asks_early : (e : End) → AsksFirst (front_words words.problem words.published) limit o.holds o.before.asked o.now.asked (Err e) → AsksInOrder words limit o (end_status e)
   asks_early e asks = record {
     count = asks.count;
     asked = more_words asks.count asks.few asks.asked;
     few = let some : asks.count ≤ length (first_words words) = asks.few in let all = all_words in omega arith;
     some = λ _. asks.some;
     all = λ le. absurd (over_four e (omega arith));
-    refused_problem = λ is. absurd (over_four e (omega arith));
-    refused_published = λ is. absurd (over_four e (omega arith));
+    faulty_problem = λ is. absurd (over_four e (omega arith));
+    faulty_published = λ is. absurd (over_four e (omega arith));
     later = λ b told more. asks.later b (told_first b told) more;
     last = λ b told more. absurd (let some : asks.count ≤ length (first_words words) = asks.few in omega arith);
     after_line = λ b told more. absurd (let some : asks.count ≤ length (first_words words) = asks.few in omega arith);
   }
 
   module _ (f : InputFault) (opens : (b : Bytes) → TellFirst o.holds (front_words words.problem words.published) limit b → Opens limit o.before.written o.now.written b (Ok (Err f))) where
-    refused_text : (b : Bytes) → TellFirst o.holds words limit b → Writes o.before.written o.now.written (text_of (transcript b))
-    refused_text b told = let w = opens b (told_first b told) in refused_whole _ _ (opened b.problem b.published) f _ w.0 w.2
+    faulty_text : (b : Bytes) → TellFirst o.holds words limit b → Writes o.before.written o.now.written (text_of (transcript b))
+    faulty_text b told = let w = opens b (told_first b told) in faulty_whole _ _ (opened b.problem b.published) f _ w.0 w.2
 
-    pub ended_refused : IsTranscript words limit o (input_status f.input)
-    ended_refused = record {
-      whole = λ b told le. refused_text b told.begins;
-      pieces = λ b told ne. whole_first _ _ _ (refused_text b told.begins);
-      front = λ b told. Writes-front _ _ _ (refused_text b told.begins);
+    ended_faulty : IsTranscript words limit o (input_status f.input)
+    ended_faulty = record {
+      whole = λ b told le. faulty_text b told.begins;
+      pieces = λ b told ne. whole_first _ _ _ (faulty_text b told.begins);
+      front = λ b told. Writes-front _ _ _ (faulty_text b told.begins);
       first = λ b told ne. let w = opens b (told_first b told) in inr (rw w.0 (past_whole _ _ _ w.2));
     }
 
-    pub refused_is_due : IsDue words limit o (input_status f.input)
-    refused_is_due = record { due = λ b told which. sym (opens b (told_first b told.begins)).1 }
+    faulty_is_due : IsDue words limit o (input_status f.input)
+    faulty_is_due = record { due = λ b told which. sym (opens b (told_first b told.begins)).1 }
 
-  pub asks_refused : (f : InputFault) → AsksFirst (front_words words.problem words.published) limit o.holds o.before.asked o.now.asked (Ok (Err f)) → AsksInOrder words limit o (input_status f.input)
-  asks_refused f asks = record {
+  asks_faulty : (f : InputFault) → AsksFirst (front_words words.problem words.published) limit o.holds o.before.asked o.now.asked (Ok (Err f)) → AsksInOrder words limit o (input_status f.input)
+  asks_faulty f asks = record {
     count = asks.count;
     asked = more_words asks.count asks.few asks.asked;
     few = let some : asks.count ≤ length (first_words words) = asks.few in let all = all_words in omega arith;
     some = λ _. asks.some;
     all = λ le. absurd (let three = (three_or_four f.input).0 in omega arith);
-    refused_problem = λ is. refused_one (front_words words.problem words.published) asks.count f.input asks.each is;
-    refused_published = λ is. refused_two (front_words words.problem words.published) asks.count f.input asks.each is;
+    faulty_problem = λ is. faulty_one (front_words words.problem words.published) asks.count f.input asks.each is;
+    faulty_published = λ is. faulty_two (front_words words.problem words.published) asks.count f.input asks.each is;
     later = λ b told more. asks.later b (told_first b told) more;
     last = λ b told more. absurd (let some : asks.count ≤ length (first_words words) = asks.few in omega arith);
     after_line = λ b told more. absurd (let some : asks.count ≤ length (first_words words) = asks.few in omega arith);
@@ -322,7 +329,7 @@ module _ (words : FileWords) (limit : ℕ) (o : Outside) where
       script_is : (b : Bytes) → Tell o.holds words limit b → Serves limit mid o.now.written session b.script r
       script_is b told = let w = opens b (told_first b told.begins) in serves b.script (told.script w.1)
 
-      pub served : Grows mid o.now.written → IsTranscript words limit o (serve_status r)
+      served : Grows mid o.now.written → IsTranscript words limit o (serve_status r)
       served grows = record {
         whole = λ b told le. let w = opens b (told_first b told.begins) in served_whole _ mid _ (opened b.problem b.published) session _ w.0 w.2 (serves_whole limit mid _ session b.script r (script_is b told) le);
         pieces = λ b told ne. let w = opens b (told_first b told.begins) in served_pieces _ mid _ (opened b.problem b.published) session _ w.0 w.2 (serves_pieces limit mid _ session b.script r (script_is b told) ne);
@@ -330,18 +337,18 @@ module _ (words : FileWords) (limit : ℕ) (o : Outside) where
         first = λ b told ne. let w = opens b (told_first b told) in inr (rw w.0 (past _ mid _ _ w.2 grows));
       }
 
-      pub served_is_due : IsDue words limit o (serve_status r)
+      served_is_due : IsDue words limit o (serve_status r)
       served_is_due = record { due = λ b told which. let w = opens b (told_first b told.begins) in served_due limit mid _ b session r w.0 w.1 (script_is b told) which }
 
-    pub asks_served : (mid_asked : Option (List (List ℕ))) → Grows mid o.now.written → AsksFirst (front_words words.problem words.published) limit o.holds o.before.asked mid_asked (Ok (Ok session)) → AsksAll mid_asked o.now.asked (option_to_list words.script) → AsksInOrder words limit o (serve_status r)
+    asks_served : (mid_asked : Option (List (List ℕ))) → Grows mid o.now.written → AsksFirst (front_words words.problem words.published) limit o.holds o.before.asked mid_asked (Ok (Ok session)) → AsksAll mid_asked o.now.asked (option_to_list words.script) → AsksInOrder words limit o (serve_status r)
     asks_served mid_asked grows first second = record {
       count = length (file_words words);
       asked = rw (take-length (file_words words)) (asks_append _ mid_asked _ (first_words words) (option_to_list words.script) (rw (first.each, take-length (first_words words)) at first.asked) second);
       few = omega arith;
       some = λ _. let some : first.count ≤ length (first_words words) = first.few in let one = first.some in let all = all_words in omega arith;
       all = λ _. refl;
-      refused_problem = λ is. absurd (not_refused r (inl is));
-      refused_published = λ is. absurd (not_refused r (inr is));
+      faulty_problem = λ is. absurd (not_faulty r (inl is));
+      faulty_published = λ is. absurd (not_faulty r (inr is));
       later = λ b told more. published_first limit b (opens b (told_first b told)).1;
       last = λ b told more. (opens b (told_first b told)).1;
       after_line = λ b told more. let w = opens b (told_first b told) in rw w.0 (past _ mid _ _ w.2 grows);
@@ -354,7 +361,7 @@ at_most_four input = (three_or_four input).1
 
 few_done : (done : Done) → done_status done ≤ 4
 few_done (Served refused) = let le : done_status (Served refused) ≤ 1 = at_most_one refused in omega arith
-few_done (Refused input) = (three_or_four input).1
+few_done (Faulty input) = (three_or_four input).1
 few_done Made = omega arith
 
 not_five : (done : Done) → (done_status done ≡ 5) ⊎ (done_status done ≡ 6) → ⊥
@@ -374,7 +381,7 @@ is_six (Err Sink) is = refl
 is_six (Err Memory) is = absurd (omega arith)
 is_six (Err TooLong) is = absurd (omega arith)
 
-pub has_causes : (o : Outside) (r : Result Done End) → HasEndCause Files o.before.files o.now.files r → HasEndCause Sink o.before.sink o.now.sink r → HasCauses o (status_of r)
+has_causes : (o : Outside) (r : Result Done End) → HasEndCause Files o.before.files o.now.files r → HasEndCause Sink o.before.sink o.now.sink r → HasCauses o (status_of r)
 has_causes o r files sink = record {
   files = λ is. files.rose (is_five r is);
   sink = λ is. sink.rose (is_six r is);
@@ -384,7 +391,7 @@ has_causes o r files sink = record {
 
 is_status : (r : Result Done End) → IsStatus (status_of r)
 is_status (Ok (Served refused)) = let le : done_status (Served refused) ≤ 1 = at_most_one refused in record { at_most = omega arith; no_usage = λ is. omega arith }
-is_status (Ok (Refused input)) = let range = three_or_four input in let three = range.0 in let four = range.1 in record { at_most = omega arith; no_usage = λ is. omega arith }
+is_status (Ok (Faulty input)) = let range = three_or_four input in let three = range.0 in let four = range.1 in record { at_most = omega arith; no_usage = λ is. omega arith }
 is_status (Ok Made) = record { at_most = omega arith; no_usage = λ is. omega arith }
 is_status (Err Files) = record { at_most = omega arith; no_usage = λ is. omega arith }
 is_status (Err Sink) = record { at_most = omega arith; no_usage = λ is. omega arith }
@@ -399,7 +406,7 @@ completes words limit o (Err Sink) due causes = record { complete = λ b told nf
 completes words limit o (Err Memory) due causes = record { complete = λ b told nf ns. inr refl }
 completes words limit o (Err TooLong) due causes = record { complete = λ b told nf ns. inl (due.due b told (inr refl)) }
 
-pub is_file_run : (words : FileWords) (limit : ℕ) (o : Outside) (r : Result Done End) → IsTranscript words limit o (status_of r) → IsDue words limit o (status_of r) → AsksInOrder words limit o (status_of r) → HasEndCause Files o.before.files o.now.files r → HasEndCause Sink o.before.sink o.now.sink r → IsFileRun words limit o (status_of r)
+is_file_run : (words : FileWords) (limit : ℕ) (o : Outside) (r : Result Done End) → IsTranscript words limit o (status_of r) → IsDue words limit o (status_of r) → AsksInOrder words limit o (status_of r) → HasEndCause Files o.before.files o.now.files r → HasEndCause Sink o.before.sink o.now.sink r → IsFileRun words limit o (status_of r)
 is_file_run words limit o r text due names files sink = record {
   transcript = text;
   due = due;
@@ -408,3 +415,47 @@ is_file_run words limit o r text due names files sink = record {
   names = names;
   statuses = is_status r;
 }
+
+-- ---- a run, by how it ends
+
+module _ (words : FileWords) (limit : ℕ) (o : Outside) where
+  -- before its script is served
+  pub early_run : (e : End)
+      → ((b : Bytes) → TellFirst o.holds (front_words words.problem words.published) limit b → Opens limit o.before.written o.now.written b (Err e))
+      → AsksFirst (front_words words.problem words.published) limit o.holds o.before.asked o.now.asked (Err e)
+      → HasEndCause {T = Result Session InputFault} Files o.before.files o.now.files (Err e)
+      → HasEndCause {T = Result Session InputFault} Sink o.before.sink o.now.sink (Err e)
+      → IsFileRun words limit o (end_status e)
+  early_run e opens asks files sink =
+      is_file_run words limit o (Err e) (ended_early words limit o e opens) (early_is_due words limit o e opens) (asks_early words limit o e asks) (same_cause Files _ _ e files) (same_cause Sink _ _ e sink)
+
+  -- with a fault of a file
+  pub faulty_run : (f : InputFault)
+      → ((b : Bytes) → TellFirst o.holds (front_words words.problem words.published) limit b → Opens limit o.before.written o.now.written b (Ok (Err f)))
+      → AsksFirst (front_words words.problem words.published) limit o.holds o.before.asked o.now.asked (Ok (Err f))
+      → HasEndCause {T = Result Session InputFault} Files o.before.files o.now.files (Ok (Err f))
+      → HasEndCause {T = Result Session InputFault} Sink o.before.sink o.now.sink (Ok (Err f))
+      → IsFileRun words limit o (input_status f.input)
+  faulty_run f opens asks files sink =
+      is_file_run words limit o (Ok (Faulty f.input)) (ended_faulty words limit o f opens) (faulty_is_due words limit o f opens) (asks_faulty words limit o f asks)
+      (done_cause Files _ _ _ _ files) (done_cause Sink _ _ _ _ sink)
+
+  -- where the script is served, over a session that was opened at this moment
+  module _ (mid : Moment) (session : Session)
+      (opens : (b : Bytes) → TellFirst o.holds (front_words words.problem words.published) limit b → Opens limit o.before.written mid.written b (Ok (Ok session)))
+      (asks : AsksFirst (front_words words.problem words.published) limit o.holds o.before.asked mid.asked (Ok (Ok session)))
+      (files : HasEndCause {T = Result Session InputFault} Files o.before.files mid.files (Ok (Ok session)))
+      (sink : HasEndCause {T = Result Session InputFault} Sink o.before.sink mid.sink (Ok (Ok session))) where
+    pub served_run : (r : Result Bool End)
+        → ((s : Option (List ℕ)) → IsTold o.holds words.script s → Serves limit mid.written o.now.written session s r)
+        → Grows mid.written o.now.written → AsksAll mid.asked o.now.asked (option_to_list words.script)
+        → HasEndCause Files mid.files o.now.files r → HasEndCause Sink mid.sink o.now.sink r
+        → IsFileRun words limit o (serve_status r)
+    served_run (Ok refused) serves grows more files_now sink_now =
+        is_file_run words limit o (Ok (Served refused)) (served words limit o mid.written session (Ok refused) opens serves grows) (served_is_due words limit o mid.written session (Ok refused) opens serves)
+        (asks_served words limit o mid.written session (Ok refused) opens mid.asked grows asks more)
+        (done_cause Files _ _ _ _ (cause_after Files _ _ _ _ _ files files_now)) (done_cause Sink _ _ _ _ (cause_after Sink _ _ _ _ _ sink sink_now))
+    served_run (Err e) serves grows more files_now sink_now =
+        is_file_run words limit o (Err e) (served words limit o mid.written session (Err e) opens serves grows) (served_is_due words limit o mid.written session (Err e) opens serves)
+        (asks_served words limit o mid.written session (Err e) opens mid.asked grows asks more)
+        (same_cause Files _ _ e (cause_after Files _ _ _ _ _ files files_now)) (same_cause Sink _ _ e (cause_after Sink _ _ _ _ _ sink sink_now))

@@ -15,9 +15,9 @@ use Rattle.tt_top.specs.declared.end.Input.{Input}
 use Rattle.tt_top.specs.declared.end.Input.TheVariants.{Problem, Published}
 use Rattle.tt_top.specs.declared.end.InputFault.{InputFault}
 use Rattle.tt_top.specs.Words.{FileWords, first_words}
-use Rattle.tt_top.specs.Transcript.{Bytes, RefusedFile, problem_read, published_in, opened}
+use Rattle.tt_top.specs.Transcript.{Bytes, FaultyFile, problem_read, published_in, opened}
 use Rattle.tt_top.specs.Run.{IsTold, TellFirst, is_long, opens_published}
-use Rattle.tt_top.specs.Ends.{refused_file, seen, rest_of, Begins, AsksFirst, IsRefusedAt, IsAsked}
+use Rattle.tt_top.specs.Ends.{faulty_file, seen, rest_of, Begins, AsksFirst, IsFaultyAt, IsAsked}
 
 -- ---- ends
 
@@ -36,7 +36,7 @@ longer limit xs long = lt-ltb limit (length xs) long
 
 -- ---- the problem
 
-not_ok : (o : Result Parts Fault) (r : RefusedFile) → problem_read o ≡ Err r → is_ok o ≡ false
+not_ok : (o : Result Parts Fault) (r : FaultyFile) → problem_read o ≡ Err r → is_ok o ≡ false
 not_ok (Ok p) r is = absurd cc
 not_ok (Err f) r is = refl
 
@@ -45,7 +45,7 @@ ok_of (Ok q) p is = refl
 ok_of (Err f) p is = absurd cc
 
 -- a problem with a fault is what ends the run
-pub opened_not : (problem : List ℕ) (published : Option (List ℕ)) (r : RefusedFile) → problem_read (problem_of problem) ≡ Err r → opened problem published ≡ Err r
+pub opened_not : (problem : List ℕ) (published : Option (List ℕ)) (r : FaultyFile) → problem_read (problem_of problem) ≡ Err r → opened problem published ≡ Err r
 unfolding opened
 opened_not problem published r is = rw is refl
 
@@ -57,10 +57,10 @@ opened_rest problem published p is = rw is refl
 pub rest_ok : (p : Parts) (o : Option (List ℕ)) (t : Option Timetable) (s : Session) → published_in p o ≡ Ok t → s ≡ record { desk = opening_desk p; published = t } → rest_of p o ≡ Ok s
 rest_ok p o t s is s_is = rw (is, s_is) refl
 
-pub problem_refused : (limit : ℕ) (b : Bytes) (f : InputFault) → problem_read (problem_of b.problem) ≡ Err (refused_file f) → is_long limit (Some b.problem) ≡ false → Begins limit b (Ok (Err f))
-problem_refused limit b f is short =
-    let opened_is = opened_not b.problem b.published (refused_file f) is in
-    let bad = not_ok (problem_of b.problem) (refused_file f) is in
+pub problem_faulty : (limit : ℕ) (b : Bytes) (f : InputFault) → problem_read (problem_of b.problem) ≡ Err (faulty_file f) → is_long limit (Some b.problem) ≡ false → Begins limit b (Ok (Err f))
+problem_faulty limit b f is short =
+    let opened_is = opened_not b.problem b.published (faulty_file f) is in
+    let bad = not_ok (problem_of b.problem) (faulty_file f) is in
     (opened_is, rw (short, bad, opened_is) refl)
 
 -- ---- what comes after the problem
@@ -74,14 +74,14 @@ module _ (limit : ℕ) (b : Bytes) (p : Parts) (is : problem_read (problem_of b.
       let opened_is : opened b.problem b.published ≡ Ok s = opened_rest b.problem b.published p is ∙ rest in
       (opened_is, rw (short, ok_of (problem_of b.problem) p is, fits, opened_is) refl)
 
-  rest_refused : (f : InputFault) → rest_of p b.published ≡ Err (refused_file f) → is_long limit b.published ≡ false → Begins limit b (Ok (Err f))
-  rest_refused f rest fits =
-      let opened_is : opened b.problem b.published ≡ Err (refused_file f) = opened_rest b.problem b.published p is ∙ rest in
+  rest_faulty : (f : InputFault) → rest_of p b.published ≡ Err (faulty_file f) → is_long limit b.published ≡ false → Begins limit b (Ok (Err f))
+  rest_faulty f rest fits =
+      let opened_is : opened b.problem b.published ≡ Err (faulty_file f) = opened_rest b.problem b.published p is ∙ rest in
       (opened_is, rw (short, ok_of (problem_of b.problem) p is, fits, opened_is) refl)
 
   pub rest_begins : (holds : List ℕ → Option (List ℕ)) (word : Option (List ℕ)) → IsTold holds word b.published → (r : Result (Result Session InputFault) End) → IfOk r (λ l. (o : Option (List ℕ)) → IsTold holds word o → (rest_of p o ≡ seen l) × (is_long limit o ≡ false)) → (r ≡ Err TooLong → (o : Option (List ℕ)) → IsTold holds word o → is_long limit o ≡ true) → r ≢ Err Sink → Begins limit b r
   rest_begins holds word told (Ok (Ok s)) loaded long no_sink = let read = loaded b.published told in rest_loaded s read.0 read.1
-  rest_begins holds word told (Ok (Err f)) loaded long no_sink = let read = loaded b.published told in rest_refused f read.0 read.1
+  rest_begins holds word told (Ok (Err f)) loaded long no_sink = let read = loaded b.published told in rest_faulty f read.0 read.1
   rest_begins holds word told (Err Files) loaded long no_sink = tt
   rest_begins holds word told (Err Sink) loaded long no_sink = absurd (no_sink refl)
   rest_begins holds word told (Err Memory) loaded long no_sink = tt
@@ -114,14 +114,14 @@ two_files words is = two words.published is
     two None is = absurd cc
     two (Some name) is = refl
 
-refused_at : (words : FileWords) (input : Input) → input ≡ Published → IsSome words.published → IsRefusedAt words (length (first_words words)) input
-refused_at words Problem is named = absurd cc
-refused_at words Published is named = (named, two_files words named)
+faulty_at : (words : FileWords) (input : Input) → input ≡ Published → IsSome words.published → IsFaultyAt words (length (first_words words)) input
+faulty_at words Problem is named = absurd cc
+faulty_at words Published is named = (named, two_files words named)
 
 -- what the published file leaves, asked for after the problem
 pub rest_asked : (words : FileWords) (r : Result (Result Session InputFault) End) → IfOk r (λ l. IfErr l (λ f. (f.input ≡ Published) × IsSome words.published)) → IsAsked words (length (first_words words)) r
 rest_asked words (Ok (Ok s)) input = refl
-rest_asked words (Ok (Err f)) input = refused_at words f.input input.0 input.1
+rest_asked words (Ok (Err f)) input = faulty_at words f.input input.0 input.1
 rest_asked words (Err e) input = tt
 
 -- files that hold the same tell the same

@@ -14,9 +14,9 @@ use Rattle.tt_top.specs.declared.end.End.{End}
 use Rattle.tt_top.specs.declared.end.End.TheVariants.{Files, Sink, Memory, TooLong}
 use Rattle.tt_top.specs.declared.end.Done.{Done}
 use Rattle.tt_top.specs.declared.end.InputFault.{InputFault}
-use Rattle.tt_top.specs.Transcript.{RefusedFile, Transcript, transcript_from, text_of, first_line}
+use Rattle.tt_top.specs.Transcript.{FaultyFile, Transcript, transcript_from, text_of, first_line}
 use Rattle.tt_top.specs.Run.{WritesFirst}
-use Rattle.tt_top.specs.Ends.{input_status, refused_file, seen, end_status, status_of, HasEndCause, OpensMade, ServesLines, WritesPlain, EndsPlain}
+use Rattle.tt_top.specs.Ends.{input_status, faulty_file, seen, end_status, status_of, HasEndCause, OpensMade, ServesLines, WritesPlain, EndsPlain}
 use Rattle.tt_top.proofs.FileRunLemmas.{serve_status, at_most_one, at_most_four, none_first, whole_first, first_front, first_line_front, is_six}
 
 -- ---- what is written
@@ -60,16 +60,16 @@ two_fields (Ok v) old mid now first second n m n_is m_is n_same m_same one two =
     two ∙ ap (λ t. t ++ field second m) one ∙ ap (λ k. (old ++ field first k) ++ field second m) n_same ∙ ap (λ k. (old ++ field first n_is) ++ field second k) m_same
 two_fields (Err e) old mid now first second n m n_is m_is n_same m_same one two = tt
 
-pub made_failed : (before now : Option (List ℕ)) (o : Result Session RefusedFile) (s : List ℕ) (e : End) → OpensMade before now o (Err e) → WritesPlain (transcript_from o s) before now (end_status e)
+pub made_failed : (before now : Option (List ℕ)) (o : Result Session FaultyFile) (s : List ℕ) (e : End) → OpensMade before now o (Err e) → WritesPlain (transcript_from o s) before now (end_status e)
 made_failed before now o s Files opens = absurd opens
 made_failed before now o s Sink opens = plain_failed _ before now (first_line_front before now o s opens)
 made_failed before now o s Memory opens = plain_memory _ before now (none_first before now _ opens)
 made_failed before now o s TooLong opens = absurd opens
 
-pub made_refused : (before now : Option (List ℕ)) (o : Result Session RefusedFile) (s : List ℕ) (f : InputFault) → OpensMade before now o (Ok (Err f)) → WritesPlain (transcript_from o s) before now (input_status f.input)
-made_refused before now o s f opens = rw opens.0 (one_whole before now (refused_file f).line (input_status f.input) (at_most_four f.input) opens.1)
+pub made_faulty : (before now : Option (List ℕ)) (o : Result Session FaultyFile) (s : List ℕ) (f : InputFault) → OpensMade before now o (Ok (Err f)) → WritesPlain (transcript_from o s) before now (input_status f.input)
+made_faulty before now o s f opens = rw opens.0 (one_whole before now (faulty_file f).line (input_status f.input) (at_most_four f.input) opens.1)
 
-pub made_served : (before mid now : Option (List ℕ)) (o : Result Session RefusedFile) (s : List ℕ) (session : Session) (r : Result Bool End) → OpensMade before mid o (Ok (Ok session)) → ServesLines mid now session s r → WritesPlain (transcript_from o s) before now (serve_status r)
+pub made_served : (before mid now : Option (List ℕ)) (o : Result Session FaultyFile) (s : List ℕ) (session : Session) (r : Result Bool End) → OpensMade before mid o (Ok (Ok session)) → ServesLines mid now session s r → WritesPlain (transcript_from o s) before now (serve_status r)
 made_served before mid now o s session (Ok refused) opens serves =
     let le : serve_status (Ok refused) ≤ 1 = at_most_one refused in
     let few : serve_status (Ok refused) ≤ 4 = omega arith in
@@ -80,14 +80,14 @@ made_served before mid now o s session (Err Memory) opens serves = rw opens.0 (p
 made_served before mid now o s session (Err TooLong) opens serves = absurd serves
 
 -- the first line wasn't written whole
-pub made_unwritten : (before now : Option (List ℕ)) (o : Result Session RefusedFile) (l : Result Session InputFault) (e : End) → o ≡ seen l → (e ≡ Memory → now ≡ before) → WritesFront before now (first_line (seen l)) → e ≢ Files → e ≢ TooLong → OpensMade before now o (Err e)
+pub made_unwritten : (before now : Option (List ℕ)) (o : Result Session FaultyFile) (l : Result Session InputFault) (e : End) → o ≡ seen l → (e ≡ Memory → now ≡ before) → WritesFront before now (first_line (seen l)) → e ≢ Files → e ≢ TooLong → OpensMade before now o (Err e)
 made_unwritten before now o l Files is memory front no_files no_limit = absurd (no_files refl)
 made_unwritten before now o l Sink is memory front no_files no_limit = rw is front
 made_unwritten before now o l Memory is memory front no_files no_limit = memory refl
 made_unwritten before now o l TooLong is memory front no_files no_limit = absurd (no_limit refl)
 
 -- no problem was made
-pub not_made : (before now : Option (List ℕ)) (o : Result Session RefusedFile) (e : End) → e ≡ Memory → now ≡ before → OpensMade before now o (Err e)
+pub not_made : (before now : Option (List ℕ)) (o : Result Session FaultyFile) (e : End) → e ≡ Memory → now ≡ before → OpensMade before now o (Err e)
 not_made before now o e is same = rw is same
 
 -- what serving the lines of a text gives

@@ -11,34 +11,34 @@ use Rattle.tt_desk.specs.Replies.{replies_to, refuses}
 use Rattle.tt_top.specs.declared.end.End.{End}
 use Rattle.tt_top.specs.declared.end.End.TheVariants.{Files, Sink, Memory, TooLong}
 use Rattle.tt_top.specs.declared.end.Done.{Done}
-use Rattle.tt_top.specs.declared.end.Done.TheVariants.{Served, Refused, Made}
+use Rattle.tt_top.specs.declared.end.Done.TheVariants.{Served, Faulty, Made}
 use Rattle.tt_top.specs.declared.end.Input.{Input}
 use Rattle.tt_top.specs.declared.end.Input.TheVariants.{Problem, Published}
 use Rattle.tt_top.specs.declared.end.InputFault.{InputFault}
 use Rattle.tt_top.specs.Words.{FileWords, first_words}
-use Rattle.tt_top.specs.Transcript.{Bytes, RefusedFile, Transcript, fault_line, published_in, opened, first_line, text_of}
+use Rattle.tt_top.specs.Transcript.{Bytes, FaultyFile, Transcript, fault_line, published_in, opened, first_line, text_of}
 use Rattle.tt_top.specs.Run.{WritesFirst, TellFirst, is_long, opens_published, opens_script, due_status}
 
--- ---- files that are refused
+-- ---- files with a fault
 
 -- the name of a file in the line on its fault
 abbrev pub input_name : Input → List ℕ
 input_name Problem = codes "problem"
 input_name Published = codes "published"
 
--- the status of a run whose file is refused
+-- the status of a run whose file has a fault
 abbrev pub input_status : Input → ℕ
 input_status Problem = 3
 input_status Published = 4
 
 -- the line and the status of a fault
-abbrev pub refused_file : InputFault → RefusedFile
-refused_file f = record { line = fault_line (input_name f.input) (record { number = f.number; path = f.path }); status = input_status f.input }
+abbrev pub faulty_file : InputFault → FaultyFile
+faulty_file f = record { line = fault_line (input_name f.input) (record { number = f.number; path = f.path }); status = input_status f.input }
 
 -- what a file gives, or its line and status
-abbrev pub seen : {A : Type 0} → Result A InputFault → Result A RefusedFile
+abbrev pub seen : {A : Type 0} → Result A InputFault → Result A FaultyFile
 seen (Ok x) = Ok x
-seen (Err f) = Err (refused_file f)
+seen (Err f) = Err (faulty_file f)
 
 -- ---- statuses
 
@@ -50,7 +50,7 @@ end_status TooLong = 8
 
 abbrev pub done_status : Done → ℕ
 done_status (Served refused) = if refused then 1 else 0
-done_status (Refused input) = input_status input
+done_status (Faulty input) = input_status input
 done_status Made = 0
 
 -- the status of a run, by how it ended
@@ -72,7 +72,7 @@ abbrev pub front_words : List ℕ → Option (List ℕ) → FileWords
 front_words problem published = record { problem = problem; published = published; script = None }
 
 -- the session of this problem, with what the published file gives
-abbrev pub rest_of : Parts → Option (List ℕ) → Result Session RefusedFile
+abbrev pub rest_of : Parts → Option (List ℕ) → Result Session FaultyFile
 rest_of p o = do
   t ← published_in p o
   Ok (record { desk = opening_desk p; published = t })
@@ -99,13 +99,13 @@ Opens limit before now b (Err Memory) = now ≡ before
 Opens limit before now b (Err TooLong) = (due_status limit b ≡ 8) × (now ≡ before)
 
 -- how many of the words of these files were asked for
-abbrev pub IsRefusedAt : FileWords → ℕ → Input → Type 0
-IsRefusedAt words count Problem = count ≡ 1
-IsRefusedAt words count Published = IsSome words.published × (count ≡ 2)
+abbrev pub IsFaultyAt : FileWords → ℕ → Input → Type 0
+IsFaultyAt words count Problem = count ≡ 1
+IsFaultyAt words count Published = IsSome words.published × (count ≡ 2)
 
 abbrev pub IsAsked : FileWords → ℕ → Result (Result Session InputFault) End → Type 0
 IsAsked words count (Ok (Ok s)) = count ≡ length (first_words words)
-IsAsked words count (Ok (Err f)) = IsRefusedAt words count f.input
+IsAsked words count (Ok (Err f)) = IsFaultyAt words count f.input
 IsAsked words count (Err end) = ⊤
 
 -- The names asked for before the script are the first of these words.
@@ -126,7 +126,7 @@ Serves limit before now d s (Err Memory) = WritesFirst before now (replies_to d 
 Serves limit before now d s (Err TooLong) = (is_long limit s ≡ true) × (now ≡ before)
 
 -- What making a problem and writing its first line leave, where the text gives this.
-abbrev pub OpensMade : Option (List ℕ) → Option (List ℕ) → Result Session RefusedFile → Result (Result Session InputFault) End → Type 0
+abbrev pub OpensMade : Option (List ℕ) → Option (List ℕ) → Result Session FaultyFile → Result (Result Session InputFault) End → Type 0
 OpensMade before now o (Ok l) = (o ≡ seen l) × Writes before now (first_line (seen l))
 OpensMade before now o (Err Files) = ⊥
 OpensMade before now o (Err Sink) = WritesFront before now (first_line o)

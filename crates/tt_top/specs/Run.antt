@@ -103,8 +103,8 @@ pub record AsksInOrder (words : FileWords) (limit : ℕ) (o : Outside) (status :
   pub few : count ≤ length (file_words words)
   pub some : status ≢ 7 → 1 ≤ count
   pub all : status ≤ 1 → count ≡ length (file_words words)
-  pub refused_problem : status ≡ 3 → count ≡ 1
-  pub refused_published : status ≡ 4 → IsSome words.published × (count ≡ 2)
+  pub faulty_problem : status ≡ 3 → count ≡ 1
+  pub faulty_published : status ≡ 4 → IsSome words.published × (count ≡ 2)
   -- a name after the first is asked for only where the problem has no fault
   pub later : (b : Bytes) → TellFirst o.holds words limit b → 1 < count → IsTrue (opens_published limit b)
   -- the script is asked for only where no file before it has a fault, and after the opening line

@@ -1,5 +1,6 @@
 ghost use Rattle.tt_top.specs.declared.end.End.TheVariants.{Memory as end_memory};
 ghost use Rattle.std.specs.Prelude.{◌≡◌};
+ghost use Rattle.tt_top.specs.Ends.{status_of};
 
 use std::alloc::AllocError;
 use tt_fields::Path;
@@ -51,7 +52,23 @@ pub enum Done {
     /// The script was read to its end or to `quit`; some line may have been refused.
     Served { refused: bool },
     /// A file has a fault, which was written.
-    Refused(Input),
+    Faulty(Input),
     /// The text that was asked for was written.
     Made,
+}
+
+/// The status of a run, by how it ended.
+pub fn status(ended: Result<Done, End>) -> u8
+    ensures { result ≡ status_of ended }
+{
+    match ended {
+        Ok(Done::Served { refused: false } | Done::Made) => 0,
+        Ok(Done::Served { refused: true }) => 1,
+        Ok(Done::Faulty(Input::Problem)) => 3,
+        Ok(Done::Faulty(Input::Published)) => 4,
+        Err(End::Files) => 5,
+        Err(End::Sink) => 6,
+        Err(End::Memory) => 7,
+        Err(End::TooLong) => 8,
+    }
 }

@@ -2,10 +2,10 @@ ghost use Rattle.std.specs.Prelude.{◌≡◌, ℕ, List, Option, option_map, op
 ghost use Rattle.tt_io.specs.Causes.{AsksAll};
 ghost use Rattle.tt_io.specs.Whole.{Grows};
 ghost use Rattle.tt_top.specs.Transcript.{Bytes};
-ghost use Rattle.tt_top.specs.Run.{AsksInOrder, IsDue, IsFileRun, IsTold, IsTranscript, TellFirst};
+ghost use Rattle.tt_top.specs.Run.{IsFileRun, IsTold, TellFirst};
 ghost use Rattle.tt_top.specs.Ends.{AsksFirst, HasEndCause, Opens, Serves, front_words, status_of};
 
-use crate::end::{Done, End, Input, Loaded};
+use crate::end::{Done, End, Loaded};
 use crate::load::{load, read_file};
 use crate::serve::{serve_all, write_first};
 use std::alloc::Global;
@@ -54,66 +54,7 @@ fn serve_script<F: Files, S: Sink>(
     serve_all(alloc, session, &script, out)
 }
 
-// Answers the lines of a script, if one is named, over the files before it.
-fn perform<F: Files, S: Sink>(
-    limit: u64,
-    alloc: Global,
-    problem: &str,
-    published: Option<&str>,
-    script: Option<&str>,
-    files: &mut F,
-    out: &mut S,
-) -> Result<Done, End>
-    ensures transcript { IsTranscript (record { problem = problem.now; published = option_map (λ n. n.now) published.entry; script = option_map (λ n. n.now) script.entry }) limit
-        (record {
-          holds = F.holds files.old;
-          before = record { asked = F.asked files.old; written = S.written out.old; files = F.faults files.old; sink = S.faults out.old };
-          now = record { asked = F.asked files.new; written = S.written out.new; files = F.faults files.new; sink = S.faults out.new };
-        })
-        (status_of result) }
-    ensures due { IsDue (record { problem = problem.now; published = option_map (λ n. n.now) published.entry; script = option_map (λ n. n.now) script.entry }) limit
-        (record {
-          holds = F.holds files.old;
-          before = record { asked = F.asked files.old; written = S.written out.old; files = F.faults files.old; sink = S.faults out.old };
-          now = record { asked = F.asked files.new; written = S.written out.new; files = F.faults files.new; sink = S.faults out.new };
-        })
-        (status_of result) }
-    ensures names { AsksInOrder (record { problem = problem.now; published = option_map (λ n. n.now) published.entry; script = option_map (λ n. n.now) script.entry }) limit
-        (record {
-          holds = F.holds files.old;
-          before = record { asked = F.asked files.old; written = S.written out.old; files = F.faults files.old; sink = S.faults out.old };
-          now = record { asked = F.asked files.new; written = S.written out.new; files = F.faults files.new; sink = S.faults out.new };
-        })
-        (status_of result) }
-    ensures files { HasEndCause End.Files (F.faults files.old) (F.faults files.new) result }
-    ensures sink { HasEndCause End.Sink (S.faults out.old) (S.faults out.new) result }
-{
-    match begin(limit, alloc, problem, published, files, out)? {
-        Ok(mut session) => {
-            let refused = serve_script(limit, alloc, &mut session, script, files, out)?;
-            Ok(Done::Served { refused })
-        }
-        Err(fault) => Ok(Done::Refused(fault.input)),
-    }
-}
-
-/// The status of a run, by how it ended.
-pub fn status(ended: Result<Done, End>) -> u8
-    ensures { result ≡ status_of ended }
-{
-    match ended {
-        Ok(Done::Served { refused: false } | Done::Made) => 0,
-        Ok(Done::Served { refused: true }) => 1,
-        Ok(Done::Refused(Input::Problem)) => 3,
-        Ok(Done::Refused(Input::Published)) => 4,
-        Err(End::Files) => 5,
-        Err(End::Sink) => 6,
-        Err(End::Memory) => 7,
-        Err(End::TooLong) => 8,
-    }
-}
-
-/// A run with files.
+/// Answers the lines of a script, if one is named, over the files before it.
 pub fn run_files<F: Files, S: Sink>(
     limit: u64,
     alloc: Global,
@@ -122,14 +63,20 @@ pub fn run_files<F: Files, S: Sink>(
     script: Option<&str>,
     files: &mut F,
     out: &mut S,
-) -> u8
+) -> Result<Done, End>
     ensures { IsFileRun (record { problem = problem.now; published = option_map (λ n. n.now) published.entry; script = option_map (λ n. n.now) script.entry }) limit
         (record {
           holds = F.holds files.old;
           before = record { asked = F.asked files.old; written = S.written out.old; files = F.faults files.old; sink = S.faults out.old };
           now = record { asked = F.asked files.new; written = S.written out.new; files = F.faults files.new; sink = S.faults out.new };
         })
-        result }
+        (status_of result) }
 {
-    status(perform(limit, alloc, problem, published, script, files, out))
+    match begin(limit, alloc, problem, published, files, out)? {
+        Ok(mut session) => {
+            let refused = serve_script(limit, alloc, &mut session, script, files, out)?;
+            Ok(Done::Served { refused })
+        }
+        Err(fault) => Ok(Done::Faulty(fault.input)),
+    }
 }

@@ -9,11 +9,11 @@ ghost use Rattle.tt_top.specs.Ends.{AsksFirst, Begins, HasEndCause, front_words,
 use crate::end::{End, Input, InputFault, Loaded};
 use std::alloc::Global;
 use tt_desk::Session;
-use tt_fields::ProblemFault;
+use tt_fields::FileFault;
 use tt_io::{Files, ReadEnd, read_whole};
 use tt_problem::Problem;
 use tt_read::read;
-use tt_solution::{Published, SolutionFault, read_published};
+use tt_solution::{Published, read_published};
 
 /// A file within the limit.
 pub fn read_file<F: Files>(
@@ -45,12 +45,12 @@ pub fn problem_in(alloc: Global, bytes: &[u8]) -> Result<Loaded<Problem>, End>
 {
     match read(alloc, bytes) {
         Ok(problem) => Ok(Ok(problem)),
-        Err(ProblemFault::Fault { number, path }) => Ok(Err(InputFault {
+        Err(FileFault::Fault { number, path }) => Ok(Err(InputFault {
             input: Input::Problem,
             number,
             path,
         })),
-        Err(ProblemFault::Memory) => Err(End::Memory),
+        Err(FileFault::Memory) => Err(End::Memory),
     }
 }
 
@@ -67,12 +67,12 @@ fn timetable_in(
 {
     match read_published(alloc, problem, bytes) {
         Ok(timetable) => Ok(Ok(Some(timetable))),
-        Err(SolutionFault::Fault { number, path }) => Ok(Err(InputFault {
+        Err(FileFault::Fault { number, path }) => Ok(Err(InputFault {
             input: Input::Published,
             number,
             path,
         })),
-        Err(SolutionFault::Memory) => Err(End::Memory),
+        Err(FileFault::Memory) => Err(End::Memory),
     }
 }
 

@@ -5,8 +5,7 @@ ghost use Rattle.tt_top.specs.Transcript.{demo_script, demo_transcript, make_tra
 ghost use Rattle.tt_top.specs.Ends.{EndsPlain, HasEndCause, OpensMade, ServesLines, WritesPlain, seen, status_of};
 ghost use Rattle.tt_top.specs.Asked.{IsClassCount};
 
-use crate::end::{Done, End, Loaded};
-use crate::file_run::status;
+use crate::end::{Done, End, Loaded, status};
 use crate::load::problem_in;
 use crate::serve::{hand_on, serve_all, write_first};
 use std::alloc::{AllocError, Global};
@@ -98,7 +97,7 @@ fn demo<S: Sink>(
             let refused = serve_demo(alloc, &mut session, seed, turns, out)?;
             Ok(Done::Served { refused })
         }
-        Err(fault) => Ok(Done::Refused(fault.input)),
+        Err(fault) => Ok(Done::Faulty(fault.input)),
     }
 }
 

@@ -3,6 +3,7 @@ ghost use Rattle.tt_top.specs.Words.{form_of, usage_line};
 ghost use Rattle.tt_top.specs.Run.{IsRun, file_limit};
 ghost use Rattle.tt_top.specs.Ends.{EndsPlain};
 
+use crate::end::status;
 use crate::file_run::run_files;
 use crate::form::{Form, read_form};
 use crate::plain_run::{run_demo, run_make};
@@ -50,7 +51,7 @@ pub fn run_within<F: Files, S: Sink>(
                 published,
                 script,
             },
-        ) => run_files(limit, alloc, problem, published, script, files, out),
+        ) => status(run_files(limit, alloc, problem, published, script, files, out)),
         Some(
             Form::Demo {
                 seed,

@@ -12,8 +12,8 @@ use Rattle.tt_problem.specs.declared.parts.ClassPart.{ClassPart}
 use Rattle.tt_problem.specs.declared.parts.CoursePart.{CoursePart}
 use Rattle.tt_problem.specs.Spans.{CoversFrom, Covers}
 use Rattle.tt_problem.specs.Valid.{IsValidRoom}
-use Rattle.tt_fields.specs.declared.answer.ProblemFault.{ProblemFault}
-use Rattle.tt_fields.specs.declared.answer.ProblemFault.TheVariants as faults
+use Rattle.tt_fields.specs.declared.answer.FileFault.{FileFault}
+use Rattle.tt_fields.specs.declared.answer.FileFault.TheVariants as faults
 use Rattle.tt_fields.specs.Answer.{Part, Fault, ◌>>=◌, Fails}
 use Rattle.tt_fields.specs.Kinds.{a_number, an_object, a_list, required, or_else, new_id, each, list_of}
 use Rattle.tt_tree.specs.declared.context as context
@@ -24,7 +24,7 @@ use Rattle.tt_tree.specs.Read.{IsTravelAmong, IsRooms, IsClassAmong, AreClasses,
 use Rattle.tt_tree.specs.Tables.{travel_of, closed_of, Rooms, room_of, room_ids, class_ids, course_ids}
 
 -- a fault of what is read first is the fault of both
-pub fails_on : {A B : Type 0} (e : ProblemFault) (read : Result A Fault) (f : A → Result B Fault) → Fails e read → Fails e (read >>= f)
+pub fails_on : {A B : Type 0} (e : FileFault) (read : Result A Fault) (f : A → Result B Fault) → Fails e read → Fails e (read >>= f)
 fails_on faults.Memory read f h = tt
 fails_on (faults.Fault n path) read f h = ap (λ (r : Result _ Fault). r >>= f) h
 

@@ -14,7 +14,7 @@ use indexmap::IndexSet;
 use std::alloc::{AllocError, Global};
 use tt_base::Row;
 use tt_fields::{
-    Fault, ItemTable, Items, NextTable, Part, ProblemFault, add_id, as_object, known_id, list,
+    Fault, FileFault, ItemTable, Items, NextTable, Part, add_id, as_object, known_id, list,
     list_or_none, number, optional_number, optional_reference, read_each, read_onto, truth_or,
 };
 use tt_problem::{ClassPart, CoursePart, RoomChoice, Span};
@@ -69,7 +69,7 @@ impl ItemTable<RoomChoice> for Context<'_> {
 
     ghost ready = { λ c. IsContext c };
 
-    fn read_item(&self, _alloc: Global, item: &Part<'_>) -> Result<RoomChoice, ProblemFault> {
+    fn read_item(&self, _alloc: Global, item: &Part<'_>) -> Result<RoomChoice, FileFault> {
         Ok(read_room_choice(self, &*item)?)
     }
 }
@@ -80,7 +80,7 @@ fn rooms_if(
     room: bool,
     context: &Context<'_>,
     object: &Part<'_>,
-) -> Result<Row<RoomChoice>, ProblemFault>
+) -> Result<Row<RoomChoice>, FileFault>
     requires { IsContext context.now }
     ensures reads { Gives (λ rooms. rooms) result
         (rooms_where room (context_of context.now) (part_of object.now)) }
@@ -101,7 +101,7 @@ fn read_class_rooms(
     alloc: Global,
     context: &Context<'_>,
     object: &Part<'_>,
-) -> Result<Row<RoomChoice>, ProblemFault>
+) -> Result<Row<RoomChoice>, FileFault>
     requires { IsContext context.now }
     ensures reads { Gives (λ rooms. rooms) result
         (rooms_of (context_of context.now) (part_of object.now)) }
@@ -130,7 +130,7 @@ impl NextTable<Classes> for Context<'_> {
         _place: usize,
         item: &Part<'_>,
         before: &mut Classes,
-    ) -> Result<(), ProblemFault> {
+    ) -> Result<(), FileFault> {
         as_object(item)?;
         let id = number(&*item, "id", 0, u32::MAX)?;
         add_id(item, id, &mut before.ids)?;
@@ -185,7 +185,7 @@ impl NextTable<Subparts> for Context<'_> {
         _place: usize,
         item: &Part<'_>,
         before: &mut Subparts,
-    ) -> Result<(), ProblemFault> {
+    ) -> Result<(), FileFault> {
         as_object(item)?;
         let first = before.classes.classes.len();
         let items = list(&*item, "classes", 1, 20_000 - first)?;
@@ -213,7 +213,7 @@ impl NextTable<Configs> for Context<'_> {
         _place: usize,
         item: &Part<'_>,
         before: &mut Configs,
-    ) -> Result<(), ProblemFault> {
+    ) -> Result<(), FileFault> {
         as_object(item)?;
         let first = before.subparts.spans.len();
         let items = list(&*item, "subparts", 1, usize::MAX)?;
@@ -241,7 +241,7 @@ impl NextTable<Tree> for Context<'_> {
         _place: usize,
         item: &Part<'_>,
         before: &mut Tree,
-    ) -> Result<(), ProblemFault> {
+    ) -> Result<(), FileFault> {
         as_object(item)?;
         let id = number(&*item, "id", 0, u32::MAX)?;
         add_id(item, id, &mut before.ids)?;
@@ -266,7 +266,7 @@ pub fn read_courses(
     alloc: Global,
     context: &Context<'_>,
     items: &Items<'_>,
-) -> Result<Tree, ProblemFault>
+) -> Result<Tree, FileFault>
     requires { IsContext context.now }
     ensures reads { Gives tree_read result (courses_in (context_of context.now) (items_of items.now)) }
     ensures tree { IfOk result (λ tree. IsTree context.now tree) }

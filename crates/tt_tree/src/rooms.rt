@@ -13,8 +13,8 @@ use indexmap::IndexSet;
 use std::alloc::Global;
 use tt_base::Row;
 use tt_fields::{
-    Fault, Items, NextTable, Part, ProblemFault, add_id, as_object, list_or_none, number,
-    read_each, read_onto, reference,
+    Fault, FileFault, Items, NextTable, Part, add_id, as_object, list_or_none, number, read_each,
+    read_onto, reference,
 };
 use tt_problem::RoomPart;
 use tt_travel::Travel;
@@ -74,7 +74,7 @@ impl NextTable<Travel> for EntryTable<'_> {
         _place: usize,
         item: &Part<'_>,
         before: &mut Travel,
-    ) -> Result<(), ProblemFault> {
+    ) -> Result<(), FileFault> {
         Ok(enter_travel(self, &*item, before)?)
     }
 }
@@ -104,7 +104,7 @@ impl NextTable<Rooms> for RoomTable<'_> {
         place: usize,
         item: &Part<'_>,
         before: &mut Rooms,
-    ) -> Result<(), ProblemFault> {
+    ) -> Result<(), FileFault> {
         let entries = EntryTable {
             context: self.context,
             count: self.count,
@@ -131,7 +131,7 @@ pub fn read_rooms(
     alloc: Global,
     context: &Context<'_>,
     items: &Items<'_>,
-) -> Result<Rooms, ProblemFault>
+) -> Result<Rooms, FileFault>
     requires context { IsContext context.now }
     requires few { length items.now.values.now ≤ most_rooms }
     requires known { HasIds context.now.rooms (length items.now.values.now) }

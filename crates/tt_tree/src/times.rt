@@ -7,7 +7,7 @@ ghost use Rattle.tt_tree.specs.Tables.{length_after, time_in, choice_of, closed_
 use crate::context::Context;
 use std::alloc::Global;
 use tt_bits::Time;
-use tt_fields::{Fault, ItemTable, Part, ProblemFault, as_object, fault, fault_at, number};
+use tt_fields::{Fault, FileFault, ItemTable, Part, as_object, fault, fault_at, number};
 use tt_problem::TimeChoice;
 
 /// The length of a time that begins at `start`. Faults: 31, 32, and 36 where there is no such time.
@@ -61,7 +61,7 @@ impl ItemTable<TimeChoice> for Context<'_> {
 
     ghost ready = { λ c. IsContext c };
 
-    fn read_item(&self, _alloc: Global, item: &Part<'_>) -> Result<TimeChoice, ProblemFault> {
+    fn read_item(&self, _alloc: Global, item: &Part<'_>) -> Result<TimeChoice, FileFault> {
         Ok(read_time_choice(self, &*item)?)
     }
 }
@@ -85,7 +85,7 @@ impl ItemTable<Time> for Context<'_> {
 
     ghost ready = { λ c. IsContext c };
 
-    fn read_item(&self, _alloc: Global, item: &Part<'_>) -> Result<Time, ProblemFault> {
+    fn read_item(&self, _alloc: Global, item: &Part<'_>) -> Result<Time, FileFault> {
         Ok(read_closed(self, &*item)?)
     }
 }

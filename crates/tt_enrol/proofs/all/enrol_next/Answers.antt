@@ -13,7 +13,7 @@ overflow_add-result c =
     let few : length c.args.state.now.problem.students ≤ 100000 = omega (arith, c.validity.ensures.few_students, ap (λ (q : Parts). length q.students) c.problem.ensures) in
     omega (arith, c.requires.few, c.requires.student)
 
-pub overflow_add-result-in-Ok-false : goal.overflow_add-result-in-Ok-false
-overflow_add-result-in-Ok-false c =
+pub overflow_add-result-else-branch : goal.overflow_add-result-else-branch
+overflow_add-result-else-branch c =
     let few : length c.args.state.now.problem.students ≤ 100000 = omega (arith, c.validity.ensures.few_students, ap (λ (q : Parts). length q.students) c.problem.ensures) in
     omega (arith, c.requires.few, c.requires.student)

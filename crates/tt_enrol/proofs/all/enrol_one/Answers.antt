@@ -21,17 +21,17 @@ returns-in-None-clause-now c =
     enrolled_none h.problem h.present c.args.student
     (sym (found_now h.problem c.problem-2.result.now h.present c.args.student c.args.known.now c.problem-2.ensures c.requires.free c.requires.known) ∙ sym c.in-None.ensures.found)
 
-pub returns-in-Ok-clause-now : goal.returns-in-Ok-clause-now
-returns-in-Ok-clause-now c =
+pub returns-in_ok-seat_and_count-in-Some-clause-now : goal.returns-in_ok-seat_and_count-in-Some-clause-now
+returns-in_ok-seat_and_count-in-Some-clause-now c =
     let h = c.args.state.now in
     let count = c.in-Some.count in
     enrolled_some h.problem h.present c.args.student (take count c.as_slice.result.now)
     (sym (found_now h.problem c.problem-2.result.now h.present c.args.student c.args.known.now c.problem-2.ensures c.requires.free c.requires.known)
     ∙ sym c.in-Some.ensures.found ∙ ap (λ (list : List ℕ). Some (take count list)) (sym c.as_slice.ensures.value))
-    ∙ ap Some (sym c.in-Ok.ensures.now)
+    ∙ ap Some (sym c.in_ok-seat_and_count-in-Some.ensures.now)
 
-pub returns-in-Err-clause-memory : goal.returns-in-Err-clause-memory
-returns-in-Err-clause-memory c =
+pub returns-in_err-seat_and_count-in-Some-clause-memory : goal.returns-in_err-seat_and_count-in-Some-clause-memory
+returns-in_err-seat_and_count-in-Some-clause-memory c =
     let h = c.args.state.now in
     let count = c.in-Some.count in
     let is = enrolled_some h.problem h.present c.args.student (take count c.as_slice.result.now)

@@ -11,17 +11,17 @@ returns-in-Err-clause-bad_section c = λ refused.
     let same : c.in-Err.refusal ≡ BadSection = cc refused in
     enrolled_none h.problem h.present c.args.student (c.in-Err.ensures.none (ap Err same))
 
-pub returns-in-Ok-clause-enrolled : goal.returns-in-Ok-clause-enrolled
-returns-in-Ok-clause-enrolled c =
+pub returns-clause-enrolled : goal.returns-clause-enrolled
+returns-clause-enrolled c =
     let h = c.args.state.now in
     on_ok c.section.result (λ desk.
-    enrolled_some h.problem h.present c.args.student c.in-Ok.classes.items c.in-Ok.ensures.found
+    enrolled_some h.problem h.present c.args.student c.in_ok-classes.classes.items c.in_ok-classes.ensures.found
     ∙ ap (λ list. Some (with_list h.present c.args.student (in_order list))) (sym c.as_slice.ensures.value)
     ∙ ap (λ (d : Desk). Some d.present) (sym desk))
     c.section.ensures.desk
 
-pub returns-in-Ok-clause-only : goal.returns-in-Ok-clause-only
-returns-in-Ok-clause-only c =
+pub returns-clause-only : goal.returns-clause-only
+returns-clause-only c =
     let h = c.args.state.now in
     only_enrol c.section.result c.section.ensures.only (λ class refused.
-    no_seat_wanted h.problem h.present.lists c.args.student c.in-Ok.classes.items c.as_slice.result.now class c.in-Ok.ensures.valid c.as_slice.ensures.value ((c.section.ensures.no_seat class).0 refused).1)
+    no_seat_wanted h.problem h.present.lists c.args.student c.in_ok-classes.classes.items c.as_slice.result.now class c.in_ok-classes.ensures.valid c.as_slice.ensures.value ((c.section.ensures.no_seat class).0 refused).1)
