@@ -1,10 +1,10 @@
 -- Where there is a step, and what stays below the last one.
-use Rattle.std.proofs.Common.{◌≡◌, ◌∙◌, ℕ, ◌<◌, List, [], ◌∷◌, length, refl, arith}
+use Rattle.std.proofs.Common.{◌≡◌, ◌∙◌, ap, ℕ, ◌<◌, List, [], ◌∷◌, length, refl, arith}
 use Rattle.tt_problem.specs.declared.parts.Parts.{Parts}
 use Rattle.tt_journal.specs.declared.Entry.{Entry}
 use Rattle.tt_journal.specs.declared.Entry.TheVariants.{Mark, Point, Left, Seated}
 use Rattle.tt_state.specs.Snapshots.{Snapshot}
-use Rattle.tt_state.specs.History.{Held, HasStep, IsWithinStep, undone, earlier, earlier_by, before_step, left_by, seated_by}
+use Rattle.tt_state.specs.History.{Desk, Held, HasStep, IsWithinStep, desk_of, moved_to, undone, earlier, earlier_by, before_step, left_by, seated_by}
 use Rattle.tt_state.specs.Kept.{LeadBack}
 
 -- where there is an entry, there is a step
@@ -41,6 +41,14 @@ within_next a b c first next = record {
 
 pub within_still : (a b : Held) → b.problem ≡ a.problem → b.present ≡ a.present → b.entries ≡ a.entries → IsWithinStep a b
 within_still a b problem present entries = record { problem = problem; earlier = rw (present, entries) refl; below = rw entries refl }
+
+-- a state that was moved to another snapshot in its last step
+pub within_moved : (a b : Held) (s : Snapshot) → desk_of b ≡ moved_to (desk_of a) s → before_step b.entries ≡ before_step a.entries → IsWithinStep a b
+within_moved a b s moved below = record {
+  problem = ap (λ (d : Desk). d.problem) moved;
+  earlier = ap (λ (d : Desk). d.earlier) moved;
+  below = below;
+}
 
 -- the entries of a list that a student gets are those of the last step
 pub before_left : (student : ℕ) (list : List ℕ) (es : List Entry) → before_step (left_by student list es) ≡ before_step es

@@ -1,9 +1,9 @@
 use Rattle.std.proofs.Common.{◌≡◌, ap, sym, ◌∙◌, true, false, Err}
 use Rattle.std.proofs.lemmas.Option.{none-some}
 use Rattle.tt_state.specs.Snapshots.{in_order, list_in}
-use Rattle.tt_state.specs.History.{Desk, before_step}
+use Rattle.tt_state.specs.History.{before_step}
 use Rattle.tt_state.proofs.FaultLemmas.{section_memory}
-use Rattle.tt_state.proofs.StepLemmas.{before_section}
+use Rattle.tt_state.proofs.StepLemmas.{before_section, within_moved}
 use Rattle.tt_enrol.proofs.AllLemmas.{may_have_it}
 use Rattle.tt_enrol.proofs.all.seat.Goals as goal
 
@@ -19,8 +19,5 @@ unreachable-requires c =
 pub returns-in-Ok-clause-step : goal.returns-in-Ok-clause-step
 returns-in-Ok-clause-step c =
     let h = c.args.state.now in
-    record {
-      problem = ap (λ (d : Desk). d.problem) c.in-Ok.ensures.desk;
-      earlier = ap (λ (d : Desk). d.earlier) c.in-Ok.ensures.desk;
-      below = ap before_step c.in-Ok.ensures.entries ∙ before_section c.args.student (in_order c.args.classes.now) (list_in h.present c.args.student) h.entries;
-    }
+    within_moved h _ _ c.in-Ok.ensures.desk
+    (ap before_step c.in-Ok.ensures.entries ∙ before_section c.args.student (in_order c.args.classes.now) (list_in h.present c.args.student) h.entries)

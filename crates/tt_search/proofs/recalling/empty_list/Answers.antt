@@ -1,8 +1,8 @@
 use Rattle.std.proofs.Common.{◌≡◌, Err, [], true, false, ap, ◌∙◌}
 use Rattle.std.proofs.lemmas.Option.{none-some}
-use Rattle.tt_state.specs.History.{Desk, before_step}
+use Rattle.tt_state.specs.History.{before_step}
 use Rattle.tt_state.specs.Snapshots.{list_in}
-use Rattle.tt_state.proofs.StepLemmas.{before_section}
+use Rattle.tt_state.proofs.StepLemmas.{before_section, within_moved}
 use Rattle.tt_state.proofs.FaultLemmas.{section_memory}
 use Rattle.tt_search.proofs.recalling.empty_list.Goals as goal
 
@@ -15,8 +15,5 @@ want_of_memory-requires c =
 pub returns-in-Ok-clause-step : goal.returns-in-Ok-clause-step
 returns-in-Ok-clause-step c =
     let start = c.args.state.now in
-    record {
-      problem = ap (λ (d : Desk). d.problem) c.in-Ok.ensures.desk;
-      earlier = ap (λ (d : Desk). d.earlier) c.in-Ok.ensures.desk;
-      below = ap before_step c.in-Ok.ensures.entries ∙ before_section c.args.student [] (list_in start.present c.args.student) start.entries;
-    }
+    within_moved start _ _ c.in-Ok.ensures.desk
+    (ap before_step c.in-Ok.ensures.entries ∙ before_section c.args.student [] (list_in start.present c.args.student) start.entries)

@@ -10,7 +10,7 @@ use Rattle.tt_search.specs.Changed.{with_lists}
 use Rattle.tt_search.specs.Recalled.{with_return}
 use Rattle.tt_search.proofs.ListLemmas.{below_end, in_order_same}
 use Rattle.tt_search.proofs.ReturnLemmas.{returned, not_seated, may_by, valid_by, free_by, some_class}
-use Rattle.tt_state.proofs.StepLemmas.{before_section}
+use Rattle.tt_state.proofs.StepLemmas.{before_section, within_moved}
 use Rattle.tt_search.proofs.recalling.seat.Goals as goal
 
 pub section_step-requires-clause-classes : goal.section_step-requires-clause-classes
@@ -24,11 +24,8 @@ section_step-requires-clause-classes c =
 pub returns-in-Ok-clause-step : goal.returns-in-Ok-clause-step
 returns-in-Ok-clause-step c =
     let start = c.args.state.now in
-    record {
-      problem = ap (λ (d : Desk). d.problem) c.in-Ok.ensures.desk;
-      earlier = ap (λ (d : Desk). d.earlier) c.in-Ok.ensures.desk;
-      below = ap before_step c.in-Ok.ensures.entries ∙ before_section c.args.student (in_order c.classes_of-classes.result.now) (list_in start.present c.args.student) start.entries;
-    }
+    within_moved start _ _ c.in-Ok.ensures.desk
+    (ap before_step c.in-Ok.ensures.entries ∙ before_section c.args.student (in_order c.classes_of-classes.result.now) (list_in start.present c.args.student) start.entries)
 
 pub returns-in-Ok-clause-present : goal.returns-in-Ok-clause-present
 returns-in-Ok-clause-present c =
