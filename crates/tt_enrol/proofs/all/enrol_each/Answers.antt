@@ -12,16 +12,16 @@ pub loop-student-preserved : goal.loop-student-preserved
 loop-student-preserved c =
     let h = c.args.state.now in
     let before = c.loop-student.invariant in
-    let step = c.in_ok-enrol_next.ensures.step in
+    let step = c.in_ok-so_far.ensures.step in
     let k = c.loop-student.student in
     record {
-      all = c.in_ok-enrol_next.ensures.next
+      all = c.in_ok-so_far.ensures.next
           ∙ ap (λ (q : Parts). with_student q (with_counts c.loop-student.state.present c.loop-student.so_far.enrolled c.loop-student.so_far.left) k) before.step.problem
           ∙ ap (λ (a : AllEnrolled). with_student h.problem a k) before.all
           ∙ sym (below_more h.problem h.present k);
-      few = omega (arith, c.in_ok-enrol_next.ensures.few);
-      known = c.in_ok-enrol_next.ensures.known;
-      room = subst (λ (q : Parts). HasRoom q c.enrol_next.new.buffers) (sym step.problem) c.in_ok-enrol_next.ensures.room;
+      few = omega (arith, c.in_ok-so_far.ensures.few);
+      known = c.in_ok-so_far.ensures.known;
+      room = subst (λ (q : Parts). HasRoom q c.enrol_next.new.buffers) (sym step.problem) c.in_ok-so_far.ensures.room;
       step = within_next h c.loop-student.state c.enrol_next.new.state before.step step;
       some = subst (λ (l : List Snapshot). 0 < length l) (sym step.earlier) before.some;
     }

@@ -1,7 +1,7 @@
 use Rattle.std.proofs.Common.{◌≡◌, ℕ, List, Some, take, refl, ap, sym, ◌∙◌, subst}
 use Rattle.tt_problem.specs.Valid.{IsValid}
 use Rattle.tt_enrol.specs.Students.{classes_found}
-use Rattle.tt_enrol.proofs.EnrolLemmas.{found_fits, enrolled_none, enrolled_some}
+use Rattle.tt_enrol.proofs.EnrolLemmas.{found_fits, on_err, enrolled_none, enrolled_some}
 use Rattle.tt_enrol.proofs.AllLemmas.{found_now}
 use Rattle.tt_enrol.proofs.all.enrol_one.Goals as goal
 
@@ -37,4 +37,4 @@ returns-in_err-seat_and_count-in-Some-clause-memory c =
     let is = enrolled_some h.problem h.present c.args.student (take count c.as_slice.result.now)
     (sym (found_now h.problem c.problem-2.result.now h.present c.args.student c.args.known.now c.problem-2.ensures c.requires.free c.requires.known)
     ∙ sym c.in-Some.ensures.found ∙ ap (λ (list : List ℕ). Some (take count list)) (sym c.as_slice.ensures.value)) in
-    rw is refl
+    on_err c.from_residual.result (rw is refl)

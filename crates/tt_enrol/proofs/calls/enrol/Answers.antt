@@ -2,14 +2,14 @@ use Rattle.std.proofs.Common.{◌≡◌, ap, sym, ◌∙◌, Some, Err}
 use Rattle.tt_state.specs.declared.state.Refusal.TheVariants.{BadSection}
 use Rattle.tt_state.specs.History.{Desk}
 use Rattle.tt_state.specs.Snapshots.{in_order, with_list}
-use Rattle.tt_enrol.proofs.EnrolLemmas.{enrolled_none, enrolled_some, on_ok, only_enrol, no_seat_wanted}
+use Rattle.tt_enrol.proofs.EnrolLemmas.{enrolled_none, handed_on, enrolled_some, on_ok, only_enrol, no_seat_wanted}
 use Rattle.tt_enrol.proofs.calls.enrol.Goals as goal
 
-pub returns-in-Err-clause-bad_section : goal.returns-in-Err-clause-bad_section
-returns-in-Err-clause-bad_section c = λ refused.
+pub returns-in_err-classes-clause-bad_section : goal.returns-in_err-classes-clause-bad_section
+returns-in_err-classes-clause-bad_section c = λ refused.
     let h = c.args.state.now in
-    let same : c.in-Err.refusal ≡ BadSection = cc refused in
-    enrolled_none h.problem h.present c.args.student (c.in-Err.ensures.none (ap Err same))
+    let same = handed_on _ c.in_err-classes.field-0.0 BadSection c.from_residual.ensures.1 refused in
+    enrolled_none h.problem h.present c.args.student (c.in_err-classes.ensures.none (ap Err same))
 
 pub returns-clause-enrolled : goal.returns-clause-enrolled
 returns-clause-enrolled c =
