@@ -1,5 +1,4 @@
-use Rattle.std.proofs.Common.{Ok, Err, ℕ, List, option_map, Bor, Result, Bool}
-use Rattle.tt_top.specs.declared.end.End.{End}
+use Rattle.std.proofs.Common.{Ok, Err, ℕ, List, option_map, Bor}
 use Rattle.tt_top.proofs.LoadLemmas.{handed_end, same_told}
 use Rattle.tt_top.proofs.FileRunLemmas.{early_run, faulty_run, served_run}
 use Rattle.tt_top.proofs.file_run.run_files.Goals as goal
