@@ -140,6 +140,21 @@ fn files_have_a_limit(rt: HostRuntime) -> Result<(), Fail> {
     Ok(())
 }
 
+// Of a file that is too long no more is read than shows that it is.
+#[test]
+fn a_long_file_is_not_read_whole(rt: HostRuntime) -> Result<(), Fail> {
+    let alloc = rt.alloc();
+    let words = words(alloc, &["check", "problem"])?;
+    let mut files = MemFiles::new(alloc);
+    let mut out = MemSink::new(alloc);
+    files.add("problem", ONE_CLASS.as_bytes())?;
+    files.limit_reads(1);
+    files.fail_at(6)?;
+    assert_eq!(rt; run_within(3, alloc, &words, &mut files, &mut out), 8);
+    assert_eq!(rt; out.bytes(), Some(b"".as_slice()));
+    Ok(())
+}
+
 // What a run writes in which a file has a fault.
 #[derive(Clone, Copy)]
 struct Faulty {

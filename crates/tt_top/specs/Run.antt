@@ -1,5 +1,5 @@
 -- The clauses of the top call.
-use Rattle.std.specs.Prelude.{◌≡◌, ◌≢◌, ◌≤◌, ◌<◌, ◌&&◌, ℕ, Bool, false, List, [], ◌∷◌, ◌++◌, ◌⊎◌, ⊤, IsTrue, IsSome, take, length, nat_lt, is_ok, if◌then◌else◌, None, Some, Option, not}
+use Rattle.std.specs.Prelude.{◌≡◌, ◌≢◌, ◌≤◌, ◌<◌, ◌&&◌, ℕ, Bool, false, List, [], ◌∷◌, ◌⊎◌, ⊤, IsTrue, IsSome, take, length, nat_lt, is_ok, if◌then◌else◌, None, Some, Option, not}
 use Rattle.std.specs.List.{concat}
 use Rattle.tt_io.specs.Causes.{Writes, one_more, AsksAll}
 use Rattle.tt_io.specs.Whole.{WritesFront, WritesPast}

@@ -1,5 +1,6 @@
-ghost use Rattle.std.specs.Prelude.{◌≡◌, ◌≢◌, ◌≤◌, ◌<◌, ℕ, false, true, List, Some, None, Option, IfOk, IfErr, IfSome, IsSome, length, option_map, option_to_list};
+ghost use Rattle.std.specs.Prelude.{◌≡◌, ◌≢◌, ◌≤◌, ◌<◌, ◌+◌, ℕ, false, true, List, Some, None, Option, IfOk, IfErr, IfSome, IsSome, length, option_map, option_to_list};
 ghost use Rattle.tt_io.specs.Causes.{Asks, AsksAll};
+ghost use Rattle.tt_io.specs.Whole.{TakesAtMost};
 ghost use Rattle.tt_read.specs.Tables.{problem_of};
 ghost use Rattle.tt_solution.specs.Timetable.{IsTimetableOf};
 ghost use Rattle.tt_top.specs.Transcript.{Bytes, problem_read, published_in};
@@ -15,7 +16,7 @@ use tt_problem::Problem;
 use tt_read::read;
 use tt_solution::{Published, read_published};
 
-/// A file within the limit.
+/// A file within the limit. Of a longer one at most 65,536 bytes beyond the limit are taken.
 pub fn read_file<F: Files>(
     limit: u64,
     alloc: Global,
@@ -24,6 +25,7 @@ pub fn read_file<F: Files>(
 ) -> Result<Vec<u8>, End>
     ensures bytes { IfOk result (λ v. (all : List ℕ) → F.holds files.old name.now ≡ Some all → (v.items ≡ all) × (length all ≤ limit)) }
     ensures long { result ≡ Err End.TooLong → (all : List ℕ) → F.holds files.old name.now ≡ Some all → limit < length all }
+    ensures taken { result ≢ Err End.Files → (all : List ℕ) → F.holds files.old name.now ≡ Some all → TakesAtMost (limit + 65536) all (F.left files.new) }
     ensures no_sink { result ≢ Err End.Sink }
     ensures asks { Asks (F.asked files.old) (F.asked files.new) name.now }
     ensures same { (n : List ℕ) → F.holds files.new n ≡ F.holds files.old n }
