@@ -1,5 +1,5 @@
 use sample_problem::problem;
-use std::alloc::{AllocError, Global};
+use std::alloc::Global;
 use std::test::Fail;
 use tt_plan::find;
 use tt_problem::Problem;
@@ -46,20 +46,14 @@ fn moves(alloc: Global, state: &State) -> Option<[u32; 2]> {
 }
 
 // Whether the state publishes the line.
-fn writes(alloc: Global, state: &State) -> Result<bool, AllocError> {
+fn writes(alloc: Global, state: &State) -> bool {
     if state.totals().unplaced != 0 {
-        return Ok(false);
+        return false;
     }
     let mut out = Reply::new(alloc);
-    let score = state.score();
-    write_published(
-        alloc,
-        state.problem(),
-        score.plan(),
-        score.roster(),
-        &mut out,
-    )?;
-    Ok(out.bytes() == LINE.as_bytes())
+    let (problem, score) = (state.problem(), state.score());
+    write_published(alloc, problem, score.plan(), score.roster(), &mut out).is_ok()
+        && out.bytes() == LINE.as_bytes()
 }
 
 // Whether the file with two classes is read: the first class meets at its second time but has no
@@ -97,7 +91,7 @@ fn the_line_is_published(rt: HostRuntime) -> Result<(), Fail> {
     let problem = read(rt.alloc(), ONE.as_bytes())?;
     let mut state = State::start(rt.alloc(), problem).expect(&rt, "memory");
     let assigned = assigns(&mut state);
-    assert!(rt; assigned && writes(rt.alloc(), &state)?);
+    assert!(rt; assigned && writes(rt.alloc(), &state));
     drop(state);
     Ok(())
 }

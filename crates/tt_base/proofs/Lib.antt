@@ -1,3 +1,4 @@
+pub mod AmongLemmas
 pub mod FactLemmas
 pub mod Ranges
 pub mod ReadLemmas

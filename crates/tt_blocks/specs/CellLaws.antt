@@ -1,4 +1,4 @@
--- The laws of the amounts of rules on blocks.
+-- The laws of the amounts of rules on blocks. Proofs alone need them.
 use Rattle.std.proofs.Common.{◌≡◌, ℕ, ◌+◌, ◌*◌, ◌<◌, ◌≤◌, ◌^◌, Bool, List, [], ◌∷◌, Option, Some, None, length, pos, refl, arith, inl, inr}
 use Rattle.std.specs.Prelude.{◌+ℤ◌, slice_set, replicate, nat_le, filter}
 use Rattle.std.proofs.lemmas.Bool.{cases_Bool}

@@ -1,10 +1,11 @@
 -- The amounts of the group types where one member alone is placed.
-use Rattle.std.proofs.Common.{◌≡◌, ℕ, ◌+◌, ◌-◌, ◌<◌, ◌≤◌, ◌^◌, zero, suc, Bool, true, false, cond, ◌||◌, List, [], ◌∷◌, ◌++◌, Option, length, get_or, sum_by, count_by, nat_eq, refl, ap, sym, ◌∙◌, arith, inl, inr, zero-add}
+use Rattle.std.proofs.Common.{◌≡◌, ℕ, ◌+◌, ◌-◌, ◌<◌, ◌≤◌, ◌^◌, zero, suc, Bool, true, false, cond, List, [], ◌∷◌, ◌++◌, Option, length, get_or, sum_by, count_by, nat_eq, refl, ap, sym, ◌∙◌, arith, inl, inr, zero-add}
 use Rattle.std.specs.Prelude.{nat_lt}
 use Rattle.std.specs.List.{IsDistinct, AllByRecursion, range_with_len, position_or_len}
 use Rattle.std.proofs.lemmas.List.Elements.{All-from_recursion}
 use Rattle.std.proofs.lemmas.List.FromFn.{length-range_with_len, get_or-range_with_len}
 use Rattle.std.proofs.lemmas.List.Sums.{sum_by-cons, sum_by-append, get_or-le-sum_by, passes_at_first}
+use Rattle.std.proofs.Math.Bool.{or-false}
 use Rattle.std.proofs.lemmas.Bool.{cases_Bool, cases_lt, eq-eqb, lt-ltb, le-ltb}
 use Rattle.std.proofs.lemmas.Bool.Decides.{nat_tests}
 use Rattle.tt_base.specs.Sets.{has, count, first, places}
@@ -17,13 +18,11 @@ use Rattle.tt_measure.specs.Cells.{seven_days, stands_in, cell_of, over_cells, d
 use Rattle.tt_measure.specs.Blocks.{blocks_of, is_too_long, breaks_over, long_blocks}
 use Rattle.tt_clash.specs.Rules.{alone}
 use Rattle.tt_clash.specs.Blocked.{blocks_alone}
+use Rattle.tt_clash.proofs.MixedLemmas.{turned}
 use Rattle.tt_bits.specs.declared.pairs.PairKind.{PairKind}
 use Rattle.tt_problem.specs.declared.parts.DistKind.TheVariants.{Pair, MaxDays, MaxDayLoad, MaxBreaks, MaxBlock}
 use Rattle.tt_problem.specs.declared.parts.Rule.{Rule}
 use Rattle.tt_problem.specs.declared.parts.Parts.{Parts}
-
-turned : (a b : ℕ) → nat_eq a b ≡ false → nat_eq b a ≡ false
-turned a b h = grind (arith, nat_tests)
 
 none_placed : (c : ℕ) (x : Spot) (members : List ℕ) → AllByRecursion (λ e. nat_eq c e ≡ false) members → placed (alone c x members) ≡ []
 none_placed c x [] apart = refl
@@ -101,10 +100,6 @@ count-agree p q [] each = refl
 count-agree p q (x ∷ xs) each =
     let here : cond {A = ℕ} (p x) 1 0 ≡ cond (q x) 1 0 = ap (λ b. cond {A = ℕ} b 1 0) (each x) in
     omega (arith, here, count-agree p q xs each, sum_by-cons (λ (i : ℕ). cond {A = ℕ} (p i) 1 0) x xs, sum_by-cons (λ (i : ℕ). cond {A = ℕ} (q i) 1 0) x xs)
-
-or-false : (a : Bool) → (a || false) ≡ a
-or-false true = refl
-or-false false = refl
 
 days-alone : (h : List (Option Spot)) (x : Spot) → placed h ≡ x ∷ [] → days_used h ≡ count (day_set x.time.days)
 days-alone h x one =

@@ -5,18 +5,16 @@ use Rattle.std.specs.List.{IsDistinct}
 use Rattle.std.proofs.lemmas.List.{take_more_set, length-set, get_or_default}
 use Rattle.std.proofs.lemmas.List.Folds.{list_any-append}
 use Rattle.std.proofs.lemmas.List.Sums.{sum_by-set, count_by-le-length}
+use Rattle.std.proofs.Math.Bool.{or-true}
 use Rattle.std.proofs.lemmas.Bool.{eq-eqb, eqb-false}
-use Rattle.std.proofs.lemmas.Bool.Decides.{nat_tests, eqb_tells}
+use Rattle.std.proofs.lemmas.Bool.Decides.{eqb_tells}
 use Rattle.tt_bits.specs.declared.times.Spot.{Spot}
 use Rattle.tt_bits.specs.Spots.{spot_at}
 use Rattle.tt_clash.specs.ConflictSet.{is_in, spot_with}
 use Rattle.tt_clash.specs.Marks.{spot_unless, is_out, IsListed}
 use Rattle.tt_clash.specs.RulesOf.{IsMemberAt}
-use Rattle.tt_clash.proofs.MixedLemmas.{map-one}
+use Rattle.tt_clash.proofs.MixedLemmas.{turned, map-one}
 use Rattle.tt_clash.proofs.FrontLemmas.{is_in-push_other}
-
-turned : (a b : ℕ) → nat_eq a b ≡ false → nat_eq b a ≡ false
-turned a b h = grind (arith, nat_tests)
 
 -- one more mark
 counted-more : (marks : List Bool) (d : ℕ) → d < length marks → get_or marks d false ≡ false → count_by (λ b. b) (slice_set marks d true) ≡ count_by (λ b. b) marks + 1
@@ -33,11 +31,7 @@ listed-room marks order count d listed within unmarked =
 is_in-push_same : (out : List ℕ) (d : ℕ) → is_in (out ++ d ∷ []) d ≡ true
 is_in-push_same out d =
     let same : nat_eq d d ≡ true = eq-eqb d d refl in
-    list_any-append (nat_eq d) out (d ∷ []) ∙ rw same (or_true (is_in out d))
-  where
-    or_true : (b : Bool) → (b || (true || false)) ≡ true
-    or_true true = refl
-    or_true false = refl
+    list_any-append (nat_eq d) out (d ∷ []) ∙ rw same (or-true (is_in out d))
 
 marks-more : (marks : List Bool) (out : List ℕ) (d : ℕ) → d < length marks → ((e : ℕ) → get_or marks e false ≡ is_in out e) → (e : ℕ) → get_or (slice_set marks d true) e false ≡ is_in (out ++ d ∷ []) e
 marks-more marks out d within each e =

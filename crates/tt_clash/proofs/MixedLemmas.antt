@@ -69,7 +69,7 @@ cells-mixed f g (suc q) [] le = omega arith
 cells-mixed f g (suc q) (x ∷ xs) le =
     omega (arith, cells-mixed f g q xs le, sum_by-cons cells_at (f x) (map f xs), sum_by-cons cells_at (f x) (mixed f g q xs))
 
-turned : (a b : ℕ) → nat_eq a b ≡ false → nat_eq b a ≡ false
+pub turned : (a b : ℕ) → nat_eq a b ≡ false → nat_eq b a ≡ false
 turned a b h = grind (arith, nat_tests)
 
 map-others : {B : Type 0} (f g : ℕ → B) (m : ℕ) (ms : List ℕ) → AllByRecursion (λ e. nat_eq m e ≡ false) ms → ((e : ℕ) → nat_eq m e ≡ false → f e ≡ g e) → map g ms ≡ map f ms

@@ -1,34 +1,23 @@
 -- Classes marked one after the other.
-use Rattle.std.proofs.Common.{◌≡◌, ◌≢◌, ℕ, ◌+◌, ◌<◌, ◌≤◌, Bool, true, false, not, ◌&&◌, ◌||◌, List, [], ◌∷◌, ◌++◌, Option, Some, None, length, get_or, nat_eq, refl, ap, sym, ◌∙◌, arith, inl, inr, get_or-set_same, get_or-set_other}
-use Rattle.std.specs.Prelude.{◌==◌, slice_set, slice_index}
-use Rattle.std.specs.List.{list_any, range_with_len}
+use Rattle.std.proofs.Common.{◌≡◌, ℕ, ◌+◌, ◌<◌, ◌≤◌, zero, suc, Bool, true, false, not, cond, ◌&&◌, ◌||◌, List, [], ◌∷◌, ◌++◌, Option, Some, None, length, take, drop, get_or, nat_eq, refl, ap, sym, ◌∙◌, arith, inl, inr, get_or-set_same, get_or-set_other}
+use Rattle.std.specs.Prelude.{◌==◌, slice_set, nat_lt}
+use Rattle.std.specs.List.{list_any}
 use Rattle.std.specs.Option.{option_map_or}
-use Rattle.std.proofs.lemmas.List.{map-id, get_or_past}
-use Rattle.std.proofs.lemmas.List.FromFn.{map-range_with_len_more}
+use Rattle.std.proofs.Math.Bool.{or_assoc, or-false, or-true, and-false}
+use Rattle.std.proofs.lemmas.List.{get_or_past, length-take, length-append, take_all, take_more, take-append-le, drop_all, drop-append-le}
 use Rattle.std.proofs.lemmas.List.Folds.{list_any-append}
-use Rattle.std.proofs.lemmas.Bool.{eq-eqb}
+use Rattle.std.proofs.lemmas.Bool.{cases_lt, lt-ltb, le-ltb}
 use Rattle.std.proofs.lemmas.Bool.Decides.{eqb_tells}
 use Rattle.tt_bits.specs.declared.times.Spot.{Spot}
 use Rattle.tt_bits.specs.declared.pairs.PairKind.{PairKind}
 use Rattle.tt_travel.specs.Table.{Table}
 use Rattle.tt_bits.specs.Spots.{spot_at}
+use Rattle.tt_pair.specs.ViolatedPairs.{is_violated}
 use Rattle.tt_problem.specs.declared.parts.RulePlace.{RulePlace}
 use Rattle.tt_problem.specs.declared.parts.Parts.{Parts}
-use Rattle.tt_clash.specs.ConflictSet.{passes, breaks_at, breaks_rule}
+use Rattle.tt_clash.specs.ConflictSet.{is_in, passes, breaks_pair, breaks_rule}
 use Rattle.tt_occupancy.specs.Clashes.{clash}
-use Rattle.tt_clash.specs.Marks.{breaks_with}
-
-or-assoc : (a b c : Bool) → ((a || b) || c) ≡ (a || (b || c))
-or-assoc true b c = refl
-or-assoc false b c = refl
-
-or-false : (a : Bool) → (a || false) ≡ a
-or-false true = refl
-or-false false = refl
-
-or-true : (a : Bool) → (a || true) ≡ true
-or-true true = refl
-or-true false = refl
+use Rattle.tt_clash.specs.Marks.{breaks_with, clashes_in_rule}
 
 -- one test or the other
 either : (a : Bool) (s : Option Spot) (f g : Spot → Bool) → ((a && option_map_or f s false) || (a && option_map_or g s false)) ≡ (a && option_map_or (λ y. f y || g y) s false)
@@ -50,79 +39,99 @@ passes-either : (spots : List (Option Spot)) (c : ℕ) (f g : Spot → Bool) (d 
 passes-either spots c f g d = either (not (d == c)) (spot_at spots d) f g
 
 -- a class is marked, where it passes
-mark-is : (marks : List Bool) (m d : ℕ) (b : Bool) → m < length marks → b ≡ true → get_or (slice_set marks m true) d false ≡ (get_or marks d false || ((m == d) && b))
+pub mark-is : (marks : List Bool) (m d : ℕ) (b : Bool) → m < length marks → b ≡ true → get_or (slice_set marks m true) d false ≡ (get_or marks d false || ((d == m) && b))
 mark-is marks m d b within marked =
-    elim (eqb_tells m d) [
+    elim (eqb_tells d m) [
       | inl same ↦
-          let is : m ≡ d = same.1 in
-          let equal : nat_eq m d ≡ true = same.0 in
-          rw (equal, marked, ← is) (get_or-set_same marks m true false within ∙ sym (or-true (get_or marks m false)))
+          let is : d ≡ m = same.1 in
+          let equal : nat_eq d m ≡ true = same.0 in
+          rw (equal, marked, is) (get_or-set_same marks m true false within ∙ sym (or-true (get_or marks m false)))
       | inr other ↦
-          let apart : nat_eq m d ≡ false = other.0 in
-          let ne : d ≢ m = λ e. other.1 (sym e) in
-          rw apart (get_or-set_other marks m d true false ne ∙ sym (or-false (get_or marks d false)))
+          let apart : nat_eq d m ≡ false = other.0 in
+          rw apart (get_or-set_other marks m d true false other.1 ∙ sym (or-false (get_or marks d false)))
     ]
 
-mark-isnt : (marks : List Bool) (m d : ℕ) (b : Bool) → b ≡ false → get_or marks d false ≡ (get_or marks d false || ((m == d) && b))
-mark-isnt marks m d b unmarked = rw unmarked (none (m == d))
-  where
-    none : (e : Bool) → get_or marks d false ≡ (get_or marks d false || (e && false))
-    none true = sym (or-false (get_or marks d false))
-    none false = sym (or-false (get_or marks d false))
+pub mark-isnt : (marks : List Bool) (m d : ℕ) (b : Bool) → b ≡ false → get_or marks d false ≡ (get_or marks d false || ((d == m) && b))
+mark-isnt marks m d b unmarked = rw (unmarked, and-false (nat_eq d m)) (sym (or-false (get_or marks d false)))
 
 pub passes-past : (spots : List (Option Spot)) (c : ℕ) (test : Spot → Bool) (d : ℕ) → length spots ≤ d → passes spots c test d ≡ false
 passes-past spots c test d past = let none : spot_at spots d ≡ None = get_or_past spots d None past in rw none (and-false (not (d == c)))
-  where
-    and-false : (a : Bool) → (a && false) ≡ false
-    and-false true = refl
-    and-false false = refl
 
--- the members of a pair rule, walked up to one
-abbrev pub pairs_below : Table → PairKind → List ℕ → ℕ → Spot → ℕ → ℕ → Spot → Bool
-pairs_below t kind members place x q d y = list_any (λ other. (slice_index members other == d) && breaks_at t kind place x other y) (range_with_len 0 q)
+-- one more member, before c's place or later
+before_more : (l m a b : Bool) → (((l && a) || (false && b)) || (m && a)) ≡ (((l || (m || false)) && a) || (false && b))
+before_more true true true b = refl
+before_more true true false b = refl
+before_more true false true b = refl
+before_more true false false b = refl
+before_more false true true b = refl
+before_more false true false b = refl
+before_more false false a b = refl
 
-abbrev pub rule_below : Table → PairKind → List ℕ → List (Option Spot) → ℕ → ℕ → Spot → ℕ → ℕ → Bool
-rule_below t kind members spots c place x q d = passes spots c (pairs_below t kind members place x q d) d
+later_more : (f l m b : Bool) → ((f || (l && b)) || (m && b)) ≡ (f || ((l || (m || false)) && b))
+later_more true l m b = refl
+later_more false true true true = refl
+later_more false true true false = refl
+later_more false true false b = or-false b
+later_more false false true b = refl
+later_more false false false b = refl
 
-pairs-more : (f : ℕ → Bool) (q : ℕ) → (list_any f (range_with_len 0 q) || f q) ≡ list_any f (range_with_len 0 (q + 1))
-pairs-more f q =
-    let e = map-range_with_len_more (λ (k : ℕ). k) 0 q q (omega arith) in
-    let split : range_with_len 0 (q + 1) ≡ range_with_len 0 q ++ q ∷ [] = sym (map-id (range_with_len 0 (q + 1))) ∙ e ∙ ap (λ (l : List ℕ). l ++ q ∷ []) (map-id (range_with_len 0 q)) in
-    rw (split, list_any-append f (range_with_len 0 q) (q ∷ [])) (ap (λ b. list_any f (range_with_len 0 q) || b) (sym (or-false (f q))))
-
--- the member at a place, if it is d
-here : (t : Table) (kind : PairKind) (spots : List (Option Spot)) (c place : ℕ) (x : Spot) (q m d : ℕ)
-    → ((m == d) && breaks_with t kind spots c place x q m) ≡ passes spots c (λ y. (m == d) && breaks_at t kind place x q y) d
-here t kind spots c place x q m d =
-    elim (eqb_tells m d) [
-      | inl same ↦ let is : m ≡ d = same.1 in let equal : nat_eq d d ≡ true = eq-eqb d d refl in rw (is, equal) refl
-      | inr other ↦ let apart : nat_eq m d ≡ false = other.0 in rw apart (sym (no_test (not (d == c)) (spot_at spots d)))
+member-more : (place d m : ℕ) (l : List ℕ) (a b : Bool) → (((is_in (take place l) d && a) || (is_in (drop place l) d && b)) || ((d == m) && cond (nat_lt (length l) place) a b))
+    ≡ ((is_in (take place (l ++ m ∷ [])) d && a) || (is_in (drop place (l ++ m ∷ [])) d && b))
+member-more place d m l a b =
+    elim (cases_lt (length l) place) [
+      | inl before ↦
+          let one_more : length (l ++ m ∷ []) ≤ place = omega (arith, length-append l (m ∷ [])) in
+          rw (lt-ltb (length l) place before, take_all place l (omega arith), drop_all place l (omega arith), take_all place (l ++ m ∷ []) one_more, drop_all place (l ++ m ∷ []) one_more, list_any-append (nat_eq d) l (m ∷ []))
+          (before_more (is_in l d) (d == m) a b)
+      | inr later ↦
+          rw (le-ltb (length l) place later, take-append-le place l (m ∷ []) later, drop-append-le place l (m ∷ []) later, list_any-append (nat_eq d) (drop place l) (m ∷ []))
+          (later_more (is_in (take place l) d && a) (is_in (drop place l) d) (d == m) b)
     ]
 
-rule-step : (t : Table) (kind : PairKind) (members : List ℕ) (spots : List (Option Spot)) (c place : ℕ) (x : Spot) (q m d : ℕ) → m ≡ slice_index members q
-    → (rule_below t kind members spots c place x q d || ((m == d) && breaks_with t kind spots c place x q m)) ≡ rule_below t kind members spots c place x (q + 1) d
-rule-step t kind members spots c place x q m d is =
-    ap (λ b. rule_below t kind members spots c place x q d || b) (here t kind spots c place x q m d)
-    ∙ passes-either spots c (pairs_below t kind members place x q d) (λ y. (m == d) && breaks_at t kind place x q y) d
-    ∙ same_test (not (d == c)) (spot_at spots d) _ _ (λ y. rw is (pairs-more (λ other. (slice_index members other == d) && breaks_at t kind place x other y) q))
+pair-more : (kind : PairKind) (t : Table) (members : List ℕ) (place d q : ℕ) (x y : Spot) → q < length members
+    → (breaks_pair kind t (take q members) place x d y || ((d == get_or members q 0) && cond (nat_lt q place) (is_violated kind t y x) (is_violated kind t x y))) ≡ breaks_pair kind t (take (q + 1) members) place x d y
+pair-more kind t members place d q x y within =
+    let long : length (take q members) ≡ q = omega (arith, length-take q members) in
+    let step = rw long at (member-more place d (get_or members q 0) (take q members) (is_violated kind t y x) (is_violated kind t x y)) in
+    rw (take_more members q 0 within) step
 
-pub rule-yes : (start marks : List Bool) (t : Table) (kind : PairKind) (members : List ℕ) (spots : List (Option Spot)) (c place : ℕ) (x : Spot) (q m d : ℕ) → m ≡ slice_index members q
-    → get_or marks d false ≡ (get_or start d false || rule_below t kind members spots c place x q d) → m < length marks → breaks_with t kind spots c place x q m ≡ true
-    → get_or (slice_set marks m true) d false ≡ (get_or start d false || rule_below t kind members spots c place x (q + 1) d)
-rule-yes start marks t kind members spots c place x q m d at is within yes_m =
-    mark-is marks m d (breaks_with t kind spots c place x q m) within yes_m
-    ∙ ap (λ b. b || ((m == d) && breaks_with t kind spots c place x q m)) is
-    ∙ or-assoc (get_or start d false) _ _
-    ∙ ap (λ b. get_or start d false || b) (rule-step t kind members spots c place x q m d at)
+-- the member at a place, if it is d
+here : (kind : PairKind) (t : Table) (spots : List (Option Spot)) (c place : ℕ) (x : Spot) (q m d : ℕ)
+    → ((d == m) && breaks_with kind t spots c place x q m) ≡ passes spots c (λ y. (d == m) && cond (nat_lt q place) (is_violated kind t y x) (is_violated kind t x y)) d
+here kind t spots c place x q m d =
+    elim (eqb_tells d m) [
+      | inl same ↦ let is : d ≡ m = same.1 in let equal : nat_eq d m ≡ true = same.0 in rw equal (rw is refl)
+      | inr other ↦ let apart : nat_eq d m ≡ false = other.0 in rw apart (sym (no_test (not (d == c)) (spot_at spots d)))
+    ]
 
-pub rule-no : (start marks : List Bool) (t : Table) (kind : PairKind) (members : List ℕ) (spots : List (Option Spot)) (c place : ℕ) (x : Spot) (q m d : ℕ) → m ≡ slice_index members q
-    → get_or marks d false ≡ (get_or start d false || rule_below t kind members spots c place x q d) → breaks_with t kind spots c place x q m ≡ false
-    → get_or marks d false ≡ (get_or start d false || rule_below t kind members spots c place x (q + 1) d)
-rule-no start marks t kind members spots c place x q m d at is no_m =
-    mark-isnt marks m d (breaks_with t kind spots c place x q m) no_m
-    ∙ ap (λ b. b || ((m == d) && breaks_with t kind spots c place x q m)) is
-    ∙ or-assoc (get_or start d false) _ _
-    ∙ ap (λ b. get_or start d false || b) (rule-step t kind members spots c place x q m d at)
+-- a pair rule walked one member further
+rule-step : (kind : PairKind) (t : Table) (members : List ℕ) (spots : List (Option Spot)) (c place : ℕ) (x : Spot) (q d : ℕ) → q < length members
+    → (clashes_in_rule kind t (take q members) spots c place x d || ((d == get_or members q 0) && breaks_with kind t spots c place x q (get_or members q 0)))
+    ≡ clashes_in_rule kind t (take (q + 1) members) spots c place x d
+rule-step kind t members spots c place x q d within =
+    ap (λ b. clashes_in_rule kind t (take q members) spots c place x d || b) (here kind t spots c place x q (get_or members q 0) d)
+    ∙ passes-either spots c (breaks_pair kind t (take q members) place x d) _ d
+    ∙ same_test (not (d == c)) (spot_at spots d) _ _ (λ y. pair-more kind t members place d q x y within)
+
+pub rule-more : (start marks now : List Bool) (kind : PairKind) (t : Table) (members : List ℕ) (spots : List (Option Spot)) (c place : ℕ) (x : Spot) (q d : ℕ) → q < length members
+    → get_or marks d false ≡ (get_or start d false || clashes_in_rule kind t (take q members) spots c place x d)
+    → get_or now d false ≡ (get_or marks d false || ((d == get_or members q 0) && breaks_with kind t spots c place x q (get_or members q 0)))
+    → get_or now d false ≡ (get_or start d false || clashes_in_rule kind t (take (q + 1) members) spots c place x d)
+rule-more start marks now kind t members spots c place x q d within before step =
+    step
+    ∙ ap (λ b. b || ((d == get_or members q 0) && breaks_with kind t spots c place x q (get_or members q 0))) before
+    ∙ or_assoc (get_or start d false) _ _
+    ∙ ap (λ b. get_or start d false || b) (rule-step kind t members spots c place x q d within)
+
+-- no member walked yet
+pair-none : (kind : PairKind) (t : Table) (place d : ℕ) (x y : Spot) → breaks_pair kind t [] place x d y ≡ false
+pair-none kind t zero d x y = refl
+pair-none kind t (suc place) d x y = refl
+
+pub rule-none : (start : List Bool) (kind : PairKind) (t : Table) (spots : List (Option Spot)) (c place : ℕ) (x : Spot) (d : ℕ) → get_or start d false ≡ (get_or start d false || clashes_in_rule kind t [] spots c place x d)
+rule-none start kind t spots c place x d =
+    let none : clashes_in_rule kind t [] spots c place x d ≡ false = same_test (not (d == c)) (spot_at spots d) _ _ (pair-none kind t place d x) ∙ no_test (not (d == c)) (spot_at spots d) in
+    rw none (sym (or-false (get_or start d false)))
 
 -- the rules walked up to one
 abbrev pub clashes_below : Parts → List (Option Spot) → ℕ → Spot → List RulePlace → ℕ → Bool

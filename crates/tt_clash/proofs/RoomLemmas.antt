@@ -1,6 +1,7 @@
 -- The classes of a room gone over: those that clash are marked.
 use Rattle.std.proofs.Common.{◌≡◌, ◌∙◌, ℕ, ◌<◌, Bool, true, false, ◌&&◌, ◌||◌, List, [], ◌∷◌, Option, None, length, get_or, nat_eq, refl, sym, inl, inr, get_or-set_same, get_or-set_other}
 use Rattle.std.specs.Prelude.{slice_set}
+use Rattle.std.proofs.Math.Bool.{or-false}
 use Rattle.std.proofs.lemmas.Bool.{cases_Bool}
 use Rattle.std.proofs.lemmas.Bool.Decides.{eqb_tells}
 use Rattle.tt_bits.specs.declared.times.Spot.{Spot}
@@ -37,11 +38,7 @@ marked-no test marks m xs rest split fails before d =
     no_more false b false e = refl
 
 pub all-marked : (test : ℕ → Bool) (marks : List Bool) (rest : List ℕ) → [] ≡ rest → AreMarked test marks rest → (d : ℕ) → get_or marks d false ≡ test d
-all-marked test marks rest none all d = or_none (get_or marks d false) ∙ sym (rw (← none) at (all d))
-  where
-    or_none : (a : Bool) → a ≡ (a || false)
-    or_none true = refl
-    or_none false = refl
+all-marked test marks rest none all d = sym (or-false (get_or marks d false)) ∙ sym (rw (← none) at (all d))
 
 -- no mark is set yet: who clashes is one of the room
 pub none-yet : (spots : List (Option Spot)) (c : ℕ) (x : Spot) (marks : List Bool) → ((d : ℕ) → get_or marks d false ≡ false) → AreMarked (clashes_in_room spots c x) marks (classes_in spots x.room)

@@ -1,12 +1,12 @@
 -- The conflict set.
-use Rattle.std.specs.Prelude.{ℕ, Bool, false, not, ◌||◌, ◌&&◌, ◌==◌, nat_eq, is_some, List, [], ◌∷◌, ◌++◌, Option, Some, None, if◌then◌else◌, nat_lt, slice_get, slice_index, map, filter, fold, length}
+use Rattle.std.specs.Prelude.{ℕ, Bool, false, not, ◌||◌, ◌&&◌, ◌==◌, nat_eq, is_some, List, [], ◌∷◌, ◌++◌, Option, Some, None, if◌then◌else◌, slice_get, map, filter, fold, length, take, drop}
 use Rattle.std.specs.List.{list_any, range_with_len}
 use Rattle.std.specs.Option.{option_map_or}
 use Rattle.tt_bits.specs.declared.times.Spot.{Spot}
 use Rattle.tt_bits.specs.declared.pairs.PairKind.{PairKind}
-use Rattle.tt_bits.specs.Pairs.{pair_holds}
-use Rattle.tt_travel.specs.Table.{Table, between}
+use Rattle.tt_travel.specs.Table.{Table}
 use Rattle.tt_bits.specs.Spots.{spot_at}
+use Rattle.tt_pair.specs.ViolatedPairs.{is_violated}
 use Rattle.tt_occupancy.specs.Clashes.{clash}
 use Rattle.tt_problem.specs.declared.parts.RulePlace.{RulePlace}
 use Rattle.tt_problem.specs.declared.parts.Parts.{Parts}
@@ -45,20 +45,15 @@ out_for amount members spots c x out =
 abbrev pub passes : List (Option Spot) → ℕ → (Spot → Bool) → ℕ → Bool
 passes spots c test d = not (d == c) && option_map_or test (spot_at spots d) false
 
--- two spots break a pair rule, x that of the member at one place, and y that of the member at another
-abbrev pub breaks_at : Table → PairKind → ℕ → Spot → ℕ → Spot → Bool
-breaks_at t kind place x other y =
-    if nat_lt other place then not (pair_holds kind y x (between t y.room x.room)) else not (pair_holds kind x y (between t x.room y.room))
-
--- the class d stands at a place of a pair rule where its spot y breaks the rule with x at c's place
-abbrev pub breaks_pair : Table → PairKind → List ℕ → ℕ → Spot → ℕ → Spot → Bool
-breaks_pair t kind members place x d y =
-    list_any (λ other. (slice_index members other == d) && breaks_at t kind place x other y) (range_with_len 0 (length members))
+-- the class d is a member of a pair rule, and its spot y breaks the rule with x at c's place: d is listed before that place, or later
+abbrev pub breaks_pair : PairKind → Table → List ℕ → ℕ → Spot → ℕ → Spot → Bool
+breaks_pair kind t members place x d y =
+    (is_in (take place members) d && is_violated kind t y x) || (is_in (drop place members) d && is_violated kind t x y)
 
 -- the rule is a required pair rule, and d breaks it with c
 abbrev pub breaks_rule : Parts → Spot → ℕ → Spot → RulePlace → Bool
 breaks_rule p x d y r =
-    option_map_or (λ rule. option_map_or (λ kind. breaks_pair p.travel kind rule.members r.place x d y) (required_pair rule) false) (slice_get p.rules r.rule) false
+    option_map_or (λ rule. option_map_or (λ kind. breaks_pair kind p.travel rule.members r.place x d y) (required_pair rule) false) (slice_get p.rules r.rule) false
 
 -- d is another class than c, it is placed, and it overlaps c in its room or breaks a required pair rule with c at x
 abbrev pub clashes : Parts → List (Option Spot) → ℕ → Spot → ℕ → Bool

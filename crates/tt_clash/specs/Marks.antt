@@ -1,19 +1,20 @@
 -- What the code keeps: marks by class, and the marked classes listed. Proofs alone need it.
-use Rattle.std.specs.Prelude.{◌≡◌, ℕ, ◌≤◌, Bool, false, not, is_some, ◌&&◌, ◌||◌, ◌==◌, List, Option, None, if◌then◌else◌, slice_index_or, take, length, count_by}
+use Rattle.std.specs.Prelude.{◌≡◌, ℕ, ◌≤◌, Bool, false, not, is_some, ◌&&◌, ◌||◌, ◌==◌, List, Option, None, if◌then◌else◌, slice_index_or, nat_lt, take, length, count_by}
 use Rattle.tt_bits.specs.declared.times.Spot.{Spot}
 use Rattle.tt_bits.specs.declared.pairs.PairKind.{PairKind}
 use Rattle.tt_bits.specs.Spots.{spot_at}
 use Rattle.tt_travel.specs.Table.{Table}
+use Rattle.tt_pair.specs.ViolatedPairs.{is_violated}
 use Rattle.tt_pool.specs.Places.{places_where}
-use Rattle.tt_clash.specs.ConflictSet.{is_in, passes, breaks_at, breaks_pair}
+use Rattle.tt_clash.specs.ConflictSet.{is_in, passes, breaks_pair}
 
 -- the member d at another place breaks the pair rule with c
-abbrev pub breaks_with : Table → PairKind → List (Option Spot) → ℕ → ℕ → Spot → ℕ → ℕ → Bool
-breaks_with t kind spots c place x other d = passes spots c (breaks_at t kind place x other) d
+abbrev pub breaks_with : PairKind → Table → List (Option Spot) → ℕ → ℕ → Spot → ℕ → ℕ → Bool
+breaks_with kind t spots c place x other d = passes spots c (λ y. if nat_lt other place then is_violated kind t y x else is_violated kind t x y) d
 
 -- d breaks the pair rule with c
-abbrev pub clashes_in_rule : Table → PairKind → List ℕ → List (Option Spot) → ℕ → ℕ → Spot → ℕ → Bool
-clashes_in_rule t kind members spots c place x d = passes spots c (breaks_pair t kind members place x d) d
+abbrev pub clashes_in_rule : PairKind → Table → List ℕ → List (Option Spot) → ℕ → ℕ → Spot → ℕ → Bool
+clashes_in_rule kind t members spots c place x d = passes spots c (breaks_pair kind t members place x d) d
 
 -- what a class has, where those that pass the test have nothing
 abbrev pub spot_unless : (ℕ → Bool) → List (Option Spot) → ℕ → Option Spot

@@ -170,7 +170,7 @@ fn list_pairs(
     requires order { length order.old ≡ length marks.old }
     requires listed { AreInOrder marks.old order.old listed }
     ensures marks { (d : ℕ) → slice_index_or marks.new d false
-        ≡ (slice_index_or marks.old d false || clashes_in_rule travel.now kind members.now spots.now class place spot d) }
+        ≡ (slice_index_or marks.old d false || clashes_in_rule kind travel.now members.now spots.now class place spot d) }
     ensures listed { AreInOrder marks.new order.new result }
 {
     let mut count = listed;
@@ -184,6 +184,7 @@ fn list_pairs(
 }
 
 /// Whether a member but the class is placed and breaks a pair rule with the class at the spot.
+#[tactic(auto, unfolding(tt_pair::specs::ViolatedPairs::is_violated))]
 fn breaks_with(
     travel: &Travel,
     kind: PairKind,
@@ -197,7 +198,7 @@ fn breaks_with(
     requires member { member < length spots.now }
     requires room { IsRoomOf travel.now spot.room }
     requires rooms { AreRoomsOf travel.now spots.now }
-    ensures { result ≡ breaks_with travel.now kind spots.now class place spot other_place member }
+    ensures { result ≡ breaks_with kind travel.now spots.now class place spot other_place member }
 {
     match spots[member as usize] {
         Some(other) => {

@@ -52,9 +52,7 @@ pub fn take_out<M: Measure>(
     requires members { All (λ d. d < length spots.now) members.now }
     requires marks { length marks.now ≡ length spots.now }
     ensures held { M.held group.new ≡ map (spot_unless (is_out class marks.now) spots.now) members.now }
-    ensures lent { IsLent (M.held group.old) (M.spare group.old) (M.held group.new) (M.spare group.new) }
-    ensures weeks { M.weeks group.new ≡ M.weeks group.old }
-    ensures shape { M.shape group.new ≡ M.shape group.old }
+    ensures lent { IsLent M.held M.weeks M.spare M.shape group.old group.new }
     ensures fits { M.fits group.new travel.now }
 {
     for place in 0..members.len() {
@@ -82,9 +80,7 @@ pub fn put_back<M: Measure>(
     requires weeks { AreBelow (M.weeks group.old) (map (spot_at spots.now) members.now) }
     requires spare { HasRoomFor (map (spot_at spots.now) members.now) (M.held group.old) (M.spare group.old) }
     ensures held { M.held group.new ≡ map (spot_at spots.now) members.now }
-    ensures lent { IsLent (M.held group.old) (M.spare group.old) (M.held group.new) (M.spare group.new) }
-    ensures weeks { M.weeks group.new ≡ M.weeks group.old }
-    ensures shape { M.shape group.new ≡ M.shape group.old }
+    ensures lent { IsLent M.held M.weeks M.spare M.shape group.old group.new }
     ensures fits { M.fits group.new travel.now }
 {
     for place in 0..members.len() {
@@ -134,9 +130,7 @@ pub fn take_front<M: Measure>(
         ++ out_for (M.sum (M.shape group.old) travel.now) members.now spots.now class spot (take listed order.old) }
     ensures listed { IsListed marks.new order.new result }
     ensures held { M.held group.new ≡ map (spot_unless (is_out class marks.new) spots.now) members.now }
-    ensures lent { IsLent (M.held group.old) (M.spare group.old) (M.held group.new) (M.spare group.new) }
-    ensures weeks { M.weeks group.new ≡ M.weeks group.old }
-    ensures shape { M.shape group.new ≡ M.shape group.old }
+    ensures lent { IsLent M.held M.weeks M.spare M.shape group.old group.new }
     ensures fits { M.fits group.new travel.now }
 {
     let mut count = listed;

@@ -1,5 +1,5 @@
 -- What each command does on a plain desk, which keeps whole snapshots.
-use Rattle.std.specs.Prelude.{ℕ, List, [], ◌∷◌, ◌++◌, Option, None, Some, Result, Ok, Err, codes, ok_or, unwrap_or, if◌then◌else◌}
+use Rattle.std.specs.Prelude.{ℕ, List, [], ◌∷◌, ◌++◌, Option, None, Some, Result, Ok, Err, codes, ok_or, if◌then◌else◌}
 use Rattle.std.specs.Result.{result_map_both}
 use Rattle.tt_bits.specs.declared.times.Value.{Value}
 use Rattle.tt_problem.specs.declared.parts.Parts.{Parts}
@@ -144,9 +144,9 @@ with_step s now lines = with_desk s (stepped s.desk now) lines
 abbrev pub with_published : Session → Timetable → List ℕ → Answer
 with_published s t lines = record { session = record { desk = s.desk; published = Some t }; lines = lines }
 
--- one more step leads to where a search ended, after so many turns. A search has an end always
-abbrev pub with_search : Session → Option Snapshot × ℕ → Answer
-with_search s (end, turns) = with_step s (unwrap_or end s.desk.present) (field (codes "turns ") turns ++ codes "\n")
+-- one more step leads to where a search ended, after so many turns
+abbrev pub with_search : Session → Snapshot × ℕ → Answer
+with_search s (end, turns) = with_step s end (field (codes "turns ") turns ++ codes "\n")
 
 -- one more step leads to where all students are enrolled that could be
 abbrev pub with_all_enrolled : Session → AllEnrolled → Answer

@@ -12,7 +12,7 @@ last_line [] = []
 last_line (b ∷ bs) = (b ∷ bs) ∷ []
 
 -- the lines of a text, where `line` has been read of the first: a line, byte 10 and a rest give that line and the lines of the
--- rest (the law `lines_of-line`)
+-- rest (the laws `lines_of-line` and `lines_of-last`)
 abbrev pub lines_from : List ℕ → List ℕ → List (List ℕ)
 lines_from line [] = last_line line
 lines_from line (b ∷ bs) = if b == 10 then line ∷ lines_from [] bs else lines_from (line ++ b ∷ []) bs
@@ -25,7 +25,7 @@ lines_of text = lines_from [] text
 abbrev pub without_return : List ℕ → List ℕ
 without_return line = if slice_index line (length line - 1) == 13 then take (length line - 1) line else line
 
--- the words of a line
+-- the words of a line (the laws `words_of-word` and `words_of-last`)
 abbrev pub line_words : List ℕ → List (List ℕ)
 line_words line = words_of (without_return line)
 

@@ -7,11 +7,11 @@ use Rattle.tt_problem.specs.declared.parts.Span.{Span}
 use Rattle.tt_problem.specs.declared.parts.Parts.{Parts}
 use Rattle.tt_problem.specs.Spans.{is_in, CoversFrom}
 use Rattle.tt_problem.specs.Seats.{spans_at}
-use Rattle.tt_struct.specs.Enrolments.{lists, count_in, has_no_repeat, has_one, has_none, fills, avoids, takes_one}
+use Rattle.tt_struct.specs.Enrolments.{lists, count_in, has_no_repeat, has_count, fills, avoids, takes_one}
 use Rattle.tt_enrol.specs.Choices.{choices_of, course_choices, each_before}
 use Rattle.tt_enrol.proofs.Order.{all-append, all-weaken, covers-le}
 use Rattle.tt_enrol.proofs.CourseLemmas.{covers-later, covers-cut, drop-further}
-use Rattle.tt_enrol.proofs.CountLemmas.{CountSame, count_of-outside, count_of-inside, count_of-none, outside_after, outside_before, one_of_same, all_true, not_listed}
+use Rattle.tt_enrol.proofs.CountLemmas.{CountSame, count_of-outside, count_of-inside, count_of-none, outside_after, outside_before, same_of_each, all_true, not_listed}
 
 -- the classes are from a to below b
 abbrev pub AreWithin : ℕ → ℕ → List ℕ → Type 0
@@ -20,7 +20,7 @@ AreWithin a b choice = AllByRecursion (λ c. (a ≤ c) × (c < b)) choice
 -- each class is from a to below b, exactly one is of each subpart, and none stands twice
 pub record IsOneOfEach (a b : ℕ) (subparts : List Span) (choice : List ℕ) : Type 0 where
   pub within : AreWithin a b choice
-  pub each : list_all (has_one choice) subparts ≡ true
+  pub each : list_all (has_count 1 choice) subparts ≡ true
   pub once : has_no_repeat choice ≡ true
 
 wider : (a b low high : ℕ) (choice : List ℕ) → low ≤ a → b ≤ high → AreWithin a b choice → AreWithin low high choice
@@ -49,12 +49,12 @@ module _ (a b : ℕ) (s : Span) (subparts : List Span) (starts : s.first ≡ a) 
       let inside : is_in c s ≡ true = grind (arith, nat_tests) in
       let none = count_of-none choice s (outside_after s.after b choice s (omega arith) h.within) in
       let one : count_in (c ∷ choice) s ≡ 1 = omega (arith, count_of-inside c choice s inside, none) in
-      let first : has_one (c ∷ choice) s ≡ true = ap (λ (n : ℕ). n == 1) one in
-      let later = one_of_same (c ∷ choice) choice subparts (same_later c s.after choice subparts below (covers-later subparts s.after b s.after rest (omega arith))) in
+      let first : has_count 1 (c ∷ choice) s ≡ true = ap (λ (n : ℕ). n == 1) one in
+      let later = same_of_each 1 (c ∷ choice) choice subparts (same_later c s.after choice subparts below (covers-later subparts s.after b s.after rest (omega arith))) in
       let new = not_listed choice c (none_below s.after b c choice below h.within) in
       record {
         within = ((omega arith, omega arith), wider s.after b a b choice (omega arith) (omega arith) h.within);
-        each = both (has_one (c ∷ choice) s) (list_all (has_one (c ∷ choice)) subparts) first (later ∙ h.each);
+        each = both (has_count 1 (c ∷ choice) s) (list_all (has_count 1 (c ∷ choice)) subparts) first (later ∙ h.each);
         once = both (not (lists choice c)) (has_no_repeat choice) (ap not new) h.once;
       }
 
@@ -85,14 +85,14 @@ all-take P zero spans h = tt
 all-take P (suc k) [] h = tt
 all-take P (suc k) (s ∷ spans) h = (h.0, all-take P k spans h.1)
 
-none_of : (choice : List ℕ) (t : Span) → AllByRecursion (λ c. is_in c t ≡ false) choice → has_none choice t ≡ true
+none_of : (choice : List ℕ) (t : Span) → AllByRecursion (λ c. is_in c t ≡ false) choice → has_count 0 choice t ≡ true
 none_of choice t out = ap (λ (n : ℕ). n == 0) (count_of-none choice t out)
 
-avoids-later : (a b : ℕ) (choice : List ℕ) (spans : List Span) → AreWithin a b choice → AllByRecursion (λ t. b ≤ t.first) spans → AllByRecursion (λ t. has_none choice t ≡ true) spans
+avoids-later : (a b : ℕ) (choice : List ℕ) (spans : List Span) → AreWithin a b choice → AllByRecursion (λ t. b ≤ t.first) spans → AllByRecursion (λ t. has_count 0 choice t ≡ true) spans
 avoids-later a b choice [] w h = tt
 avoids-later a b choice (t ∷ spans) w h = (none_of choice t (outside_before a b choice t h.0 w), avoids-later a b choice spans w h.1)
 
-avoids-earlier : (a b : ℕ) (choice : List ℕ) (spans : List Span) → AreWithin a b choice → AllByRecursion (λ t. t.after ≤ a) spans → AllByRecursion (λ t. has_none choice t ≡ true) spans
+avoids-earlier : (a b : ℕ) (choice : List ℕ) (spans : List Span) → AreWithin a b choice → AllByRecursion (λ t. t.after ≤ a) spans → AllByRecursion (λ t. has_count 0 choice t ≡ true) spans
 avoids-earlier a b choice [] w h = tt
 avoids-earlier a b choice (t ∷ spans) w h = (none_of choice t (outside_after a b choice t h.0 w), avoids-earlier a b choice spans w h.1)
 
@@ -101,13 +101,13 @@ covers-before [] first after h = tt
 covers-before (s ∷ spans) first after h = (covers-le spans s.after after h.2, covers-before spans s.after after h.2)
 
 module _ (p : Parts) (choice : List ℕ) where
-  fills_is : (config : Span) → list_all (has_one choice) (spans_at p.subparts config) ≡ true → fills p choice config ≡ true
+  fills_is : (config : Span) → list_all (has_count 1 choice) (spans_at p.subparts config) ≡ true → fills p choice config ≡ true
   unfolding fills
   fills_is config h = h
 
-  avoids_is : (config : Span) → AllByRecursion (λ t. has_none choice t ≡ true) (spans_at p.subparts config) → avoids p choice config ≡ true
+  avoids_is : (config : Span) → AllByRecursion (λ t. has_count 0 choice t ≡ true) (spans_at p.subparts config) → avoids p choice config ≡ true
   unfolding avoids
-  avoids_is config h = all_true (has_none choice) (spans_at p.subparts config) h
+  avoids_is config h = all_true (has_count 0 choice) (spans_at p.subparts config) h
 
   avoids-rest : (a b : ℕ) (configs : List Span) (first after : ℕ) → AreWithin a b choice → CoversFrom first configs after → AllByRecursion (λ t. b ≤ t.first) (drop first p.subparts) → list_all (avoids p choice) configs ≡ true
   avoids-rest a b [] first after w h later = refl

@@ -1,5 +1,5 @@
 -- How many classes of a list are of a subpart, where the list is put together.
-use Rattle.std.proofs.Common.{◌≡◌, ℕ, ◌+◌, ◌<◌, ◌≤◌, Bool, true, false, cond, List, [], ◌∷◌, ◌++◌, arith, refl, ap, ◌∙◌, nat_eq}
+use Rattle.std.proofs.Common.{◌≡◌, ℕ, ◌+◌, ◌<◌, ◌≤◌, Bool, true, false, cond, List, [], ◌∷◌, ◌++◌, arith, refl, ◌∙◌}
 use Rattle.std.specs.Prelude.{◌==◌}
 use Rattle.std.specs.List.{list_all, AllByRecursion}
 use Rattle.std.proofs.lemmas.Bool.Decides.{nat_tests}
@@ -8,8 +8,7 @@ use Rattle.tt_problem.specs.declared.parts.Span.{Span}
 use Rattle.tt_problem.specs.declared.parts.Parts.{Parts}
 use Rattle.tt_problem.specs.Spans.{is_in}
 use Rattle.tt_problem.specs.Seats.{spans_at}
-use Rattle.tt_struct.specs.Enrolments.{lists, count_in, has_one, has_none, fills, avoids, takes_one}
-use Rattle.tt_enrol.specs.Least.{is_one_of}
+use Rattle.tt_struct.specs.Enrolments.{lists, count_in, has_count, fills, avoids, takes_one}
 
 pub count_of-cons : (c : ℕ) (list : List ℕ) (t : Span) → count_in (c ∷ list) t ≡ cond (is_in c t) 1 0 + count_in list t
 count_of-cons c list t = sum_by-cons (λ (d : ℕ). cond (is_in d t) 1 0) c list
@@ -43,11 +42,6 @@ outside_before a b (c ∷ list) t le h = (out (omega (arith, h.0.1)), outside_be
     out : c < t.first → is_in c t ≡ false
     out below = grind (arith, nat_tests)
 
--- tests that agree on all spans
-pub all_agree : (f g : Span → Bool) (spans : List Span) → AllByRecursion (λ t. f t ≡ g t) spans → list_all f spans ≡ list_all g spans
-all_agree f g [] h = refl
-all_agree f g (t ∷ spans) h = rw (h.0, all_agree f g spans h.1) refl
-
 pub all_true : (f : Span → Bool) (spans : List Span) → AllByRecursion (λ t. f t ≡ true) spans → list_all f spans ≡ true
 all_true f [] h = refl
 all_true f (t ∷ spans) h = rw (h.0, all_true f spans h.1) refl
@@ -56,24 +50,17 @@ all_true f (t ∷ spans) h = rw (h.0, all_true f spans h.1) refl
 abbrev pub CountSame : List ℕ → List ℕ → List Span → Type 0
 CountSame a b spans = AllByRecursion (λ t. count_in a t ≡ count_in b t) spans
 
-ones : (a b : List ℕ) (spans : List Span) → CountSame a b spans → AllByRecursion (λ t. has_one a t ≡ has_one b t) spans
-ones a b [] h = tt
-ones a b (t ∷ spans) h = (ap (λ (n : ℕ). n == 1) h.0, ones a b spans h.1)
-
-nones : (a b : List ℕ) (spans : List Span) → CountSame a b spans → AllByRecursion (λ t. has_none a t ≡ has_none b t) spans
-nones a b [] h = tt
-nones a b (t ∷ spans) h = (ap (λ (n : ℕ). n == 0) h.0, nones a b spans h.1)
-
-pub one_of_same : (a b : List ℕ) (spans : List Span) → CountSame a b spans → list_all (has_one a) spans ≡ list_all (has_one b) spans
-one_of_same a b spans h = all_agree (has_one a) (has_one b) spans (ones a b spans h)
+pub same_of_each : (n : ℕ) (a b : List ℕ) (spans : List Span) → CountSame a b spans → list_all (has_count n a) spans ≡ list_all (has_count n b) spans
+same_of_each n a b [] h = refl
+same_of_each n a b (t ∷ spans) h = rw (h.0, same_of_each n a b spans h.1) refl
 
 fills-same : (p : Parts) (a b : List ℕ) (config : Span) → CountSame a b (spans_at p.subparts config) → fills p a config ≡ fills p b config
 unfolding fills
-fills-same p a b config h = all_agree (has_one a) (has_one b) (spans_at p.subparts config) (ones a b (spans_at p.subparts config) h)
+fills-same p a b config h = same_of_each 1 a b (spans_at p.subparts config) h
 
 avoids-same : (p : Parts) (a b : List ℕ) (config : Span) → CountSame a b (spans_at p.subparts config) → avoids p a config ≡ avoids p b config
 unfolding avoids
-avoids-same p a b config h = all_agree (has_none a) (has_none b) (spans_at p.subparts config) (nones a b (spans_at p.subparts config) h)
+avoids-same p a b config h = same_of_each 0 a b (spans_at p.subparts config) h
 
 avoids_all-same : (p : Parts) (a b : List ℕ) (configs : List Span) → AllByRecursion (λ config. CountSame a b (spans_at p.subparts config)) configs → list_all (avoids p a) configs ≡ list_all (avoids p b) configs
 avoids_all-same p a b [] h = refl
@@ -84,14 +71,6 @@ pub takes_one-same : (p : Parts) (a b : List ℕ) (configs : List Span) → AllB
 takes_one-same p a b [] h = refl
 takes_one-same p a b (config ∷ configs) h =
     rw (fills-same p a b config h.0, avoids-same p a b config h.0, avoids_all-same p a b configs h.1, takes_one-same p a b configs h.1) refl
-
--- the two words for a place in a list
-nat_turned : (a b : ℕ) → nat_eq a b ≡ (b == a)
-nat_turned a b = grind (arith, nat_tests)
-
-pub one_of-lists : (list : List ℕ) (c : ℕ) → is_one_of list c ≡ lists list c
-one_of-lists [] c = refl
-one_of-lists (a ∷ list) c = rw (nat_turned c a, one_of-lists list c) refl
 
 -- a place that no item is
 pub not_listed : (list : List ℕ) (c : ℕ) → AllByRecursion (λ d. d ≡ c → ⊥) list → lists list c ≡ false

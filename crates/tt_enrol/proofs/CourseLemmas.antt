@@ -1,5 +1,5 @@
 -- The choices of a course ascend.
-use Rattle.std.proofs.Common.{◌≡◌, ℕ, suc, zero, ◌+◌, ◌-◌, ◌<◌, ◌≤◌, List, [], ◌∷◌, ◌++◌, length, map, take, drop, arith, refl, sym, ap, ◌∙◌, length-take, length-drop}
+use Rattle.std.proofs.Common.{◌≡◌, ℕ, suc, zero, ◌+◌, ◌-◌, ◌<◌, ◌≤◌, List, [], ◌∷◌, ◌++◌, length, map, take, drop, arith, refl, sym, ap, ◌∙◌, length-take, length-drop, Option}
 use Rattle.std.specs.Prelude.{slice_range}
 use Rattle.std.proofs.Common.{get_or, get_or-drop, get_or-take, All, None}
 use Rattle.std.specs.List.{flat_map}
@@ -7,14 +7,14 @@ use Rattle.std.proofs.lemmas.List.{drop-drop, take_more, append-nil, map-append}
 use Rattle.std.proofs.lemmas.Grind.{flat_map-append}
 use Rattle.std.proofs.lemmas.List.Sums.{fold-append}
 use Rattle.tt_problem.proofs.SpanLemmas.{span_within}
-use Rattle.tt_enrol.specs.Least.{Situation}
+use Rattle.tt_enrol.specs.Least.{Situation, least_choice}
 use Rattle.tt_enrol.specs.Passed.{better, passed}
 use Rattle.std.specs.List.{AllByRecursion}
 use Rattle.tt_problem.specs.declared.parts.Span.{Span}
-use Rattle.tt_problem.specs.Spans.{CoversFrom, Covers}
+use Rattle.tt_problem.specs.Spans.{CoversFrom, Covers, IsSpanWithin}
 use Rattle.tt_enrol.specs.Choices.{choices_of, course_choices, choices_of_course}
-use Rattle.tt_enrol.proofs.Order.{IsAscending, BeginsWithin, ascending-joins, ascending-choices, begins-choices, covers-le, all-append, all-weaken, weaker}
-use Rattle.tt_enrol.specs.Tables.{AreInOrder}
+use Rattle.tt_enrol.proofs.Order.{IsAscending, BeginsWithin, ascending-joins, ascending-choices, begins-choices, covers-le, passed-least, all-append, all-weaken, weaker}
+use Rattle.tt_enrol.specs.Tables.{AreInOrder, AreTables}
 
 -- the first k spans reach some place, and the rest begin there
 pub record IsCut (first after k : ℕ) (spans : List Span) : Type 0 where
@@ -65,7 +65,7 @@ module _ (subparts : List Span) where
       }
 
 -- the choices of a course ascend, where the tables cover one another
-pub ascending-course : (configs subparts : List Span) (classes : ℕ) (course : Span) → Covers configs (length subparts) → Covers subparts classes → course.first < course.after → course.after ≤ length configs
+ascending-course : (configs subparts : List Span) (classes : ℕ) (course : Span) → Covers configs (length subparts) → Covers subparts classes → course.first < course.after → course.after ≤ length configs
     → IsAscending (choices_of_course configs subparts course)
 ascending-course configs subparts classes course covered covering some within =
     let cut = covers-cut course.first configs 0 (length subparts) covered in
@@ -98,6 +98,13 @@ course-none s configs subparts f =
     let e : f - f ≡ 0 = omega arith in
     ap (λ (n : ℕ). passed s None (flat_map choices_of (map (λ (config : Span). slice_range subparts config.first config.after) (take n (drop f configs))))) e
 
+-- once all configurations are passed, the best is the least that is allowed
+pub course-least : (s : Situation) (configs subparts : List Span) (course : Span) (n : ℕ) (best : Option (List ℕ)) → AreTables configs subparts → IsSpanWithin (length configs) course → n ≡ course.after
+    → best ≡ passed s None (choices_of_course configs subparts (record { first = course.first; after = n })) → best ≡ least_choice s (choices_of_course configs subparts course)
+course-least s configs subparts course n best tables span end is =
+    is ∙ ap (λ (k : ℕ). passed s None (choices_of_course configs subparts (record { first = course.first; after = k }))) end
+    ∙ passed-least s (choices_of_course configs subparts course) (ascending-course configs subparts tables.classes course tables.configs_cover tables.subparts_cover span.some span.within)
+
 pub covers-later : (spans : List Span) (first after low : ℕ) → CoversFrom first spans after → low ≤ first → AllByRecursion (λ t. low ≤ t.first) spans
 covers-later [] first after low h le = tt
 covers-later (s ∷ spans) first after low h le = (omega (arith, h.0), covers-later spans s.after after low h.2 (omega (arith, h.0, h.1)))
@@ -116,10 +123,10 @@ pub record IsConfig (classes : ℕ) (subparts : List Span) (s : Span) : Type 0 w
   pub spans : All (λ (p : Span). p.after ≤ classes) (slice_range subparts s.first s.after)
   pub order : AreInOrder (slice_range subparts s.first s.after)
 
-pub config-at : (configs subparts : List Span) (classes k : ℕ) (d : Span) → Covers configs (length subparts) → Covers subparts classes → k < length configs → IsConfig classes subparts (get_or configs k d)
-config-at configs subparts classes k d covered covering lt =
+pub config-at : (configs subparts : List Span) (k : ℕ) (d : Span) (tables : AreTables configs subparts) → k < length configs → IsConfig tables.classes subparts (get_or configs k d)
+config-at configs subparts k d tables lt =
     let s = get_or configs k d in
-    let within = span_within configs (length subparts) k d covered lt in
+    let within = span_within configs (length subparts) k d tables.configs_cover lt in
     let long = length-take (s.after - s.first) (drop s.first subparts) in
     let less = length-drop s.first subparts in
     record {
@@ -132,9 +139,9 @@ config-at configs subparts classes k d covered covering lt =
           let there : s.first + i < length subparts = omega (arith, long, less, within.within) in
           let is : get_or (slice_range subparts s.first s.after) i e ≡ get_or subparts (s.first + i) e =
           get_or-take (s.after - s.first) (drop s.first subparts) i e short ∙ get_or-drop s.first subparts i e in
-          rw is ((span_within subparts classes (s.first + i) e covering there).within);
+          rw is ((span_within subparts tables.classes (s.first + i) e tables.subparts_cover there).within);
       order =
-          let cut = covers-cut s.first subparts 0 classes covering in
-          let part = covers-cut (s.after - s.first) (drop s.first subparts) cut.place classes cut.rest in
+          let cut = covers-cut s.first subparts 0 tables.classes tables.subparts_cover in
+          let part = covers-cut (s.after - s.first) (drop s.first subparts) cut.place tables.classes cut.rest in
           covers-order (slice_range subparts s.first s.after) cut.place part.place part.front;
     }

@@ -1,16 +1,21 @@
 -- An enrolment, course by course.
-use Rattle.std.proofs.Common.{◌≡◌, ℕ, suc, zero, ◌+◌, ◌-◌, ◌<◌, ◌≤◌, Bool, true, false, cond, List, [], ◌∷◌, ◌++◌, Option, Some, None, length, get_or, map, take, drop, arith, refl, sym, ap, ◌∙◌, length-take, length-drop}
-use Rattle.std.specs.Prelude.{IfSome, filter}
+use Rattle.std.proofs.Common.{◌≡◌, ℕ, suc, zero, ◌+◌, ◌-◌, ◌<◌, ◌≤◌, List, [], ◌∷◌, ◌++◌, Option, Some, None, length, get_or, map, take, drop, arith, refl, sym, ap, ◌∙◌, length-take, length-drop}
 use Rattle.std.specs.List.{fold, range_with_len, AllByRecursion}
 use Rattle.std.specs.Option.{option_map}
 use Rattle.std.proofs.lemmas.List.{take_more, map-append, take-append-drop}
 use Rattle.std.proofs.lemmas.List.Sums.{fold_push, fold-append}
 use Rattle.tt_problem.specs.declared.parts.Span.{Span}
 use Rattle.tt_enrol.specs.Choices.{choices_of, each_before, course_choices, choices_of_course}
-use Rattle.tt_enrol.specs.Least.{Situation, is_allowed, is_less, lesser, least_choice}
+use Rattle.tt_enrol.specs.Least.{Situation, least_choice}
 use Rattle.tt_problem.specs.Seats.{spans_at}
 use Rattle.tt_enrol.specs.Students.{with_course, taken_in}
+use Rattle.tt_enrol.proofs.LeastLemmas.{IsAllowed, least_is}
 use Rattle.tt_enrol.proofs.Order.{all-append, all-weaken}
+
+-- where a course has no allowed choice, no more is taken
+pub none_stays : (at : List ℕ → Situation) (rest : List (List (List ℕ))) → fold (with_course at) None rest ≡ None
+none_stays at [] = refl
+none_stays at (course ∷ rest) = none_stays at rest
 
 module _ (at : List ℕ → Situation) (choices : ℕ → List (List ℕ)) (courses : List ℕ) (i : ℕ) (d : ℕ) (taken : List ℕ)
     (lt : i < length courses) (so_far : Some taken ≡ fold (with_course at) (Some []) (map choices (take i courses))) where
@@ -31,35 +36,8 @@ module _ (at : List ℕ → Situation) (choices : ℕ → List (List ℕ)) (cour
       let rest = map choices (drop (i + 1) courses) in
       let whole : map choices courses ≡ map choices (take (i + 1) courses) ++ rest =
       ap (map choices) (sym (take-append-drop (i + 1) courses)) ∙ map-append choices (take (i + 1) courses) (drop (i + 1) courses) in
-      sym (stays rest) ∙ ap (λ (o : Option (List ℕ)). fold (with_course at) o rest) none
+      sym (none_stays at rest) ∙ ap (λ (o : Option (List ℕ)). fold (with_course at) o rest) none
       ∙ sym (fold-append (with_course at) (Some []) (map choices (take (i + 1) courses)) rest) ∙ ap (fold (with_course at) (Some [])) (sym whole)
-    where
-      stays : (rest : List (List (List ℕ))) → fold (with_course at) None rest ≡ None
-      stays [] = refl
-      stays (course ∷ rest) = stays rest
-
--- what holds of each choice holds of the least
-module _ (P : List ℕ → Type 0) (s : Situation) (c : List ℕ) (choices : List (List ℕ)) (head : P c)
-    (rest : (b : Option (List ℕ)) → IfSome b P → IfSome (fold (lesser (is_less s)) b (filter (is_allowed s) choices)) P) where
-  either : (less : Bool) (b : List ℕ) → P b → P (cond less c b)
-  either true b h = head
-  either false b h = h
-
-  next : (b : Option (List ℕ)) → IfSome b P → IfSome (lesser (is_less s) b c) P
-  next None h = head
-  next (Some b) h = either (is_less s c b) b h
-
-  least-next : (allowed : Bool) (b : Option (List ℕ)) → IfSome b P → IfSome (fold (lesser (is_less s)) b (cond allowed (c ∷ filter (is_allowed s) choices) (filter (is_allowed s) choices))) P
-  least-next true b h = rest (lesser (is_less s) b c) (next b h)
-  least-next false b h = rest b h
-
-least-of : (P : List ℕ → Type 0) (s : Situation) (best : Option (List ℕ)) (choices : List (List ℕ)) → AllByRecursion P choices → IfSome best P
-    → IfSome (fold (lesser (is_less s)) best (filter (is_allowed s) choices)) P
-least-of P s best [] all h = h
-least-of P s best (c ∷ choices) all h = least-next P s c choices all.0 (λ b k. least-of P s b choices all.1 k) (is_allowed s c) best h
-
-pub least_choice-of : (P : List ℕ → Type 0) (s : Situation) (choices : List (List ℕ)) → AllByRecursion P choices → IfSome (least_choice s choices) P
-least_choice-of P s choices all = least-of P s None choices all tt
 
 long-map : (n c : ℕ) (choices : List (List ℕ)) → AllByRecursion (λ x. length x ≡ n) choices → AllByRecursion (λ x. length x ≡ suc n) (map (λ choice. c ∷ choice) choices)
 long-map n c [] h = tt
@@ -87,5 +65,6 @@ short-course subparts (s ∷ configs) =
 -- a choice has no more classes than there are subparts
 pub choice-short : (s : Situation) (configs subparts : List Span) (course : Span) (choice : List ℕ) → Some choice ≡ least_choice s (choices_of_course configs subparts course) → length choice ≤ length subparts
 choice-short s configs subparts course choice e =
-    let all = least_choice-of (λ x. length x ≤ length subparts) s (choices_of_course configs subparts course) (short-course subparts (spans_at configs course)) in
-    rw (← e) at all
+    let least : IsAllowed (λ x. length x ≤ length subparts) s choice =
+    rw (← e) at (least_is (λ x. length x ≤ length subparts) s (choices_of_course configs subparts course) (short-course subparts (spans_at configs course))) in
+    least.is

@@ -19,11 +19,14 @@ use Rattle.tt_struct.specs.Enrolments.{lists, count_in, takes, is_of_courses, ha
 use Rattle.tt_state.specs.Seats.{has_seat, first_without_seat}
 use Rattle.tt_state.specs.Snapshots.{Snapshot}
 use Rattle.tt_enrol.specs.Choices.{choices_at}
-use Rattle.tt_enrol.specs.Least.{Situation, is_one_of, is_allowed, least_choice}
+use Rattle.tt_enrol.specs.Least.{Situation, is_allowed, least_choice}
 use Rattle.tt_enrol.specs.Students.{parent_in, situation_of, with_course, taken_in, classes_found}
 use Rattle.tt_enrol.specs.Steps.{IsFoundFor}
-use Rattle.tt_enrol.proofs.CountLemmas.{count_of-append, one_of-lists}
-use Rattle.tt_enrol.proofs.ValidLemmas.{IsChoice, IsAllowed, IsTaken, are_choices, least_is, takes_at, same_takes, listed_of, takes_more, of_more, of_last, once_more}
+use Rattle.tt_enrol.proofs.CountLemmas.{count_of-append}
+use Rattle.tt_enrol.proofs.EnrolledLemmas.{none_stays}
+use Rattle.tt_enrol.proofs.LeastLemmas.{IsAllowed, least_is}
+use Rattle.tt_enrol.proofs.Order.{all-append}
+use Rattle.tt_enrol.proofs.ValidLemmas.{IsChoice, IsTaken, are_choices, takes_at, same_takes, listed_of, takes_more, of_more, of_last, once_more}
 
 both : (x y : Bool) → x ≡ true → y ≡ true → (x && y) ≡ true
 both x y h k = rw (h, k) refl
@@ -54,39 +57,41 @@ either_way true b e = refl
 either_way false true e = refl
 either_way false false e = e
 
--- the parents of an allowed choice are in it or taken, and its classes have seats
-parent_there : (taken choice : List ℕ) (o : Option ℕ) → option_map_or (λ q. is_one_of choice q || is_one_of taken q) o true ≡ true → option_map_or (lists (taken ++ choice)) o true ≡ true
-parent_there taken choice None e = e
-parent_there taken choice (Some q) e =
-    let words : (is_one_of choice q || is_one_of taken q) ≡ (lists choice q || lists taken q) = rw (one_of-lists choice q, one_of-lists taken q) refl in
-    list_any-append (λ (other : ℕ). other == q) taken choice ∙ either_way (lists taken q) (lists choice q) (sym words ∙ e)
+-- the class has no parent, or its parent is in the choice or taken
+abbrev has_parent_in : Parts → (taken choice : List ℕ) → ℕ → Bool
+has_parent_in p taken choice c = option_map_or (λ q. lists choice q || lists taken q) (parent_in p c) true
 
-class_there : (p : Parts) (taken choice : List ℕ) (c : ℕ) → c < length p.classes → option_map_or (λ q. is_one_of choice q || is_one_of taken q) (parent_in p c) true ≡ true → has_parent p (taken ++ choice) c ≡ true
+-- the parents of an allowed choice are in it or taken, and its classes have seats
+parent_there : (taken choice : List ℕ) (o : Option ℕ) → option_map_or (λ q. lists choice q || lists taken q) o true ≡ true → option_map_or (lists (taken ++ choice)) o true ≡ true
+parent_there taken choice None e = e
+parent_there taken choice (Some q) e = list_any-append (λ (other : ℕ). other == q) taken choice ∙ either_way (lists taken q) (lists choice q) e
+
+class_there : (p : Parts) (taken choice : List ℕ) (c : ℕ) → c < length p.classes → has_parent_in p taken choice c ≡ true → has_parent p (taken ++ choice) c ≡ true
 unfolding has_parent has_parent_of
 class_there p taken choice c below e = of_class (slice_get p.classes c) refl e
   where
-    of_class : (o : Option ClassPart) → slice_get p.classes c ≡ o → option_map_or (λ q. is_one_of choice q || is_one_of taken q) (option_map_or (λ part. part.parent) o None) true ≡ true
+    of_class : (o : Option ClassPart) → slice_get p.classes c ≡ o → option_map_or (λ q. lists choice q || lists taken q) (option_map_or (λ part. part.parent) o None) true ≡ true
         → option_map_or (has_parent_of (taken ++ choice)) o false ≡ true
     of_class None none h = absurd (slice_some p.classes c below none)
     of_class (Some part) some h = parent_there taken choice part.parent h
 
 -- so each class of an allowed choice has its parent and its seat
 module _ (p : Parts) (has : ℕ → Bool) (taken choice : List ℕ) where
-  allowed_parents : (list : List ℕ) → AllByRecursion (λ c. c < length p.classes) list → list_all (λ c. has c && option_map_or (λ q. is_one_of choice q || is_one_of taken q) (parent_in p c) true) list ≡ true
+  allowed_parents : (list : List ℕ) → AllByRecursion (λ c. c < length p.classes) list → list_all (λ c. has c && has_parent_in p taken choice c) list ≡ true
       → list_all (has_parent p (taken ++ choice)) list ≡ true
   allowed_parents [] below h = refl
   allowed_parents (c ∷ list) below h =
-      let test : ℕ → Bool = λ d. has d && option_map_or (λ q. is_one_of choice q || is_one_of taken q) (parent_in p d) true in
+      let test : ℕ → Bool = λ d. has d && has_parent_in p taken choice d in
       let parts = and_parts (test c) (list_all test list) h in
-      let own = and_parts (has c) (option_map_or (λ q. is_one_of choice q || is_one_of taken q) (parent_in p c) true) parts.0 in
+      let own = and_parts (has c) (has_parent_in p taken choice c) parts.0 in
       both (has_parent p (taken ++ choice) c) (list_all (has_parent p (taken ++ choice)) list) (class_there p taken choice c below.0 own.1) (allowed_parents list below.1 parts.1)
 
-  allowed_seats : (list : List ℕ) → list_all (λ c. has c && option_map_or (λ q. is_one_of choice q || is_one_of taken q) (parent_in p c) true) list ≡ true → list_all has list ≡ true
+  allowed_seats : (list : List ℕ) → list_all (λ c. has c && has_parent_in p taken choice c) list ≡ true → list_all has list ≡ true
   allowed_seats [] h = refl
   allowed_seats (c ∷ list) h =
-      let test : ℕ → Bool = λ d. has d && option_map_or (λ q. is_one_of choice q || is_one_of taken q) (parent_in p d) true in
+      let test : ℕ → Bool = λ d. has d && has_parent_in p taken choice d in
       let parts = and_parts (test c) (list_all test list) h in
-      let own = and_parts (has c) (option_map_or (λ q. is_one_of choice q || is_one_of taken q) (parent_in p c) true) parts.0 in
+      let own = and_parts (has c) (has_parent_in p taken choice c) parts.0 in
       both (has c) (list_all has list) own.0 (allowed_seats list parts.1)
 
 -- none of the courses to come is done, and none stands twice
@@ -107,19 +112,19 @@ are_new done (k ∷ rest) h d = (h.0, are_new (done ++ k ∷ []) rest (new_more 
 
 -- one course more
 module _ (p : Parts) (valid : IsValid p) (at : List ℕ → Situation) (has : ℕ → Bool)
-    (judged : (taken choice : List ℕ) → is_allowed (at taken) choice ≡ list_all (λ c. has c && option_map_or (λ q. is_one_of choice q || is_one_of taken q) (parent_in p c) true) choice) where
+    (judged : (taken choice : List ℕ) → is_allowed (at taken) choice ≡ list_all (λ c. has c && has_parent_in p taken choice c) choice) where
   taken_more : (done taken choice : List ℕ) (place : ℕ) → place < length p.courses → AllByRecursion (λ k. k < length p.courses) done → lists done place ≡ false
       → IsTaken p has done taken → IsAllowed (IsChoice p place) (at taken) choice → IsTaken p has (done ++ place ∷ []) (taken ++ choice)
   taken_more done taken choice place within before new h one =
-      let tests : list_all (λ c. has c && option_map_or (λ q. is_one_of choice q || is_one_of taken q) (parent_in p c) true) choice ≡ true = sym (judged taken choice) ∙ one.allowed in
+      let tests : list_all (λ c. has c && has_parent_in p taken choice c) choice ≡ true = sym (judged taken choice) ∙ one.allowed in
       let is = one.is in
       let here = takes_at p (taken ++ choice) place within in
       let sum : (t : Span) → count_in (taken ++ choice) t ≡ count_in choice t + count_in taken t = λ t. omega (arith, count_of-append taken choice t) in
       let own = same_takes p valid (taken ++ choice) choice taken place within sum (listed_of p done taken place h.of new) in
       let last : takes p (taken ++ choice) place ≡ true = here ∙ own ∙ is.takes in
       record {
-        below = all_joined (λ c. c < length p.classes) taken choice h.below is.below;
-        of = all_joined (λ c. option_map_or (lists (done ++ place ∷ [])) (course_of p c) false ≡ true) taken choice (of_more p done place taken h.of) (of_last p done place choice is.of);
+        below = all-append (λ c. c < length p.classes) taken choice h.below is.below;
+        of = all-append (λ c. option_map_or (lists (done ++ place ∷ [])) (course_of p c) false ≡ true) taken choice (of_more p done place taken h.of) (of_last p done place choice is.of);
         takes = list_all-append (takes p (taken ++ choice)) done (place ∷ []) ∙ both (list_all (takes p (taken ++ choice)) done) (takes p (taken ++ choice) place && true)
             (takes_more p valid taken choice place is.of done before new h.takes) (both (takes p (taken ++ choice) place) true last refl);
         once = once_more p done place taken choice h.of new is.of h.once is.once;
@@ -127,31 +132,19 @@ module _ (p : Parts) (valid : IsValid p) (at : List ℕ → Situation) (has : �
             (parents_kept p taken choice taken h.parents) (allowed_parents p has taken choice choice is.below tests);
         seats = list_all-append has taken choice ∙ both (list_all has taken) (list_all has choice) h.seats (allowed_seats p has taken choice choice tests);
       }
-    where
-      all_joined : (P : ℕ → Type 0) (xs ys : List ℕ) → AllByRecursion P xs → AllByRecursion P ys → AllByRecursion P (xs ++ ys)
-      all_joined P [] ys h k = k
-      all_joined P (x ∷ xs) ys h k = (h.0, all_joined P xs ys h.1 k)
-
-  stays : (rest : List ℕ) → fold (with_course at) None (map (choices_at p) rest) ≡ None
-  stays [] = refl
-  stays (k ∷ rest) = stays rest
-
-  within_more : (done : List ℕ) (k : ℕ) → AllByRecursion (λ k. k < length p.courses) done → k < length p.courses → AllByRecursion (λ k. k < length p.courses) (done ++ k ∷ [])
-  within_more [] k h lt = (lt, tt)
-  within_more (j ∷ done) k h lt = (h.0, within_more done k h.1 lt)
 
   taken_all : (done rest taken list : List ℕ) → AllByRecursion (λ k. k < length p.courses) done → AllByRecursion (λ k. k < length p.courses) rest → AreNew done rest → IsTaken p has done taken
       → Some list ≡ fold (with_course at) (Some taken) (map (choices_at p) rest) → IsTaken p has (done ++ rest) list
   taken_all done [] taken list before within new h e = let same : list ≡ taken = cc e in rw (same, append-nil done) h
   taken_all done (k ∷ rest) taken list before within new h e =
       step (least_choice (at taken) (choices_at p k)) refl (least_is (IsChoice p k) (at taken) (choices_at p k) (are_choices p k valid within.0))
-      (λ choice one more. rw (append_assoc done (k ∷ []) rest) at (taken_all (done ++ k ∷ []) rest (taken ++ choice) list (within_more done k before within.0) within.1 new.1 (taken_more done taken choice k within.0 before new.0 h one) more))
+      (λ choice one more. rw (append_assoc done (k ∷ []) rest) at (taken_all (done ++ k ∷ []) rest (taken ++ choice) list (all-append (λ j. j < length p.courses) done (k ∷ []) before (within.0, tt)) within.1 new.1 (taken_more done taken choice k within.0 before new.0 h one) more))
       e
     where
       step : (o : Option (List ℕ)) → least_choice (at taken) (choices_at p k) ≡ o → IfSome o (IsAllowed (IsChoice p k) (at taken))
           → ((choice : List ℕ) → IsAllowed (IsChoice p k) (at taken) choice → Some list ≡ fold (with_course at) (Some (taken ++ choice)) (map (choices_at p) rest) → IsTaken p has (done ++ k ∷ rest) list)
           → Some list ≡ fold (with_course at) (option_map (λ choice. taken ++ choice) o) (map (choices_at p) rest) → IsTaken p has (done ++ k ∷ rest) list
-      step None is one go e = absurd (none-some list (sym (e ∙ stays rest)))
+      step None is one go e = absurd (none-some list (sym (e ∙ none_stays at (map (choices_at p) rest))))
       step (Some choice) is one go e = go choice one e
 
 all_new : (rest : List ℕ) → AllByRecursion (λ j. lists [] j ≡ false) rest

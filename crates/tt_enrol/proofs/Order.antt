@@ -1,47 +1,42 @@
 -- In choices that ascend, the first that add the fewest pairs are the least.
-use Rattle.std.proofs.Common.{◌≡◌, ℕ, suc, zero, ◌+◌, ◌-◌, ◌<◌, ◌≤◌, Bool, true, false, cond, List, [], ◌∷◌, ◌++◌, Option, Some, None, length, map, arith, refl, ap, ◌∙◌, nat_eq, nat_lt}
-use Rattle.std.specs.Prelude.{◌&&◌, ◌||◌, filter}
-use Rattle.std.specs.List.{fold, range_with_len, AllByRecursion}
-use Rattle.std.proofs.lemmas.Bool.Decides.{nat_tests}
+use Rattle.std.proofs.Common.{◌≡◌, ℕ, suc, zero, ◌+◌, ◌-◌, ◌<◌, ◌≤◌, Bool, true, false, cond, List, [], ◌∷◌, ◌++◌, Option, Some, None, length, map, Ordering, arith, refl, sym, ap, ◌∙◌, nat_lt}
+use Rattle.std.specs.Prelude.{◌&&◌, ◌==◌, filter}
+use Rattle.std.specs.Cmp.{nat_cmp_is}
+use Rattle.std.specs.Cmp.Lexicographic.{slice_cmp}
+use Rattle.std.specs.List.{best_of, range_with_len, AllByRecursion}
+use Rattle.std.specs.Ordering.{nat_cmp, is_lt, ordering_then}
+use Rattle.std.specs.declared.cmp.Ordering.TheVariants.{Less, Equal, Greater}
+use Rattle.std.proofs.lemmas.Cmp.{nat_list_cmp_total}
+use Rattle.std.proofs.lemmas.List.MinMax.{ranks_by}
 use Rattle.tt_problem.specs.declared.parts.Span.{Span}
 use Rattle.tt_problem.specs.Spans.{CoversFrom}
 use Rattle.tt_enrol.specs.Choices.{each_before, choices_of}
-use Rattle.tt_enrol.specs.Least.{Situation, is_allowed, pairs_added, is_before, is_less, lesser, least_choice}
+use Rattle.tt_enrol.specs.Least.{Situation, is_allowed, pairs_added, comes_before, is_less, least, least_choice}
 use Rattle.tt_enrol.specs.Passed.{is_fewer, better, passed}
 
 -- each list comes before all later ones
 abbrev pub IsAscending : List (List ℕ) → Type 0
 IsAscending [] = Unit {0}
-IsAscending (x ∷ xs) = AllByRecursion (λ y. is_before x y ≡ true) xs × IsAscending xs
-
-pub not_both : (x y : ℕ) (b c : Bool) → (b ≡ true → c ≡ false) → (nat_lt x y || (nat_eq x y && b)) ≡ true → (nat_lt y x || (nat_eq y x && c)) ≡ false
-not_both x y b c h e = grind (arith, nat_tests)
-
-pub is_before-asym : (a b : List ℕ) → is_before a b ≡ true → is_before b a ≡ false
-is_before-asym [] [] h = refl
-is_before-asym [] (y ∷ ys) h = refl
-is_before-asym (x ∷ xs) [] h = cc h
-is_before-asym (x ∷ xs) (y ∷ ys) h = not_both x y (is_before xs ys) (is_before ys xs) (is_before-asym xs ys) h
+IsAscending (x ∷ xs) = AllByRecursion (λ y. comes_before x y ≡ true) xs × IsAscending xs
 
 -- the best so far, if any, comes before all that follow
 abbrev ComesBefore : Option (List ℕ) → List (List ℕ) → Type 0
 ComesBefore None choices = Unit {0}
-ComesBefore (Some b) choices = AllByRecursion (λ y. is_before b y ≡ true) choices
+ComesBefore (Some b) choices = AllByRecursion (λ y. comes_before b y ≡ true) choices
 
-or-no : (a b : Bool) (x y : ℕ) → b ≡ false → (a || (nat_eq x y && b)) ≡ a
-or-no true b x y h = refl
-or-no false b x y h = rw h (and-none (nat_eq x y))
+first_decides : (m n : ℕ) (o : Ordering) → is_lt o ≡ false → is_lt (ordering_then (nat_cmp m n) o) ≡ nat_lt m n
+first_decides m n o h = decides (nat_lt m n) (m == n)
   where
-    and-none : (c : Bool) → (c && false) ≡ false
-    and-none true = refl
-    and-none false = refl
+    decides : (less same : Bool) → is_lt (ordering_then (cond less Less (cond same Equal Greater)) o) ≡ less
+    decides true same = refl
+    decides false true = h
+    decides false false = refl
 
 -- the walk's step is the step to the lesser
-one_step : (s : Situation) (b c : List ℕ) → is_allowed s c ≡ true → is_before b c ≡ true → better s (Some b) c ≡ lesser (is_less s) (Some b) c
+one_step : (s : Situation) (b c : List ℕ) → is_allowed s c ≡ true → comes_before b c ≡ true → better s (Some b) c ≡ Some (cond (is_less s c b) c b)
 one_step s b c ok before =
-    let e : is_less s c b ≡ nat_lt (pairs_added s c) (pairs_added s b) =
-    or-no (nat_lt (pairs_added s c) (pairs_added s b)) (is_before c b) (pairs_added s c) (pairs_added s b) (is_before-asym b c before) in
-    steps (nat_lt (pairs_added s c) (pairs_added s b)) (is_allowed s c) (is_less s c b) ok e
+    let behind : comes_before c b ≡ false = (ranks_by nat_list_cmp_total (λ (choice : List ℕ). choice)).one_way b c before in
+    steps (nat_lt (pairs_added s c) (pairs_added s b)) (is_allowed s c) (is_less s c b) ok (first_decides (pairs_added s c) (pairs_added s b) (slice_cmp nat_cmp c b) behind)
   where
     steps : (fewer allowed less : Bool) → allowed ≡ true → less ≡ fewer → cond (fewer && allowed) (Some c) (Some b) ≡ Some (cond less c b)
     steps true allowed less ok e = rw (ok, e) refl
@@ -59,21 +54,27 @@ left : (fewer allowed : Bool) (best : Option (List ℕ)) (c : List ℕ) → allo
 left true allowed best c h = rw h refl
 left false allowed best c h = refl
 
-module _ (s : Situation) (c : List ℕ) (cs : List (List ℕ)) (head : AllByRecursion (λ y. is_before c y ≡ true) cs)
-    (rest : (b : Option (List ℕ)) → ComesBefore b cs → passed s b cs ≡ fold (lesser (is_less s)) b (filter (is_allowed s) cs)) where
+-- the least of a list, where something may have been found before it
+abbrev least_from : Situation → Option (List ℕ) → List (List ℕ) → Option (List ℕ)
+least_from s None choices = least (is_less s) choices
+least_from s (Some b) choices = Some (best_of (is_less s) b choices)
+
+module _ (s : Situation) (c : List ℕ) (cs : List (List ℕ)) (head : AllByRecursion (λ y. comes_before c y ≡ true) cs)
+    (rest : (b : Option (List ℕ)) → ComesBefore b cs → passed s b cs ≡ least_from s b (filter (is_allowed s) cs)) where
   one_more : (allowed : Bool) (best : Option (List ℕ)) → is_allowed s c ≡ allowed → ComesBefore best (c ∷ cs)
-      → passed s (better s best c) cs ≡ fold (lesser (is_less s)) best (cond allowed (c ∷ filter (is_allowed s) cs) (filter (is_allowed s) cs))
+      → passed s (better s best c) cs ≡ least_from s best (cond allowed (c ∷ filter (is_allowed s) cs) (filter (is_allowed s) cs))
   one_more true None ok before =
       let first : better s None c ≡ Some c = rw ok refl in
       ap (λ (b : Option (List ℕ)). passed s b cs) first ∙ rest (Some c) head
   one_more true (Some b) ok before =
-      ap (λ (z : Option (List ℕ)). passed s z cs) (one_step s b c ok before.0) ∙ rest (lesser (is_less s) (Some b) c) (one_of (is_less s c b) b c cs before.1 head)
+      ap (λ (z : Option (List ℕ)). passed s z cs) (one_step s b c ok before.0) ∙ rest (Some (cond (is_less s c b) c b)) (one_of (is_less s c b) b c cs before.1 head)
   one_more false best ok before =
       ap (λ (z : Option (List ℕ)). passed s z cs) (left (is_fewer s c best) (is_allowed s c) best c ok) ∙ rest best (comes_later best c cs before)
 
-pub agree : (s : Situation) (best : Option (List ℕ)) (choices : List (List ℕ)) → ComesBefore best choices → IsAscending choices
-    → passed s best choices ≡ fold (lesser (is_less s)) best (filter (is_allowed s) choices)
-agree s best [] before up = refl
+agree : (s : Situation) (best : Option (List ℕ)) (choices : List (List ℕ)) → ComesBefore best choices → IsAscending choices
+    → passed s best choices ≡ least_from s best (filter (is_allowed s) choices)
+agree s None [] before up = refl
+agree s (Some b) [] before up = refl
 agree s best (c ∷ cs) before up = one_more s c cs up.0 (λ b h. agree s b cs h up.1) (is_allowed s c) best refl before
 
 -- of choices that ascend, the walk finds the least that is allowed
@@ -97,29 +98,27 @@ pub weaker : (lo hi low high : ℕ) → low ≤ lo → hi ≤ high → (x : List
 weaker lo hi low high l h [] w = w
 weaker lo hi low high l h (c ∷ choice) w = (omega (arith, w.0), omega (arith, w.1))
 
-before_of : (lo m hi : ℕ) (x y : List ℕ) → BeginsWithin lo m x → BeginsWithin m hi y → is_before x y ≡ true
+before_of : (lo m hi : ℕ) (x y : List ℕ) → BeginsWithin lo m x → BeginsWithin m hi y → comes_before x y ≡ true
 before_of lo m hi [] y h k = absurd h
 before_of lo m hi (c ∷ x) [] h k = absurd k
-before_of lo m hi (c ∷ x) (d ∷ y) h k = less c d (is_before x y) (omega (arith, h.1, k.0))
-  where
-    less : (c d : ℕ) (b : Bool) → c < d → (nat_lt c d || (nat_eq c d && b)) ≡ true
-    less c d b lt = grind (arith, nat_tests)
+before_of lo m hi (c ∷ x) (d ∷ y) h k =
+    let less : c < d = omega (arith, h.1, k.0) in
+    ap (λ o. is_lt (ordering_then o (slice_cmp nat_cmp x y))) (sym (nat_cmp_is c d Less less))
 
 -- choices that all begin below m, and then choices that begin from m on
 pub ascending-joins : (lo m hi : ℕ) (xs ys : List (List ℕ)) → AllByRecursion (BeginsWithin lo m) xs → AllByRecursion (BeginsWithin m hi) ys → IsAscending xs → IsAscending ys
     → IsAscending (xs ++ ys)
 ascending-joins lo m hi [] ys h k up upper = upper
 ascending-joins lo m hi (x ∷ xs) ys h k up upper = (
-  all-append (λ y. is_before x y ≡ true) xs ys up.0 (all-weaken (BeginsWithin m hi) (λ y. is_before x y ≡ true) (λ y w. before_of lo m hi x y h.0 w) ys k),
+  all-append (λ y. comes_before x y ≡ true) xs ys up.0 (all-weaken (BeginsWithin m hi) (λ y. comes_before x y ≡ true) (λ y w. before_of lo m hi x y h.0 w) ys k),
   ascending-joins lo m hi xs ys h.1 k up.1 upper,
 )
 
-same_front : (c : ℕ) (x : List ℕ) (ys : List (List ℕ)) → AllByRecursion (λ y. is_before x y ≡ true) ys → AllByRecursion (λ y. is_before (c ∷ x) y ≡ true) (map (λ choice. c ∷ choice) ys)
+same_front : (c : ℕ) (x : List ℕ) (ys : List (List ℕ)) → AllByRecursion (λ y. comes_before x y ≡ true) ys → AllByRecursion (λ y. comes_before (c ∷ x) y ≡ true) (map (λ choice. c ∷ choice) ys)
 same_front c x [] h = tt
-same_front c x (y ∷ ys) h = (same c (is_before x y) h.0, same_front c x ys h.1)
-  where
-    same : (c : ℕ) (b : Bool) → b ≡ true → (nat_lt c c || (nat_eq c c && b)) ≡ true
-    same c b e = grind (arith, nat_tests)
+same_front c x (y ∷ ys) h =
+    let same : comes_before (c ∷ x) (c ∷ y) ≡ comes_before x y = ap (λ o. is_lt (ordering_then o (slice_cmp nat_cmp x y))) (sym (nat_cmp_is c c Equal refl)) in
+    (same ∙ h.0, same_front c x ys h.1)
 
 ascending-map : (c : ℕ) (xs : List (List ℕ)) → IsAscending xs → IsAscending (map (λ choice. c ∷ choice) xs)
 ascending-map c [] up = tt

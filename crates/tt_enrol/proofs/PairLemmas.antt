@@ -1,7 +1,8 @@
 -- Pairs that a choice adds, as it grows.
 use Rattle.std.proofs.Common.{◌≡◌, ℕ, ◌+◌, ◌*◌, ◌≤◌, Bool, cond, List, [], ◌∷◌, ◌++◌, length, count_by, sum_by, arith, refl}
 use Rattle.std.proofs.lemmas.List.Sums.{sum_by_push, sum_by-append, sum_by-cons, count_by-le-length}
-use Rattle.tt_enrol.specs.Least.{Situation, pairs_among, pairs_with_taken, pairs_added}
+use Rattle.tt_base.specs.Among.{pairs_among}
+use Rattle.tt_enrol.specs.Least.{Situation, pairs_with_taken, pairs_added}
 
 -- one more class adds its pairs with those before it
 pairs_among-push : (f : ℕ → ℕ → Bool) (front : List ℕ) (n : ℕ) → pairs_among f (front ++ n ∷ []) ≡ pairs_among f front + count_by (λ d. f d n) front

@@ -1,6 +1,6 @@
 -- What is found for a student is a valid enrolment, and each of its classes has a seat.
-use Rattle.std.proofs.Common.{◌≡◌, ℕ, ◌+◌, ◌-◌, ◌<◌, ◌≤◌, Bool, true, false, cond, List, [], ◌∷◌, ◌++◌, Option, Some, None, length, get_or, drop, arith, refl, sym, ap, ◌∙◌}
-use Rattle.std.specs.Prelude.{◌&&◌, ◌||◌, ◌==◌, not, IfSome, filter, fold}
+use Rattle.std.proofs.Common.{◌≡◌, ℕ, ◌+◌, ◌-◌, ◌<◌, ◌≤◌, Bool, true, false, List, [], ◌∷◌, ◌++◌, Option, Some, None, length, get_or, drop, arith, refl, sym, ap, ◌∙◌}
+use Rattle.std.specs.Prelude.{◌&&◌, ◌||◌, ◌==◌, not}
 use Rattle.std.specs.List.{list_all, AllByRecursion}
 use Rattle.std.specs.Option.{option_map_or}
 use Rattle.std.proofs.lemmas.Bool.{and_parts}
@@ -16,10 +16,10 @@ use Rattle.tt_problem.specs.Seats.{spans_at}
 use Rattle.tt_problem.proofs.SpanLemmas.{course_within}
 use Rattle.tt_struct.specs.Enrolments.{lists, has_no_repeat, count_in, takes_one, takes_course, takes, has_parent}
 use Rattle.tt_enrol.specs.Choices.{choices_of_course, choices_at}
-use Rattle.tt_enrol.specs.Least.{Situation, is_allowed, is_less, lesser, least_choice}
 use Rattle.tt_enrol.proofs.CourseLemmas.{covers-cut}
-use Rattle.tt_enrol.proofs.CountLemmas.{CountSame, count_of-append, count_of-none, takes_one-same}
+use Rattle.tt_enrol.proofs.CountLemmas.{CountSame, count_of-append, count_of-none, not_listed, takes_one-same}
 use Rattle.tt_enrol.proofs.ChoiceLemmas.{AreWithin, IsOfConfigs, of_configs, all-drop, all-take}
+use Rattle.tt_enrol.proofs.Order.{all-weaken}
 use Rattle.tt_enrol.proofs.PlaceLemmas.{AreOfCourse, AllOfCourse, of_course, of-course, no_course}
 
 -- What is known of a choice of the course at a place.
@@ -64,32 +64,6 @@ are_choices p place valid within =
     (choices_of_course p.configs p.subparts s)
     (of_configs p configs cut.place mine.place under.place (length p.classes) mine.front under.rest)
     (of-course p place p.subparts configs (of_course p valid place within) (some_each p.subparts configs (spans_some p.subparts 0 (length p.classes) valid.subparts))))
-
--- what is least of a list is one of it
-fold_of : (Q : List ℕ → Type 0) (less : List ℕ → List ℕ → Bool) (best : Option (List ℕ)) (choices : List (List ℕ)) → AllByRecursion Q choices → IfSome best Q → IfSome (fold (lesser less) best choices) Q
-fold_of Q less best [] all h = h
-fold_of Q less None (c ∷ choices) all h = fold_of Q less (Some c) choices all.1 all.0
-fold_of Q less (Some b) (c ∷ choices) all h = fold_of Q less (lesser less (Some b) c) choices all.1 (either (less c b))
-  where
-    either : (l : Bool) → Q (cond l c b)
-    either true = all.0
-    either false = h
-
--- an allowed choice that has what all have
-pub record IsAllowed (P : List ℕ → Type 0) (s : Situation) (choice : List ℕ) : Type 0 where
-  pub is : P choice
-  pub allowed : is_allowed s choice ≡ true
-
-kept : (P : List ℕ → Type 0) (s : Situation) (choices : List (List ℕ)) → AllByRecursion P choices → AllByRecursion (IsAllowed P s) (filter (is_allowed s) choices)
-kept P s [] h = tt
-kept P s (c ∷ choices) h = one (is_allowed s c) refl (kept P s choices h.1)
-  where
-    one : (b : Bool) → is_allowed s c ≡ b → AllByRecursion (IsAllowed P s) (filter (is_allowed s) choices) → AllByRecursion (IsAllowed P s) (cond b (c ∷ filter (is_allowed s) choices) (filter (is_allowed s) choices))
-    one true e rest = (record { is = h.0; allowed = e }, rest)
-    one false e rest = rest
-
-pub least_is : (P : List ℕ → Type 0) (s : Situation) (choices : List (List ℕ)) → AllByRecursion P choices → IfSome (least_choice s choices) (IsAllowed P s)
-least_is P s choices h = fold_of (IsAllowed P s) (is_less s) None (filter (is_allowed s) choices) (kept P s choices h) tt
 
 -- a class is of one of some courses
 abbrev pub is_of : Parts → List ℕ → ℕ → Bool
@@ -148,34 +122,24 @@ same_takes p valid a b more place within sum apart =
     let configs = spans_at p.configs (get_or p.courses place no_course).configs in
     takes_one-same p a b configs (same_configs p a b more place sum apart configs (of_course p valid place within))
 
--- a class of a list is of what all its classes are of
+-- a class of no course done is not in a list whose classes are of these
 pub listed_of : (p : Parts) (done : List ℕ) (taken : List ℕ) (place : ℕ) → AllByRecursion (λ c. is_of p done c ≡ true) taken → lists done place ≡ false → (c : ℕ) → course_of p c ≡ Some place → lists taken c ≡ false
-listed_of p done [] place h new c of = refl
-listed_of p done (d ∷ taken) place h new c of = rw (apart (d == c) refl, listed_of p done taken place h.1 new c of) refl
+listed_of p done taken place h new c of = not_listed taken c (all-weaken (λ d. is_of p done d ≡ true) (λ d. d ≡ c → ⊥) apart taken h)
   where
-    same : (d == c) ≡ true → d ≡ c
-    same e = grind (arith, nat_tests)
-
-    apart : (b : Bool) → (d == c) ≡ b → (d == c) ≡ false
-    apart false e = e
-    apart true e =
-        let there : is_of p done d ≡ lists done place = ap (λ (o : Option ℕ). option_map_or (lists done) o false) (ap (course_of p) (same e) ∙ of) in
-        let no : true ≡ false = sym h.0 ∙ there ∙ new in
+    apart : (d : ℕ) → is_of p done d ≡ true → d ≡ c → ⊥
+    apart d is same =
+        let no : true ≡ false = sym is ∙ ap (λ (o : Option ℕ). option_map_or (lists done) o false) (ap (course_of p) same ∙ of) ∙ new in
         cc no
 
--- the same where all are of one course
-listed_in : (p : Parts) (choice : List ℕ) (place other : ℕ) → AllOfCourse p place choice → (other ≡ place → ⊥) → (c : ℕ) → course_of p c ≡ Some other → lists choice c ≡ false
-listed_in p [] place other h ne c of = refl
-listed_in p (d ∷ choice) place other h ne c of = rw (apart (d == c) refl, listed_in p choice place other h.1 ne c of) refl
+listed_last : (done : List ℕ) (k : ℕ) → lists (done ++ k ∷ []) k ≡ true
+listed_last done k = list_any-append (λ (other : ℕ). other == k) done (k ∷ []) ∙ last (lists done k) k
   where
-    same : (d == c) ≡ true → d ≡ c
-    same e = grind (arith, nat_tests)
+    last : (b : Bool) (k : ℕ) → (b || ((k == k) || false)) ≡ true
+    last b k = grind (arith, nat_tests)
 
-    apart : (b : Bool) → (d == c) ≡ b → (d == c) ≡ false
-    apart false e = e
-    apart true e =
-        let both_of : Some other ≡ Some place = sym of ∙ ap (course_of p) (sym (same e)) ∙ h.0 in
-        absurd (ne (cc both_of))
+pub of_last : (p : Parts) (done : List ℕ) (k : ℕ) (choice : List ℕ) → AllOfCourse p k choice → AllByRecursion (λ c. is_of p (done ++ k ∷ []) c ≡ true) choice
+of_last p done k [] h = tt
+of_last p done k (c ∷ choice) h = (ap (λ (o : Option ℕ). option_map_or (lists (done ++ k ∷ [])) o false) h.0 ∙ listed_last done k, of_last p done k choice h.1)
 
 -- the courses done keep what they have, where classes of another course come
 pub takes_more : (p : Parts) (valid : IsValid p) (taken choice : List ℕ) (place : ℕ) → AllOfCourse p place choice → (done : List ℕ) → AllByRecursion (λ k. k < length p.courses) done → lists done place ≡ false
@@ -185,22 +149,16 @@ takes_more p valid taken choice place of (k ∷ done) within new h =
     let parts = and_parts (takes p taken k) (list_all (takes p taken) done) h in
     let here = takes_at p taken k within.0 in
     let there = takes_at p (taken ++ choice) k within.0 in
-    let same = same_takes p valid (taken ++ choice) taken choice k within.0 (λ t. count_of-append taken choice t) (listed_in p choice place k of (differs k place (lists done place) new)) in
+    let same = same_takes p valid (taken ++ choice) taken choice k within.0 (λ t. count_of-append taken choice t) (listed_of p (place ∷ []) choice k (of_last p [] place choice of) (differs k place (lists done place) new)) in
     both (takes p (taken ++ choice) k) (list_all (takes p (taken ++ choice)) done) (there ∙ same ∙ sym here ∙ parts.0)
     (takes_more p valid taken choice place of done within.1 (rest (k == place) (lists done place) new) parts.1)
   where
-    differs : (k place : ℕ) (b : Bool) → ((k == place) || b) ≡ false → k ≡ place → ⊥
-    differs k place b e same = grind (arith, nat_tests)
+    differs : (k place : ℕ) (b : Bool) → ((k == place) || b) ≡ false → ((place == k) || false) ≡ false
+    differs k place b e = grind (arith, nat_tests)
 
     rest : (x y : Bool) → (x || y) ≡ false → y ≡ false
     rest true y e = absurd (cc e)
     rest false y e = e
-
-listed_last : (done : List ℕ) (k : ℕ) → lists (done ++ k ∷ []) k ≡ true
-listed_last done k = list_any-append (λ (other : ℕ). other == k) done (k ∷ []) ∙ last (lists done k) k
-  where
-    last : (b : Bool) (k : ℕ) → (b || ((k == k) || false)) ≡ true
-    last b k = grind (arith, nat_tests)
 
 listed_more : (done : List ℕ) (k c : ℕ) → lists done c ≡ true → lists (done ++ k ∷ []) c ≡ true
 listed_more done k c h = list_any-append (λ (other : ℕ). other == c) done (k ∷ []) ∙ rw h refl
@@ -213,17 +171,13 @@ of_more p done k (c ∷ taken) h = (more (course_of p c) h.0, of_more p done k t
     more None e = e
     more (Some j) e = listed_more done k j e
 
-pub of_last : (p : Parts) (done : List ℕ) (k : ℕ) (choice : List ℕ) → AllOfCourse p k choice → AllByRecursion (λ c. is_of p (done ++ k ∷ []) c ≡ true) choice
-of_last p done k [] h = tt
-of_last p done k (c ∷ choice) h = (ap (λ (o : Option ℕ). option_map_or (lists (done ++ k ∷ [])) o false) h.0 ∙ listed_last done k, of_last p done k choice h.1)
-
 -- no class stands twice where the two lists have none twice and none in common
 pub once_more : (p : Parts) (done : List ℕ) (place : ℕ) (taken choice : List ℕ) → AllByRecursion (λ c. is_of p done c ≡ true) taken → lists done place ≡ false → AllOfCourse p place choice
     → has_no_repeat taken ≡ true → has_no_repeat choice ≡ true → has_no_repeat (taken ++ choice) ≡ true
 once_more p done place [] choice h new of once other = other
 once_more p done place (c ∷ taken) choice h new of once other =
     let parts = and_parts (not (lists taken c)) (has_no_repeat taken) once in
-    let none : lists choice c ≡ false = absent choice of in
+    let none : lists choice c ≡ false = not_listed choice c (all-weaken (λ d. course_of p d ≡ Some place) (λ d. d ≡ c → ⊥) apart choice of) in
     let joined : lists (taken ++ choice) c ≡ (lists taken c || lists choice c) = list_any-append (λ (d : ℕ). d == c) taken choice in
     both (not (lists (taken ++ choice) c)) (has_no_repeat (taken ++ choice)) (ap not (joined ∙ ap (λ (b : Bool). lists taken c || b) none) ∙ or_none (lists taken c) parts.0)
     (once_more p done place taken choice h.1 new of parts.1 other)
@@ -232,16 +186,7 @@ once_more p done place (c ∷ taken) choice h new of once other =
     or_none true e = e
     or_none false e = refl
 
-    same : (d : ℕ) → (d == c) ≡ true → d ≡ c
-    same d e = grind (arith, nat_tests)
-
-    apart : (d : ℕ) (b : Bool) → (d == c) ≡ b → course_of p d ≡ Some place → (d == c) ≡ false
-    apart d false e is = e
-    apart d true e is =
-        let there : is_of p done c ≡ lists done place = ap (λ (o : Option ℕ). option_map_or (lists done) o false) (ap (course_of p) (sym (same d e)) ∙ is) in
-        let no : true ≡ false = sym h.0 ∙ there ∙ new in
+    apart : (d : ℕ) → course_of p d ≡ Some place → d ≡ c → ⊥
+    apart d is same =
+        let no : true ≡ false = sym h.0 ∙ ap (λ (o : Option ℕ). option_map_or (lists done) o false) (ap (course_of p) (sym same) ∙ is) ∙ new in
         cc no
-
-    absent : (list : List ℕ) → AllOfCourse p place list → lists list c ≡ false
-    absent [] all = refl
-    absent (d ∷ list) all = rw (apart d (d == c) refl all.0, absent list all.1) refl

@@ -8,7 +8,7 @@ ghost use Rattle.tt_enrol.specs.Choices.{choices_of, choices_of_course};
 ghost use Rattle.tt_enrol.specs.Standings.{situation_in};
 ghost use Rattle.tt_enrol.specs.Found.{chosen, chosen_by, has_fewer, is_orphan, may_follow, pairs_if_open, IsFoundIn};
 
-use crate::standing::{Standing, is_one_of};
+use crate::standing::Standing;
 use tt_problem::Span;
 
 /// A choice found: how many classes it has, and how many conflicting pairs it adds.
@@ -34,7 +34,7 @@ fn is_orphan(standing: &Standing, taken: &[u32], front: &[u32], class: u32) -> b
 {
     match standing.parent_of(class) {
         None => false,
-        Some(parent) => { parent < class && !is_one_of(front, parent) && !is_one_of(taken, parent) }
+        Some(parent) => parent < class && !front.contains(&parent) && !taken.contains(&parent),
     }
 }
 

@@ -1,7 +1,6 @@
 ghost use Rattle.std.specs.Prelude.{◌≡◌, ℕ, ◌<◌, Some};
 ghost use Rattle.tt_bits.specs.Spots.{spot_at};
 ghost use Rattle.tt_bits.specs.declared.times.Spot.{Spot};
-ghost use Rattle.tt_enrol.specs.Least.{is_one_of};
 
 use tt_bits::Spot;
 use tt_problem::Problem;
@@ -109,7 +108,7 @@ impl<'a> Standing<'a> {
     {
         match self.parent_of(class) {
             None => true,
-            Some(parent) => is_one_of(choice, parent) || is_one_of(taken, parent),
+            Some(parent) => choice.contains(&parent) || taken.contains(&parent),
         }
     }
 
@@ -119,11 +118,4 @@ impl<'a> Standing<'a> {
     {
         choice.iter().all(|class| self.has_seat(*class) && self.has_parent(taken, choice, *class))
     }
-}
-
-/// Whether a class is one of a list.
-pub fn is_one_of(classes: &[u32], class: u32) -> bool
-    ensures { result ≡ is_one_of classes.now class }
-{
-    classes.iter().any(|other| class == *other)
 }

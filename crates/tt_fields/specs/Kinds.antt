@@ -60,13 +60,9 @@ a_text p = or_wrong p (as_str p.value)
 unfoldable pub a_set : {A : Type 0} → (List ℕ → ℕ → Option A) → ℕ → Part → Result A Fault
 a_set read n p = a_text p >>= λ text. or_fault 35 p (read text n)
 
--- the part, whose members were found
-abbrev pub with_members : Part → Members → Result Part Fault
-with_members p ms = Ok p
-
 -- an object
 unfoldable pub an_object : Part → Result Part Fault
-an_object p = or_wrong p (as_object p.value) >>= with_members p
+an_object p = or_wrong p (as_object p.value) >>= λ members. Ok p
 
 -- the items of the list at this path, from place i on, each with its path
 abbrev pub items_at : List ℕ → ℕ → Items → List Part

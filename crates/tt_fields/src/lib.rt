@@ -20,6 +20,3 @@ pub use kinds::{
 pub use lists::{ItemTable, NextTable, read_each, read_onto};
 pub use part::{Fault, Part, no_json, whole};
 pub use trail::Trail;
-
-#[cfg(test)]
-mod tests;

@@ -10,8 +10,6 @@ mod real;
 mod sink;
 mod sure_files;
 mod sure_sink;
-#[cfg(test)]
-mod tests;
 mod told;
 mod whole;
 

@@ -1,4 +1,4 @@
--- The laws of MaxDays.
+-- The laws of MaxDays. Proofs alone need them.
 use Rattle.std.proofs.Common.{◌≡◌, ◌∙◌, ℕ, ◌-◌, ◌<◌, ◌≤◌, ◌^◌, Bool, true, false, cond, List, [], ◌∷◌, Option, Some, None, length, pos, refl, ap, zero, suc, arith, lit<}
 use Rattle.std.specs.Prelude.{◌+ℤ◌, ◌-ℤ◌, ◌||◌, slice_set, replicate, count_by}
 use Rattle.std.specs.List.{list_any}

@@ -1,4 +1,4 @@
--- The laws of MaxDayLoad.
+-- The laws of MaxDayLoad. Proofs alone need them.
 use Rattle.std.proofs.Common.{◌≡◌, ℕ, ◌+◌, ◌-◌, ◌*◌, ◌<◌, ◌≤◌, ◌^◌, Bool, cond, List, [], ◌∷◌, Option, Some, None, length, pos, ap, arith, inl, inr}
 use Rattle.std.specs.Prelude.{◌+ℤ◌, slice_set, replicate, filter}
 use Rattle.std.proofs.lemmas.Bool.{cases_Bool}

@@ -51,39 +51,3 @@ fn push_text(out: &mut Vec<u8>, text: &str) -> Result<(), AllocError>
 {
     out.extend_from_slice(text.as_bytes())
 }
-
-#[cfg(test)]
-mod tests {
-    use super::make_text;
-    use std::test::Fail;
-
-    // As a program apart from this one makes it.
-    const ONE_CLASS: &str =
-        r#"{"courses":[{"configs":[{"id":1,"subparts":[{"classes":[{"id":1,"limit":50,"rooms":[{"id":2,"penalty":4},{"id":1,"penalty":3},{"id":1,"penalty":3},{"id":2,"penalty":0}],"times":[{"days":"1010000","length":16,"penalty":2,"start":180,"weeks":"0101010101010"},{"days":"0101000","length":22,"penalty":4,"start":168,"weeks":"1010101010101"},{"days":"0100000","length":22,"penalty":0,"start":192,"weeks":"1010101010101"},{"days":"1000000","length":22,"penalty":1,"start":192,"weeks":"1111111111111"},{"days":"1010000","length":22,"penalty":4,"start":156,"weeks":"1111111111111"},{"days":"0101000","length":22,"penalty":1,"start":120,"weeks":"0101010101010"}]}],"id":1}]}],"id":1}],"distributions":[],"name":"generated","nrDays":7,"nrWeeks":13,"optimization":{"distribution":1,"room":1,"student":2,"time":2},"rooms":[{"capacity":60,"id":1},{"capacity":60,"id":2,"travel":[{"room":1,"value":3}]}],"slotsPerDay":288,"students":[{"courses":[1,1,1,1],"id":1},{"courses":[1,1,1,1],"id":2},{"courses":[1,1,1,1],"id":3}]}"#;
-
-    #[test]
-    fn makes_the_text_of_one_class(rt: HostRuntime) -> Result<(), Fail> {
-        let text = make_text(rt.alloc(), 1, 1)?;
-        assert_eq!(rt; text.as_slice(), ONE_CLASS.as_bytes());
-        Ok(())
-    }
-
-    // The hash of a text, by FNV-1a on 64 bits.
-    fn hash_of(text: &[u8]) -> u64 {
-        let mut hash: u64 = 0xcbf2_9ce4_8422_2325;
-        for byte in text {
-            hash = (hash ^ u64::from(*byte)).wrapping_mul(0x0100_0000_01b3);
-        }
-        hash
-    }
-
-    // With closed rooms, all nineteen types, and three classes in the last course. The numbers are
-    // those of the text that a program apart from this one makes.
-    #[test]
-    fn makes_the_text_of_many_classes(rt: HostRuntime) -> Result<(), Fail> {
-        let text = make_text(rt.alloc(), 7, 87)?;
-        assert_eq!(rt; text.len(), 67_936);
-        assert_eq!(rt; hash_of(&text), 3_853_681_403_258_161_583);
-        Ok(())
-    }
-}

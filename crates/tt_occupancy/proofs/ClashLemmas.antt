@@ -5,6 +5,7 @@ use Rattle.std.proofs.lemmas.Bool.Decides.{nat_tests}
 use Rattle.std.specs.Option.{option_map_or}
 use Rattle.std.proofs.lemmas.List.Sums.{sum_by-cons, sum_by-set, count_by-le-length}
 use Rattle.std.proofs.lemmas.List.{length-replicate, length-set}
+use Rattle.tt_base.proofs.AmongLemmas.{twice-pairs}
 use Rattle.tt_bits.specs.declared.times.Spot.{Spot}
 use Rattle.tt_bits.specs.Pairs.{is_one_room}
 use Rattle.tt_bits.specs.Spots.{spot_at, IsEmptyAt, placed}
@@ -77,27 +78,9 @@ cells_taken-take h p x full =
     let was : f (spot_at h p) ≡ room_cells x = ap f full in
     omega (arith, change, was)
 
--- one more class makes as many more pairs as there were classes
-more_pairs : (n c s : ℕ) → c ≤ n → 2 * s ≤ n * (n - 1) → 2 * (c + s) ≤ suc n * (suc n - 1)
-more_pairs zero c s few h = omega arith
-more_pairs (suc n) c s few h =
-    let fewer : suc n - 1 ≡ n = omega arith in
-    let more : suc (suc n) - 1 ≡ suc n = omega arith in
-    let had = rw fewer at h in
-    rw more (omega arith)
-
-pub twice-clash_pairs : (h : List (Option Spot)) → 2 * clash_pairs h ≤ length h * (length h - 1)
-twice-clash_pairs [] = omega arith
-twice-clash_pairs (None ∷ h) =
-    omega (arith, more_pairs (length h) 0 (clash_pairs h) (omega arith) (twice-clash_pairs h))
-twice-clash_pairs (Some x ∷ h) =
-    let few = count_by-le-length (clash x) (placed h) in
-    let all = length-placed h in
-    more_pairs (length h) (count_by (clash x) (placed h)) (clash_pairs h) (omega (arith, few, all)) (twice-clash_pairs h)
-
 pub few_clashes : (h : List (Option Spot)) → length h < 2 ^ 32 → clash_pairs h < 2 ^ 63
 few_clashes h few =
-    let product : length h * (length h - 1) ≤ 4294967295 * 4294967295 = grind arith in omega (arith, twice-clash_pairs h, product)
+    let product : length h * (length h - 1) ≤ 4294967295 * 4294967295 = grind arith in omega (arith, twice-pairs clash (placed h) (length h) (length-placed h), product)
 
 -- what is kept where nobody is placed
 pub AreCounted-new : (n spare : ℕ) → spare < 4294967295 → n < 2 ^ 32 → AreCounted (replicate n None) spare 0

@@ -1,6 +1,7 @@
 -- Placed classes that have the same room and overlap.
-use Rattle.std.specs.Prelude.{ℕ, ◌+◌, Bool, false, not, ◌&&◌, ◌==◌, List, [], ◌∷◌, Option, None, slice_set, count_by, sum_by}
+use Rattle.std.specs.Prelude.{ℕ, Bool, false, not, ◌&&◌, ◌==◌, List, Option, None, slice_set, count_by, sum_by}
 use Rattle.std.specs.Option.{option_map_or}
+use Rattle.tt_base.specs.Among.{pairs_among}
 use Rattle.tt_bits.specs.declared.times.Spot.{Spot}
 use Rattle.tt_bits.specs.Pairs.{is_one_room}
 use Rattle.tt_bits.specs.Times.{overlaps}
@@ -10,14 +11,9 @@ use Rattle.tt_bits.specs.Spots.{spot_at, placed, cell_count}
 unfoldable pub clash : Spot → Spot → Bool
 clash a b = is_one_room a.room b.room && overlaps a.time b.time
 
--- how many pairs of spots clash, each spot with each later one
-abbrev pub clashes_among : List Spot → ℕ
-clashes_among [] = 0
-clashes_among (x ∷ xs) = count_by (clash x) xs + clashes_among xs
-
--- how many pairs of placed classes clash
+-- how many pairs of placed classes clash, each class with each later one
 abbrev pub clash_pairs : List (Option Spot) → ℕ
-clash_pairs spots = clashes_among (placed spots)
+clash_pairs spots = pairs_among clash (placed spots)
 
 -- how many placed classes clash with a spot, one class left out
 abbrev pub clash_count : List (Option Spot) → Spot → (except : ℕ) → ℕ

@@ -1,7 +1,8 @@
--- The laws of violated pairs, for each kind alike.
+-- The laws of violated pairs, for each kind alike. Proofs alone need them.
 use Rattle.std.proofs.Common.{◌≡◌, ℕ, ◌+◌, ◌-◌, ◌*◌, ◌/◌, ◌<◌, ◌≤◌, ◌^◌, List, [], ◌∷◌, Option, Some, None, length, count_by, take, pos, refl, ap, zero, suc, arith, cond}
 use Rattle.std.specs.Prelude.{◌+ℤ◌, slice_set, slice_index_or, replicate, IfSome}
-use Rattle.std.proofs.lemmas.List.Sums.{sum_by-cons, count_by-le-length}
+use Rattle.std.proofs.lemmas.List.Sums.{sum_by-cons}
+use Rattle.tt_base.proofs.AmongLemmas.{twice-pairs}
 use Rattle.tt_bits.specs.declared.pairs.PairKind.{PairKind}
 use Rattle.tt_bits.specs.declared.times.Spot.{Spot}
 use Rattle.tt_bits.proofs.SetLemmas.{week_set-lt}
@@ -33,27 +34,9 @@ pub violated_pairs-split : (kind : PairKind) (t : Table) (h : List (Option Spot)
     → pos (violated_pairs kind t (slice_set h p (Some x))) ≡ pos (violated_pairs kind t h) +ℤ pos (violated_with kind t h p x)
 violated_pairs-split kind t h p x e = ap pos (violated_pairs-set kind t h p x e)
 
--- one more member makes as many more pairs as there were members
-more_pairs : (n c s : ℕ) → c ≤ n → 2 * s ≤ n * (n - 1) → 2 * (c + s) ≤ suc n * (suc n - 1)
-more_pairs zero c s few h = omega arith
-more_pairs (suc n) c s few h =
-    let fewer : suc n - 1 ≡ n = omega arith in
-    let more : suc (suc n) - 1 ≡ suc n = omega arith in
-    let had = rw fewer at h in
-    rw more (omega arith)
-
-twice-violated_pairs : (kind : PairKind) (t : Table) (h : List (Option Spot)) → 2 * violated_pairs kind t h ≤ length h * (length h - 1)
-twice-violated_pairs kind t [] = omega arith
-twice-violated_pairs kind t (None ∷ h) =
-    omega (arith, more_pairs (length h) 0 (violated_pairs kind t h) (omega arith) (twice-violated_pairs kind t h))
-twice-violated_pairs kind t (Some x ∷ h) =
-    let few = count_by-le-length (is_violated kind t x) (placed h) in
-    let all = length-placed h in
-    more_pairs (length h) (count_by (is_violated kind t x) (placed h)) (violated_pairs kind t h) (omega (arith, few, all)) (twice-violated_pairs kind t h)
-
 -- no more pairs than the members have
 pub violated_pairs-most : (kind : PairKind) (t : Table) (h : List (Option Spot)) → violated_pairs kind t h ≤ length h * (length h - 1) / 2
-violated_pairs-most kind t h = omega (arith, twice-violated_pairs kind t h)
+violated_pairs-most kind t h = omega (arith, twice-pairs (is_violated kind t) (placed h) (length h) (length-placed h))
 
 -- so many members as a rule has make few pairs
 pub few_pairs : (n : ℕ) → n ≤ most_members → n * (n - 1) / 2 < 2 ^ 62

@@ -1,5 +1,6 @@
 -- The pairs of placed members that break a rule.
-use Rattle.std.specs.Prelude.{◌≡◌, ℕ, ◌+◌, Bool, not, List, [], ◌∷◌, Option, count_by, take, drop, suc}
+use Rattle.std.specs.Prelude.{◌≡◌, ℕ, ◌+◌, Bool, not, List, Option, count_by, take, drop, suc}
+use Rattle.tt_base.specs.Among.{pairs_among}
 use Rattle.tt_bits.specs.declared.pairs.PairKind.{PairKind}
 use Rattle.tt_bits.specs.declared.times.Spot.{Spot}
 use Rattle.tt_bits.specs.Pairs.{pair_holds}
@@ -11,14 +12,9 @@ use Rattle.tt_travel.specs.Table.{Table, between}
 unfoldable pub is_violated : PairKind → Table → Spot → Spot → Bool
 is_violated kind t a b = not (pair_holds kind a b (between t a.room b.room))
 
--- how many pairs of spots break the rule, each spot with each later one
-abbrev pub violated_among : PairKind → Table → List Spot → ℕ
-violated_among kind t [] = 0
-violated_among kind t (x ∷ xs) = count_by (is_violated kind t x) xs + violated_among kind t xs
-
--- how many pairs of placed members break the rule
+-- how many pairs of placed members break the rule, each member with each later one
 abbrev pub violated_pairs : PairKind → Table → List (Option Spot) → ℕ
-violated_pairs kind t h = violated_among kind t (placed h)
+violated_pairs kind t h = pairs_among (is_violated kind t) (placed h)
 
 -- how many placed members break the rule with a spot in an empty place: those before it, and those after it
 abbrev pub violated_with : PairKind → Table → List (Option Spot) → ℕ → Spot → ℕ

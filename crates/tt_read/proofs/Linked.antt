@@ -1,7 +1,8 @@
 -- Parts of which each reference was looked up.
 use Rattle.std.proofs.Common.{◌≡◌, ℕ, ◌<◌, ◌≤◌, List, length, map, Option, Some, None, Ok, Err, sym, ap, subst, ◌∙◌, arith}
-use Rattle.std.specs.Prelude.{All, IfSome, option_map, nat_eq}
+use Rattle.std.specs.Prelude.{All, nat_eq}
 use Rattle.std.specs.List.{IsDistinct}
+use Rattle.std.proofs.lemmas.Option.{IfSome_then}
 use Rattle.std.proofs.lemmas.List.{length-map}
 use Rattle.std.proofs.lemmas.List.Elements.{All-weaker}
 use Rattle.tt_problem.specs.declared.parts.RoomChoice.{RoomChoice}
@@ -16,6 +17,7 @@ use Rattle.tt_fields.specs.declared.answer.FileFault.{FileFault}
 use Rattle.tt_fields.specs.declared.answer.FileFault.TheVariants as faults
 use Rattle.tt_fields.specs.Answer.{Fails}
 use Rattle.tt_fields.specs.List.{items_of, known_of, IsAmong}
+use Rattle.tt_fields.proofs.KnownLemmas.{below}
 use Rattle.tt_tree.specs.declared.context as context
 use Rattle.tt_tree.specs.declared.rooms as rooms
 use Rattle.tt_tree.specs.declared.courses as courses
@@ -32,20 +34,6 @@ use Rattle.tt_read.specs.Tables.{Shape, known, parts_with, linked_of}
 pub ids_count : {X : Type 0} (ids : List ℕ) (xs : List X) (id_of : X → ℕ) → ids ≡ map id_of xs → length ids ≡ length xs
 ids_count ids xs id_of are = ap (λ (l : List ℕ). length l) are ∙ length-map xs id_of
 
--- ---- places among known ids are places of parts
-
-below_of : {I : Type 0} (keys : I → List ℕ) (ids : Option I) (l : List ℕ) (n place : ℕ) → option_map keys ids ≡ Some l → length l ≡ n
-    → IfSome ids (λ x. place < length (keys x)) → place < n
-below_of keys None l n place are count among = absurd (cc)
-below_of keys (Some x) l n place are count among = let e : keys x ≡ l = cc in omega (arith, among, ap (λ (m : List ℕ). length m) e)
-
-below : (k : Known) (l : List ℕ) (n : ℕ) → known_of k ≡ Some l → length l ≡ n → (place : ℕ) → IsAmong k place → place < n
-below k l n are count place among = below_of (λ ids. ids.now.keys) k.ids l n place are count among
-
-some_weaker : (P Q : ℕ → Type 0) → ((n : ℕ) → P n → Q n) → (o : Option ℕ) → IfSome o P → IfSome o Q
-some_weaker P Q f None h = tt
-some_weaker P Q f (Some n) h = f n h
-
 -- ---- what is valid among known ids is a valid part
 
 module _ (p : Parts) where
@@ -55,7 +43,7 @@ module _ (p : Parts) where
     some_time = h.some_time;
     few_times = h.few_times;
     times = subst (λ d. All (IsValidTime d p.nr_weeks) q.times) days (subst (λ w. All (IsValidTime c.nr_days w) q.times) weeks h.times);
-    parent = some_weaker (IsAmong c.classes) (λ place. place < length p.classes) classes q.parent h.parent;
+    parent = IfSome_then q.parent {P = IsAmong c.classes} {Q = λ place. place < length p.classes} h.parent classes;
     few_rooms = h.few_rooms;
     rooms = All-weaker (IsChoiceAmong c.rooms) (IsValidChoice p) (λ (r : RoomChoice) g. record { room = rooms r.room g.room; penalty = g.penalty }) q.rooms h.rooms;
   }

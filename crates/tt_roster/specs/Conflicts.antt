@@ -1,5 +1,6 @@
 -- Student conflicts: pairs of classes of a student's list that can't both be attended.
-use Rattle.std.specs.Prelude.{ℕ, ◌+◌, ◌-◌, max, Bool, false, cond, ◌&&◌, ◌||◌, nat_lt, List, [], ◌∷◌, Option, Some, None, slice_set, count_by, sum_by}
+use Rattle.std.specs.Prelude.{ℕ, ◌-◌, max, Bool, false, cond, ◌&&◌, ◌||◌, nat_lt, List, Option, Some, None, slice_set, count_by, sum_by}
+use Rattle.tt_base.specs.Among.{pairs_among}
 use Rattle.tt_bits.specs.declared.times.Time.{Time}
 use Rattle.tt_bits.specs.declared.times.Spot.{Spot}
 use Rattle.tt_bits.specs.Times.{end_of, shares_day_and_week, overlaps}
@@ -24,9 +25,7 @@ are_in_conflict t (Some a) (Some b) = conflict t a b
 
 -- how many pairs of classes of a list conflict, each class with each later one
 abbrev pub conflicts_in : Table → List (Option Spot) → List ℕ → ℕ
-conflicts_in t spots [] = 0
-conflicts_in t spots (class ∷ list) =
-    count_by (λ other. are_in_conflict t (spot_at spots class) (spot_at spots other)) list + conflicts_in t spots list
+conflicts_in t spots list = pairs_among (λ class other. are_in_conflict t (spot_at spots class) (spot_at spots other)) list
 
 -- the same, over the lists of all students
 abbrev pub student_conflicts : Table → List (Option Spot) → List (List ℕ) → ℕ

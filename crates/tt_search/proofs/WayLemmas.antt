@@ -1,19 +1,20 @@
 -- Steps along the way of a search.
 use Rattle.std.proofs.Common.{◌≡◌, ℕ, zero, suc, ◌+◌, ◌-◌, ◌<◌, ◌≤◌, Bool, true, false, Option, Some, None, List, [], ◌∷◌, ◌++◌, length, refl, ap, arith, length-append}
 use Rattle.std.specs.Prelude.{slice_get, if◌then◌else◌}
+use Rattle.std.specs.List.{best_of}
 use Rattle.rand_core.specs.Stream.{Stream, next_u32}
 use Rattle.tt_problem.specs.declared.parts.Parts.{Parts}
 use Rattle.tt_solution.specs.Timetable.{Timetable}
 use Rattle.tt_state.specs.Snapshots.{Snapshot}
 use Rattle.tt_search.specs.declared.seeking.Best.{Best}
-use Rattle.tt_search.specs.Least.{comes_before, least_after}
+use Rattle.tt_search.specs.Least.{comes_before, is_less}
 use Rattle.tt_search.specs.Turns.{turn_of}
 use Rattle.rand_core.specs.Steps.{stream_of, steps_u32}
 use Rattle.rand_pcg.specs.Lcg.{Lcg, started, increment_of}
 use Rattle.rand_pcg.specs.Pcg.{multiplier_64, pcg32}
 use Rattle.tt_search.specs.Searched.{onward, words_of}
 use Rattle.tt_search.specs.Numbers.{rank_numbers}
-use Rattle.tt_search.specs.UnderWay.{IsRanked, IsUnderWay}
+use Rattle.tt_search.specs.UnderWay.{IsUnderWay}
 
 -- a turn is made where one is left and there is a candidate
 pub onward_turn : (p : Parts) (published : Option Timetable) (n : ℕ) (words : Stream) (s t : Snapshot) → 0 < n → turn_of p published (next_u32 words).0 s ≡ Some t
@@ -41,42 +42,34 @@ stays_at [] t s k is = absurd (cc)
 stays_at (x ∷ xs) t s zero is = is
 stays_at (x ∷ xs) t s (suc k) is = stays_at xs t s k is
 
-walk_by : (rank : Snapshot → List ℕ) (trail ahead : List Snapshot) (t s : Snapshot) (old now : Best) (made : ℕ) (end : Option Snapshot) (count : ℕ) (b : Bool)
-    → comes_before (rank t) (rank s) ≡ b → slice_get trail old.mark ≡ Some s → rank_numbers old.rank ≡ rank s
-    → least_after rank (Some s) (t ∷ ahead) ≡ end → made + length (t ∷ ahead) ≡ count → rank_numbers now.rank ≡ rank t → now.mark ≡ length trail
+walk_by : (rank : Snapshot → List ℕ) (trail ahead : List Snapshot) (t : Snapshot) (old now : Best) (made : ℕ) (end : Snapshot) (count : ℕ) (b : Bool)
+    → (way : IsUnderWay rank trail (t ∷ ahead) old made end count) → is_less rank t way.now ≡ b → rank_numbers now.rank ≡ rank t → now.mark ≡ length trail
     → IsUnderWay rank (trail ++ t ∷ []) ahead (if b then now else old) (made + 1) end count
-walk_by rank trail ahead t s old now made end count true below at ranked ends counts ranked_now mark_now =
-    let here : slice_get (trail ++ t ∷ []) now.mark ≡ Some t = rw mark_now (at_end trail t) in
-    record {
-      ranked = rw here ranked_now;
-      ends = rw here (rw below at ends);
-      counts = omega arith;
-    }
-walk_by rank trail ahead t s old now made end count false below at ranked ends counts ranked_now mark_now =
-    let here : slice_get (trail ++ t ∷ []) old.mark ≡ Some s = stays_at trail t s old.mark at in
-    record {
-      ranked = rw here ranked;
-      ends = rw here (rw below at ends);
-      counts = omega arith;
-    }
+walk_by rank trail ahead t old now made end count true way below ranked mark = record {
+  now = t;
+  at = rw mark (at_end trail t);
+  ranked = ranked;
+  ends = rw below at way.ends;
+  counts = omega (arith, way.counts);
+}
+walk_by rank trail ahead t old now made end count false way below ranked mark = record {
+  now = way.now;
+  at = stays_at trail t way.now old.mark way.at;
+  ranked = way.ranked;
+  ends = rw below at way.ends;
+  counts = omega (arith, way.counts);
+}
 
 same_before : (xs ys xs' ys' : List ℕ) → xs' ≡ xs → ys' ≡ ys → comes_before xs ys ≡ comes_before xs' ys'
 same_before xs ys xs' ys' e f = rw (e, f) refl
 
-walk_from : (rank : Snapshot → List ℕ) (trail ahead : List Snapshot) (t : Snapshot) (old now : Best) (made : ℕ) (end : Option Snapshot) (count : ℕ) (o : Option Snapshot)
-    → slice_get trail old.mark ≡ o → IsRanked rank (rank_numbers old.rank) o
-    → least_after rank o (t ∷ ahead) ≡ end → made + length (t ∷ ahead) ≡ count → rank_numbers now.rank ≡ rank t → now.mark ≡ length trail
-    → IsUnderWay rank (trail ++ t ∷ []) ahead (if comes_before (rank_numbers now.rank) (rank_numbers old.rank) then now else old) (made + 1) end count
-walk_from rank trail ahead t old now made end count None at ranked ends counts ranked_now mark_now = absurd ranked
-walk_from rank trail ahead t old now made end count (Some s) at ranked ends counts ranked_now mark_now =
-    walk_by rank trail ahead t s old now made end count (comes_before (rank_numbers now.rank) (rank_numbers old.rank)) (same_before (rank t) (rank s) (rank_numbers now.rank) (rank_numbers old.rank) ranked_now ranked) at ranked ends counts ranked_now mark_now
-
 -- a turn that is made
-pub walk_on : (rank : Snapshot → List ℕ) (trail ahead : List Snapshot) (t : Snapshot) (old now : Best) (made : ℕ) (end : Option Snapshot) (count : ℕ)
+pub walk_on : (rank : Snapshot → List ℕ) (trail ahead : List Snapshot) (t : Snapshot) (old now : Best) (made : ℕ) (end : Snapshot) (count : ℕ)
     → IsUnderWay rank trail (t ∷ ahead) old made end count → rank_numbers now.rank ≡ rank t → now.mark ≡ length trail
     → IsUnderWay rank (trail ++ t ∷ []) ahead (if comes_before (rank_numbers now.rank) (rank_numbers old.rank) then now else old) (made + 1) end count
-walk_on rank trail ahead t old now made end count way ranked_now mark_now =
-    walk_from rank trail ahead t old now made end count (slice_get trail old.mark) refl way.ranked way.ends way.counts ranked_now mark_now
+walk_on rank trail ahead t old now made end count way ranked mark =
+    let below : is_less rank t way.now ≡ comes_before (rank_numbers now.rank) (rank_numbers old.rank) = same_before (rank t) (rank way.now) (rank_numbers now.rank) (rank_numbers old.rank) ranked way.ranked in
+    walk_by rank trail ahead t old now made end count (comes_before (rank_numbers now.rank) (rank_numbers old.rank)) way below ranked mark
 
 -- the words of a generator that was made from a seed
 pub words_from : (seed : ℕ) (g : Lcg) → g ≡ started 64 multiplier_64 seed (increment_of 64 1) → stream_of (steps_u32 pcg32) g ≡ words_of seed
@@ -85,13 +78,14 @@ words_from seed g is = ap (stream_of (steps_u32 pcg32)) is
 
 -- before the first turn
 pub start_way : (rank : Snapshot → List ℕ) (s : Snapshot) (trail ahead : List Snapshot) (best : Best) → trail ≡ s ∷ [] → rank_numbers best.rank ≡ rank s → best.mark + 1 ≡ length trail
-    → IsUnderWay rank trail ahead best 0 (least_after rank (Some s) ahead) (length ahead)
+    → IsUnderWay rank trail ahead best 0 (best_of (is_less rank) s ahead) (length ahead)
 start_way rank s trail ahead best is ranked mark =
     let first : best.mark ≡ 0 = omega (arith, ap length is) in
-    let here : slice_get trail best.mark ≡ Some s = rw (is, first) refl in
     record {
-      ranked = rw here ranked;
-      ends = rw here refl;
+      now = s;
+      at = rw (is, first) refl;
+      ranked = ranked;
+      ends = refl;
       counts = omega arith;
     }
 

@@ -1,5 +1,6 @@
 -- Proofs alone need it. The numbers that the code compares: those of a repair, with 0 in a search.
 use Rattle.std.specs.Prelude.{ℕ, List, [], ◌∷◌, Option, Some, None}
+use Rattle.std.specs.List.{best_of}
 use Rattle.tt_bits.specs.declared.times.Value.{Value}
 use Rattle.tt_problem.specs.declared.parts.Parts.{Parts}
 use Rattle.tt_score.specs.Totals.{totals_of}
@@ -7,9 +8,9 @@ use Rattle.tt_solution.specs.Timetable.{Timetable}
 use Rattle.tt_solution.specs.Published.{moved_of}
 use Rattle.tt_state.specs.Snapshots.{Snapshot}
 use Rattle.tt_state.specs.Values.{total_with}
-use Rattle.tt_search.specs.Least.{first_least}
+use Rattle.tt_search.specs.Least.{first_least, is_less}
 use Rattle.tt_search.specs.Turns.{weight_of, strays, open_values}
-use Rattle.tt_search.specs.Searched.{way_of}
+use Rattle.tt_search.specs.Searched.{onward, words_of}
 
 -- 1 where a value strays from what is published; 0 where nothing is
 abbrev pub strays_in : Parts → Option Timetable → (class : ℕ) → Value → ℕ
@@ -35,5 +36,5 @@ full_rank p published s =
     (totals_of p s.plan s.lists).unplaced ∷ (totals_of p s.plan s.lists).hard ∷ moved_in p published s ∷ (totals_of p s.plan s.lists).total ∷ []
 
 -- where a search ends by these numbers
-unfoldable pub full_best : Parts → Option Timetable → (turns seed : ℕ) → Snapshot → Option Snapshot
-full_best p published turns seed s = first_least (full_rank p published) (way_of p published turns seed s)
+unfoldable pub full_end : Parts → Option Timetable → (turns seed : ℕ) → Snapshot → Snapshot
+full_end p published turns seed s = best_of (is_less (full_rank p published)) s (onward p published turns (words_of seed) s)

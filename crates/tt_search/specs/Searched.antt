@@ -1,5 +1,6 @@
 -- Whole searches and repairs.
 use Rattle.std.specs.Prelude.{ℕ, zero, suc, List, [], ◌∷◌, Option, Some, None, length}
+use Rattle.std.specs.List.{best_of}
 use Rattle.rand_core.specs.Stream.{Stream, next_u32}
 use Rattle.rand_core.specs.Steps.{stream_of, steps_u32}
 use Rattle.rand_pcg.specs.Lcg.{started, increment_of}
@@ -9,7 +10,7 @@ use Rattle.tt_score.specs.Totals.{totals_of}
 use Rattle.tt_solution.specs.Timetable.{Timetable}
 use Rattle.tt_solution.specs.Published.{moved_of}
 use Rattle.tt_state.specs.Snapshots.{Snapshot}
-use Rattle.tt_search.specs.Least.{first_least}
+use Rattle.tt_search.specs.Least.{is_less}
 use Rattle.tt_search.specs.Turns.{turn_of}
 
 -- the random words: those that `next_u32` of `Lcg64Xsh32::new(seed, 1)` gives
@@ -39,17 +40,17 @@ rank_of p (Some published) s =
     (totals_of p s.plan s.lists).unplaced ∷ (totals_of p s.plan s.lists).hard ∷ moved_of p s.plan published ∷ (totals_of p s.plan s.lists).total ∷ []
 
 -- where a search ends: at the first of its way that has the least rank
-unfoldable pub best_of : Parts → Option Timetable → (turns seed : ℕ) → Snapshot → Option Snapshot
-best_of p published turns seed s = first_least (rank_of p published) (way_of p published turns seed s)
+unfoldable pub search_end : Parts → Option Timetable → (turns seed : ℕ) → Snapshot → Snapshot
+search_end p published turns seed s = best_of (is_less (rank_of p published)) s (onward p published turns (words_of seed) s)
 
 -- how many turns a search makes
 abbrev pub turns_of : Parts → Option Timetable → (turns seed : ℕ) → Snapshot → ℕ
 turns_of p published turns seed s = length (onward p published turns (words_of seed) s)
 
 -- where a search of so many turns ends, and how many it makes
-abbrev pub searched : Parts → (turns seed : ℕ) → Snapshot → Option Snapshot × ℕ
-searched p turns seed s = (best_of p None turns seed s, turns_of p None turns seed s)
+abbrev pub searched : Parts → (turns seed : ℕ) → Snapshot → Snapshot × ℕ
+searched p turns seed s = (search_end p None turns seed s, turns_of p None turns seed s)
 
 -- where a repair of so many turns ends, and how many it makes
-abbrev pub repaired : Parts → Timetable → (turns seed : ℕ) → Snapshot → Option Snapshot × ℕ
-repaired p published turns seed s = (best_of p (Some published) turns seed s, turns_of p (Some published) turns seed s)
+abbrev pub repaired : Parts → Timetable → (turns seed : ℕ) → Snapshot → Snapshot × ℕ
+repaired p published turns seed s = (search_end p (Some published) turns seed s, turns_of p (Some published) turns seed s)

@@ -24,17 +24,13 @@ open_values p class = filter (is_open p class) (domain_of p class)
 abbrev pub has_open_value : Parts → (class : ℕ) → Bool
 has_open_value p class = list_any (is_open p class) (domain_of p class)
 
--- the classes that have an open value, in the problem's order
-unfoldable pub hopeful : Parts → List ℕ
-hopeful p = filter (has_open_value p) (range_with_len 0 (length p.classes))
-
 -- the class has no value in a plan
 abbrev pub is_unplaced : List (Option Value) → (class : ℕ) → Bool
 is_unplaced plan class = is_none (slice_index_or plan class None)
 
 -- the candidates: the unplaced classes that have an open value, in the problem's order
 abbrev pub candidates : Parts → Snapshot → List ℕ
-candidates p s = filter (is_unplaced s.plan) (hopeful p)
+candidates p s = filter (λ class. is_unplaced s.plan class && has_open_value p class) (range_with_len 0 (length p.classes))
 
 -- the candidate that a random word of 32 bits draws: number `word * count / 2^32`, counted from 0
 abbrev pub drawn : (word : ℕ) → List ℕ → Option ℕ

@@ -1,17 +1,15 @@
 -- Proofs alone need it. How far a search has come.
-use Rattle.std.specs.Prelude.{ℕ, ◌≡◌, ◌+◌, List, Option, Some, None, length, slice_get}
+use Rattle.std.specs.Prelude.{ℕ, ◌≡◌, ◌+◌, List, Some, length, slice_get}
+use Rattle.std.specs.List.{best_of}
 use Rattle.tt_state.specs.Snapshots.{Snapshot}
 use Rattle.tt_search.specs.declared.seeking.Best.{Best}
-use Rattle.tt_search.specs.Least.{least_after}
+use Rattle.tt_search.specs.Least.{is_less}
 use Rattle.tt_search.specs.Numbers.{rank_numbers}
 
--- there is a snapshot, and these are its numbers
-abbrev pub IsRanked : (Snapshot → List ℕ) → List ℕ → Option Snapshot → Type 0
-IsRanked rank numbers None = ⊥
-IsRanked rank numbers (Some s) = numbers ≡ rank s
-
 -- the best moment so far is one of the trail, and with what is still ahead the search ends at `end` after `count` turns
-pub record IsUnderWay (rank : Snapshot → List ℕ) (trail ahead : List Snapshot) (best : Best) (made : ℕ) (end : Option Snapshot) (count : ℕ) : Type 0 where
-  pub ranked : IsRanked rank (rank_numbers best.rank) (slice_get trail best.mark)
-  pub ends : least_after rank (slice_get trail best.mark) ahead ≡ end
+pub record IsUnderWay (rank : Snapshot → List ℕ) (trail ahead : List Snapshot) (best : Best) (made : ℕ) (end : Snapshot) (count : ℕ) : Type 0 where
+  pub now : Snapshot
+  pub at : slice_get trail best.mark ≡ Some now
+  pub ranked : rank_numbers best.rank ≡ rank now
+  pub ends : best_of (is_less rank) now ahead ≡ end
   pub counts : made + length ahead ≡ count

@@ -4,11 +4,10 @@ ghost use Rattle.tt_solution.specs.Timetable.{IsTimetableOf, Timetable};
 ghost use Rattle.tt_state.specs.History.{IsWithinStep, desk_of, earlier, moved_to, stepped, trail, with_taken};
 ghost use Rattle.tt_state.specs.Values.{conflicts_of};
 ghost use Rattle.tt_search.specs.Least.{comes_before, IsFirstLeast};
-ghost use Rattle.tt_search.specs.Turns.{hopeful};
-ghost use Rattle.tt_search.specs.Full.{full_rank, full_best, moved_in};
+ghost use Rattle.tt_search.specs.Full.{full_rank, full_end, moved_in};
 ghost use Rattle.tt_search.specs.MovedNow.{AreMoved};
-ghost use Rattle.tt_search.specs.Searched.{rank_of, way_of, best_of, turns_of, searched, repaired};
-ghost use Rattle.tt_search.specs.Numbers.{IsOpenValue, after_move, rank_numbers};
+ghost use Rattle.tt_search.specs.Searched.{rank_of, way_of, search_end, turns_of, searched, repaired};
+ghost use Rattle.tt_search.specs.Numbers.{hopeful, IsOpenValue, after_move, rank_numbers};
 ghost use Rattle.tt_search.specs.UnderWay.{IsUnderWay};
 
 use crate::moving::MovedClasses;
@@ -89,7 +88,7 @@ fn walk(
     requires step { 0 < length (earlier state.old) }
     requires trail { trail state.old ≡ state.old.present ∷ [] }
     ensures step { IsWithinStep state.old state.new }
-    ensures way { IfOk result (λ walked. let aim = option_copied published.entry in let start = state.old in IsUnderWay (full_rank start.problem aim) (trail state.new) [] walked.best walked.made (full_best start.problem aim turns seed start.present) (turns_of start.problem aim turns seed start.present)) }
+    ensures way { IfOk result (λ walked. let aim = option_copied published.entry in let start = state.old in IsUnderWay (full_rank start.problem aim) (trail state.new) [] walked.best walked.made (full_end start.problem aim turns seed start.present) (turns_of start.problem aim turns seed start.present)) }
 {
     let mut words = Lcg64Xsh32::new(seed, 1);
     let mut best = moment(state, moved.count);
@@ -105,7 +104,7 @@ fn walk(
 }
 
 /// Searches or repairs, as one step. Where memory runs out, the step is undone.
-#[tactic(auto, using(crate::proofs::FullLemmas::best_same))]
+#[tactic(auto, using(crate::proofs::FullLemmas::end_same))]
 fn seek(
     alloc: Global,
     state: &mut State,
@@ -116,7 +115,7 @@ fn seek(
     requires { ForSome (option_copied published) (IsTimetableOf state.old.problem) }
     ensures problem { state.new.problem ≡ state.old.problem }
     ensures earlier { OnOk result (earlier state.new ≡ state.old.present ∷ earlier state.old) }
-    ensures best { OnOk result (best_of state.old.problem (option_copied published.entry) turns seed state.old.present ≡ Some state.new.present) }
+    ensures end { OnOk result (search_end state.old.problem (option_copied published.entry) turns seed state.old.present ≡ state.new.present) }
     ensures made { IfOk result (λ made. made ≡ turns_of state.old.problem (option_copied published.entry) turns seed state.old.present) }
     ensures present { OnErr result (state.new.present ≡ state.old.present) }
     ensures entries { OnErr result (state.new.entries ≡ state.old.entries) }
@@ -152,7 +151,7 @@ fn seek(
 #[tactic(auto, using(crate::proofs::FirstLemmas::ends_at_first))]
 pub fn search(alloc: Global, state: &mut State, turns: u32, seed: u64) -> Result<u32, AllocError>
     ensures desk { OnOk result (desk_of state.new ≡ stepped (desk_of state.old) state.new.present) }
-    ensures best { IfOk result (λ made. searched state.old.problem turns seed state.old.present ≡ (Some state.new.present, made)) }
+    ensures end { IfOk result (λ made. searched state.old.problem turns seed state.old.present ≡ (state.new.present, made)) }
     ensures first { OnOk result ((place : ℕ) × IsFirstLeast (rank_of state.old.problem None) (way_of state.old.problem None turns seed state.old.present) place state.new.present) }
     ensures err { OnErr result (with_taken state.new [] ≡ with_taken state.old []) }
 {
@@ -173,7 +172,7 @@ pub fn repair(
 ) -> Result<u32, AllocError>
     requires { IsTimetableOf state.old.problem published.now }
     ensures desk { OnOk result (desk_of state.new ≡ stepped (desk_of state.old) state.new.present) }
-    ensures best { IfOk result (λ made. repaired state.old.problem published.now turns seed state.old.present ≡ (Some state.new.present, made)) }
+    ensures end { IfOk result (λ made. repaired state.old.problem published.now turns seed state.old.present ≡ (state.new.present, made)) }
     ensures first { OnOk result ((place : ℕ) × IsFirstLeast (rank_of state.old.problem (Some published.now)) (way_of state.old.problem (Some published.now) turns seed state.old.present) place state.new.present) }
     ensures err { OnErr result (with_taken state.new [] ≡ with_taken state.old []) }
 {

@@ -6,10 +6,9 @@ ghost use Rattle.tt_solution.specs.Timetable.{IsTimetableOf};
 ghost use Rattle.tt_state.specs.Snapshots.{value_in};
 ghost use Rattle.tt_state.specs.Values.{blocked_of, conflicts_of, total_with};
 ghost use Rattle.tt_state.specs.Forced.{forced};
-ghost use Rattle.tt_search.specs.Turns.{hopeful, is_open, has_open_value, is_unplaced, candidates, drawn, toll_of, weight_of, choice_of, turn_of};
-ghost use Rattle.tt_search.specs.Least.{better, least_after};
+ghost use Rattle.tt_search.specs.Turns.{is_open, has_open_value, is_unplaced, candidates, drawn, toll_of, weight_of, choice_of, turn_of};
 ghost use Rattle.tt_search.specs.Full.{full_price, full_choice};
-ghost use Rattle.tt_search.specs.Numbers.{price_numbers, IsOpenValue, IsPriced, after_move, offered};
+ghost use Rattle.tt_search.specs.Numbers.{hopeful, price_numbers, least_after, IsOpenValue, IsPriced, after_move, offered};
 
 use crate::price::{Price, is_stray};
 use std::alloc::{AllocError, Global};
@@ -35,7 +34,7 @@ pub(crate) struct Offer {
 }
 
 /// The classes that have an open value, in the problem's order.
-#[tactic(auto, unfolding(crate::specs::Turns::hopeful))]
+#[tactic(auto, unfolding(crate::specs::Numbers::hopeful))]
 pub(crate) fn hopeful_classes(alloc: Global, problem: &Problem) -> Result<Vec<u32>, AllocError>
     ensures hopeful { IfOk result (λ classes. classes.items ≡ hopeful problem.now) }
     ensures few { IfOk result (λ classes. length classes.items ≤ 20000) }
@@ -84,13 +83,15 @@ fn value_of(plan: &[Option<Value>], class: u32) -> Option<Value>
 }
 
 /// The candidate that a random word draws.
-fn drawn_class(state: &State, hopeful: &[u32], word: u32) -> Option<u32>
-    requires { length hopeful.now ≤ 20000 }
-    ensures { result ≡ drawn word (filter (is_unplaced state.now.present.plan) hopeful.now) }
+#[tactic(auto, using(crate::proofs::HopefulLemmas::candidates_are))]
+fn drawn_class(state: &State, classes: &[u32], word: u32) -> Option<u32>
+    requires hopeful { classes.now ≡ hopeful state.now.problem }
+    requires few { length classes.now ≤ 20000 }
+    ensures { result ≡ drawn word (candidates state.now.problem state.now.present) }
 {
     let plan = state.score().plan();
-    let count = free_among(plan, hopeful);
-    nth_free(plan, hopeful, u64::from(word) * count / (1 << 32))
+    let count = free_among(plan, classes);
+    nth_free(plan, classes, u64::from(word) * count / (1 << 32))
 }
 
 /// How many of some classes have no value in a plan.
@@ -168,7 +169,7 @@ fn look_at(
     ensures present { state.new.present ≡ state.old.present }
     ensures entries { state.new.entries ≡ state.old.entries }
     ensures priced { IsPriced (full_price state.old.problem (option_copied published.entry) state.old.present class) (IsOpenValue state.old.problem class) result }
-    ensures better { offered result ≡ Some (better (full_price state.old.problem (option_copied published.entry) state.old.present class) (offered best) value) }
+    ensures better { offered result ≡ least_after (full_price state.old.problem (option_copied published.entry) state.old.present class) (offered best) (value ∷ []) }
 {
     state.find_conflicts(class, value);
     let weight = weight_of(state, class, value);

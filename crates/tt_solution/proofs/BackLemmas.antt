@@ -21,7 +21,7 @@ use Rattle.tt_problem.specs.declared.parts.Parts.{Parts}
 use Rattle.tt_problem.specs.Valid.{IsValid, class_ids, student_ids}
 use Rattle.tt_problem.proofs.IdLemmas.{is_new}
 use Rattle.tt_roster.specs.Lists.{has_class, having_from, students_of}
-use Rattle.tt_solution.proofs.TextLemmas.{all_having}
+use Rattle.tt_solution.proofs.TextLemmas.{all_having, classes_from}
 use Rattle.tt_solution.specs.declared.meeting.Meeting.{Meeting}
 use Rattle.tt_roster.specs.Lists.{Ascends}
 use Rattle.tt_roster.specs.Rostered.{Rostered}
@@ -34,7 +34,7 @@ use Rattle.tt_solution.specs.Published.{meeting_of, timetable_of}
 use Rattle.tt_solution.specs.Tables.{Context, Entry, Listed, meeting_in, entry_of, no_entries, listed_in, timetable_with, timetable_in, published_of}
 use Rattle.tt_solution.proofs.PlanLemmas.{timetable_belongs}
 use Rattle.tt_solution.proofs.TurnLemmas.{entry_for, entries_from, listed_back}
-use Rattle.tt_solution.specs.Text.{set_text, number_data, with_room, student_numbers, class_data, classes_from, published_data}
+use Rattle.tt_solution.specs.Text.{set_text, number_data, with_room, student_numbers, class_data, published_data}
 use Rattle.tt_solution.specs.Small.{HasSmall, HaveSmall, AreSmall}
 use Rattle.tt_solution.proofs.PlacedLemmas.{IsInTerm, AreReady, IsThere, meetings_in, all_there, all_in, all_ready}
 use Rattle.tt_solution.proofs.SetLemmas.{days_text_back, weeks_text_back}

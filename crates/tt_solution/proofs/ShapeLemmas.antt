@@ -9,7 +9,8 @@ use Rattle.tt_problem.specs.Valid.{student_ids}
 use Rattle.tt_roster.specs.Lists.{students_of}
 use Rattle.tt_solution.specs.declared.meeting.Meeting.{Meeting}
 use Rattle.tt_solution.specs.Timetable.{Timetable}
-use Rattle.tt_solution.specs.Text.{number_data, class_data, classes_from, published_data}
+use Rattle.tt_solution.specs.Text.{number_data, class_data, published_data}
+use Rattle.tt_solution.proofs.TextLemmas.{classes_from}
 
 numbers_no_float : (f : ℕ → ℕ) (xs : List ℕ) → items_have_float (items_of (map (λ x. number_data (f x)) xs)) ≡ false
 numbers_no_float f [] = refl

@@ -1,7 +1,8 @@
 -- What is written, piece by piece.
 use Rattle.std.proofs.Common.{◌≡◌, ◌∙◌, ℕ, ◌+◌, ◌<◌, ◌≤◌, List, [], ◌∷◌, ◌++◌, Option, Some, None, length, get_or, drop, map, refl, sym, ap, subst, arith, inl, inr, append_assoc, append-nil}
-use Rattle.std.specs.Prelude.{slice_get, slice_index, IfSome, Result, Ok, Err, OnOk}
-use Rattle.std.specs.List.{AllByRecursion}
+use Rattle.std.specs.Prelude.{slice_get, slice_index, IfSome, Result, Ok, Err, OnOk, zip, filter_map}
+use Rattle.std.specs.Option.{option_map}
+use Rattle.std.specs.List.{AllByRecursion, range_with_len}
 use Rattle.std.proofs.lemmas.Bool.{cases_Bool, cases_lt}
 use Rattle.std.proofs.lemmas.List.{get_or-map, map-append, drop_more, drop_all}
 use Rattle.std.proofs.lemmas.Option.{get_or_from_slice_get}
@@ -17,7 +18,7 @@ use Rattle.tt_roster.specs.Rostered.{Rostered}
 use Rattle.tt_roster.specs.Kept.{IsRosterOf}
 use Rattle.tt_solution.specs.declared.meeting.Meeting.{Meeting}
 use Rattle.tt_solution.specs.Small.{AreSmall, HasSmall, HaveSmall}
-use Rattle.tt_solution.specs.Text.{number_data, student_numbers, class_data, classes_from}
+use Rattle.tt_solution.specs.Text.{number_data, student_numbers, class_data, classes_data}
 
 -- ---- ids
 
@@ -71,9 +72,13 @@ ids_small p lists class done so_far = so_far.small tt
 
 -- ---- the classes
 
+-- the published classes in order, of which the first is at this place
+abbrev pub classes_from : Parts → List (List ℕ) → ℕ → List (Option Meeting) → List Data
+classes_from p lists class classes = filter_map (λ c. option_map (class_data p lists c.0) c.1) (zip (range_with_len class (length classes)) classes)
+
 -- the classes before place i are written, and their numbers are small
 pub record AreValues (p : Parts) (lists : List (List ℕ)) (classes : List (Option Meeting)) (i : ℕ) (done : List Value) : Type 0 where
-  pub so_far : map view done ++ classes_from p lists i (drop i classes) ≡ classes_from p lists 0 classes
+  pub so_far : map view done ++ classes_from p lists i (drop i classes) ≡ classes_data p lists classes
   pub small : (class : ℕ) → class < i → IfSome (get_or classes class None) (HasSmall p lists class)
 
 pub values_none : (p : Parts) (lists : List (List ℕ)) (classes : List (Option Meeting)) → AreValues p lists classes 0 []
@@ -101,7 +106,7 @@ module _ (p : Parts) (lists : List (List ℕ)) (classes : List (Option Meeting))
     small = small_more before (rw is good);
   }
 
-  pub values_all : AreValues p lists classes i done → length classes ≤ i → map view done ≡ classes_from p lists 0 classes
+  pub values_all : AreValues p lists classes i done → length classes ≤ i → map view done ≡ classes_data p lists classes
   values_all before past = sym (append-nil (map view done)) ∙ ap (λ (l : List (Option Meeting)). map view done ++ classes_from p lists i l) (sym (drop_all i classes past)) ∙ before.so_far
 
   pub values_small : AreValues p lists classes i done → length classes ≤ i → HaveSmall p lists classes

@@ -1,6 +1,6 @@
 -- What a plan and the lists of students publish, and how a plan differs from what is published.
-use Rattle.std.specs.Prelude.{ℕ, List, Bool, true, false, not, ◌&&◌, ◌==◌, Option, Some, None, length, map, count_by, slice_get, slice_index_or, option_and_then}
-use Rattle.std.specs.Option.{option_map}
+use Rattle.std.specs.Prelude.{ℕ, nat_eq, List, Bool, false, not, ◌&&◌, ◌==◌, Option, Some, None, length, map, count_by, slice_get, slice_index_or, option_and_then}
+use Rattle.std.specs.Option.{option_map, option_eq}
 use Rattle.std.specs.List.{range_with_len}
 use Rattle.tt_bits.specs.declared.times.Spot.{Spot}
 use Rattle.tt_bits.specs.declared.times.Value.{Value}
@@ -22,16 +22,9 @@ meeting_of p x = record { days = x.time.days; weeks = x.time.weeks; start = x.ti
 abbrev pub timetable_of : Parts → List (Option Value) → List (List ℕ) → Timetable
 timetable_of p plan lists = record { classes = map (option_map (meeting_of p)) (spots_of p plan); lists = lists }
 
--- both name the same room, or both none
-abbrev pub is_same_room : Option ℕ → Option ℕ → Bool
-is_same_room None None = true
-is_same_room None (Some b) = false
-is_same_room (Some a) None = false
-is_same_room (Some a) (Some b) = a == b
-
--- days, weeks, start and room are the same
+-- days, weeks and start are the same, and the same room or none
 abbrev pub is_same_meeting : Meeting → Meeting → Bool
-is_same_meeting a b = (day_set a.days == day_set b.days) && (week_set a.weeks == week_set b.weeks) && (a.start == b.start) && is_same_room a.room b.room
+is_same_meeting a b = (day_set a.days == day_set b.days) && (week_set a.weeks == week_set b.weeks) && (a.start == b.start) && option_eq nat_eq a.room b.room
 
 -- there are two meetings, and they are the same
 abbrev pub are_same : Option Meeting → Option Meeting → Bool

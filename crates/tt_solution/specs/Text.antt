@@ -1,5 +1,6 @@
 -- The published text: what the file of a timetable is as JSON, with the keys of each object in their order by bytes.
-use Rattle.std.specs.Prelude.{ℕ, ◌+◌, List, [], ◌∷◌, Option, Some, None, map, codes, slice_index, if◌then◌else◌}
+use Rattle.std.specs.Prelude.{ℕ, List, Option, Some, None, length, map, zip, filter_map, codes, slice_index, if◌then◌else◌}
+use Rattle.std.specs.Option.{option_map}
 use Rattle.std.specs.List.{range_with_len}
 use Rattle.serde_json.specs.Data.{Data, number, unsigned, string, array, object, Members, member, no_members}
 use Rattle.serde_json.specs.View.{items_of}
@@ -45,15 +46,13 @@ class_data p lists class m = object
     (member (codes "students") (array (items_of (student_numbers p lists class)))
     (member (codes "weeks") (string (set_text p.nr_weeks (week_set m.weeks))) no_members))))))
 
--- the published classes in order, of which the first is at this place
-abbrev pub classes_from : Parts → List (List ℕ) → ℕ → List (Option Meeting) → List Data
-classes_from p lists class [] = []
-classes_from p lists class (None ∷ ms) = classes_from p lists (class + 1) ms
-classes_from p lists class (Some m ∷ ms) = class_data p lists class m ∷ classes_from p lists (class + 1) ms
+-- the published classes, in order
+abbrev pub classes_data : Parts → List (List ℕ) → List (Option Meeting) → List Data
+classes_data p lists classes = filter_map (λ c. option_map (class_data p lists c.0) c.1) (zip (range_with_len 0 (length classes)) classes)
 
 -- the whole value: an object with the one key `classes`
 abbrev pub published_data : Parts → Timetable → Data
-published_data p t = object (member (codes "classes") (array (items_of (classes_from p t.lists 0 t.classes))) no_members)
+published_data p t = object (member (codes "classes") (array (items_of (classes_data p t.lists t.classes))) no_members)
 
 -- the line that publishes a plan and the lists of the students, without its end
 unfoldable pub published_text : Parts → List (Option Value) → List (List ℕ) → List ℕ

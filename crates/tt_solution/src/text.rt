@@ -9,7 +9,7 @@ ghost use Rattle.tt_roster.specs.Lists.{students_of};
 ghost use Rattle.tt_solution.specs.Published.{timetable_of};
 ghost use Rattle.tt_solution.specs.Small.{AreSmall, HasSmall, HaveSmall};
 ghost use Rattle.tt_solution.specs.Tables.{published_of};
-ghost use Rattle.tt_solution.specs.Text.{set_text, student_numbers, class_data, classes_from, published_data, published_text};
+ghost use Rattle.tt_solution.specs.Text.{set_text, student_numbers, class_data, classes_data, published_data, published_text};
 
 use crate::meeting::Meeting;
 use crate::published::meetings;
@@ -99,14 +99,13 @@ fn class_value(
     problem: &Problem,
     roster: &Roster,
     class: u32,
-    meeting: &Meeting,
+    meeting: Meeting,
 ) -> Result<Json, AllocError>
     requires class { class < length problem.now.classes }
     requires roster { IsRosterOf problem.now roster.now }
-    ensures value { IfOk result (λ value. view value ≡ class_data problem.now roster.now.seats class meeting.now) }
-    ensures small { IfOk result (λ _. HasSmall problem.now roster.now.seats class meeting.now) }
+    ensures value { IfOk result (λ value. view value ≡ class_data problem.now roster.now.seats class meeting) }
+    ensures small { IfOk result (λ _. HasSmall problem.now roster.now.seats class meeting) }
 {
-    meeting.sizes();
     let days = days_text(alloc, meeting.days, problem.nr_days())?;
     let weeks = weeks_text(alloc, meeting.weeks, problem.nr_weeks())?;
     let ids = students(alloc, problem, roster, class)?;
@@ -137,14 +136,14 @@ fn class_values(
 ) -> Result<Vec<Json>, AllocError>
     requires classes { length classes.now ≡ length problem.now.classes }
     requires roster { IsRosterOf problem.now roster.now }
-    ensures values { IfOk result (λ values. map view values.items ≡ classes_from problem.now roster.now.seats 0 classes.now) }
+    ensures values { IfOk result (λ values. map view values.items ≡ classes_data problem.now roster.now.seats classes.now) }
     ensures small { IfOk result (λ _. HaveSmall problem.now roster.now.seats classes.now) }
 {
     problem.validity();
     let mut values = Vec::new(alloc);
     for (class, meeting) in classes.iter().enumerate() {
         if let Some(meeting) = meeting {
-            values.push(class_value(alloc, problem, roster, class as u32, meeting)?)?;
+            values.push(class_value(alloc, problem, roster, class as u32, *meeting)?)?;
         }
     }
     Ok(values)

@@ -1,12 +1,14 @@
 -- A list in order is a valid enrolment where the list is, and has room.
-use Rattle.std.proofs.Common.{◌≡◌, ◌∙◌, ℕ, ◌+◌, ◌<◌, ◌≤◌, Bool, true, false, cond, List, [], ◌∷◌, Option, Some, None, length, get_or, sum_by, refl, ap, arith, inl, inr}
+use Rattle.std.proofs.Common.{◌≡◌, ◌∙◌, ℕ, ◌<◌, ◌≤◌, Bool, true, false, cond, List, [], ◌∷◌, Option, Some, None, length, get_or, sum_by, refl, sym, ap, arith, inl, inr}
 use Rattle.std.specs.Prelude.{◌&&◌, ◌||◌, ◌==◌, not, slice_get}
 use Rattle.std.specs.List.{list_any, list_all}
+use Rattle.std.specs.List.Sorted.{IsPermutation}
 use Rattle.std.specs.Option.{option_map_or}
 use Rattle.std.proofs.lemmas.Bool.{cases_lt, lt-ltb, le-ltb}
 use Rattle.std.proofs.lemmas.Bool.Decides.{nat_tests}
 use Rattle.std.proofs.lemmas.List.{get_or-map}
-use Rattle.std.proofs.lemmas.List.Sums.{sum_by-cons, get_or-le-sum_by}
+use Rattle.std.proofs.lemmas.List.Sorted.{IsPermutation-refl, IsPermutation-trans, IsPermutation-cons, IsPermutation-insert, list_any-IsPermutation, sum_by-IsPermutation}
+use Rattle.std.proofs.lemmas.List.Sums.{get_or-le-sum_by}
 use Rattle.std.proofs.lemmas.Option.{get_or_from_slice_get, slice_get_within}
 use Rattle.tt_problem.specs.declared.parts.Span.{Span}
 use Rattle.tt_problem.specs.declared.parts.ClassPart.{ClassPart}
@@ -17,46 +19,25 @@ use Rattle.tt_problem.specs.Spans.{is_in}
 use Rattle.tt_problem.specs.Seats.{spans_at, most_seats}
 use Rattle.tt_problem.specs.Valid.{IsValid}
 use Rattle.tt_roster.specs.Lists.{with_class}
-use Rattle.tt_struct.specs.Enrolments.{is_enrolment, lists, has_no_repeat, has_one, has_none, fills, avoids, takes_one, takes_course, takes, is_of_courses, has_parent_of, has_parent, is_enrolment_of}
+use Rattle.tt_struct.specs.Enrolments.{is_enrolment, lists, has_no_repeat, has_count, has_of_each, fills, avoids, takes_one, takes_course, takes, is_of_courses, has_parent_of, has_parent, is_enrolment_of}
 use Rattle.tt_struct.proofs.LengthLemmas.{enrolment_fits}
 use Rattle.tt_state.specs.Snapshots.{in_order}
 use Rattle.tt_state.specs.Seats.{may_have}
 use Rattle.tt_state.specs.Kept.{most_at}
 
--- what a list in order has, with one class more
-any-with : (f : ℕ → Bool) (class : ℕ) (list : List ℕ) → list_any f (with_class class list) ≡ (f class || list_any f list)
-any-with f class [] = refl
-any-with f class (a ∷ list) =
+-- a list in order is a permutation of the list, also with one class more
+with-permutes : (class : ℕ) (list : List ℕ) → IsPermutation (class ∷ list) (with_class class list)
+with-permutes class [] = IsPermutation-refl (class ∷ [])
+with-permutes class (a ∷ list) =
     elim (cases_lt class a) [
-      | inl before ↦ rw (lt-ltb class a before) refl
-      | inr after ↦ rw (le-ltb class a after, any-with f class list) (or_turned (f a) (f class) (list_any f list))
+      | inl before ↦ rw (lt-ltb class a before) (IsPermutation-refl (class ∷ a ∷ list))
+      | inr after ↦
+          rw (le-ltb class a after) (IsPermutation-trans _ _ _ (IsPermutation-insert (a ∷ list) 1 class) (IsPermutation-cons a _ _ (with-permutes class list)))
     ]
-  where
-    or_turned : (x y z : Bool) → (x || (y || z)) ≡ (y || (x || z))
-    or_turned true true z = refl
-    or_turned true false z = refl
-    or_turned false y z = refl
 
-all-with : (f : ℕ → Bool) (class : ℕ) (list : List ℕ) → list_all f (with_class class list) ≡ (f class && list_all f list)
-all-with f class [] = refl
-all-with f class (a ∷ list) =
-    elim (cases_lt class a) [
-      | inl before ↦ rw (lt-ltb class a before) refl
-      | inr after ↦ rw (le-ltb class a after, all-with f class list) (and_turned (f a) (f class) (list_all f list))
-    ]
-  where
-    and_turned : (x y z : Bool) → (x && (y && z)) ≡ (y && (x && z))
-    and_turned true y z = refl
-    and_turned false true z = refl
-    and_turned false false z = refl
-
-sum-with : (f : ℕ → ℕ) (class : ℕ) (list : List ℕ) → sum_by f (with_class class list) ≡ f class + sum_by f list
-sum-with f class [] = sum_by-cons f class []
-sum-with f class (a ∷ list) =
-    elim (cases_lt class a) [
-      | inl before ↦ rw (lt-ltb class a before) (sum_by-cons f class (a ∷ list))
-      | inr after ↦ rw (le-ltb class a after) (omega (arith, sum_by-cons f a (with_class class list), sum_by-cons f a list, sum-with f class list))
-    ]
+order-permutes : (list : List ℕ) → IsPermutation list (in_order list)
+order-permutes [] = IsPermutation-refl []
+order-permutes (class ∷ list) = IsPermutation-trans _ _ _ (IsPermutation-cons class _ _ (order-permutes list)) (with-permutes class (in_order list))
 
 eq_turned : (a b : ℕ) → (a == b) ≡ (b == a)
 eq_turned a b = grind (arith, nat_tests)
@@ -67,7 +48,7 @@ repeat-with class (a ∷ list) =
     elim (cases_lt class a) [
       | inl before ↦ rw (lt-ltb class a before) refl
       | inr after ↦
-          rw (le-ltb class a after, any-with (λ other. other == a) class list, repeat-with class list, eq_turned class a) (turned (a == class) (lists list a) (lists list class) (has_no_repeat list))
+          rw (le-ltb class a after, sym (list_any-IsPermutation (λ other. other == a) _ _ (with-permutes class list)), repeat-with class list, eq_turned class a) (turned (a == class) (lists list a) (lists list class) (has_no_repeat list))
     ]
   where
     turned : (e x y z : Bool) → (not (e || x) && (not y && z)) ≡ (not (e || y) && (not x && z))
@@ -79,16 +60,21 @@ repeat-with class (a ∷ list) =
 
 -- so the list in order has what the list has
 pub any-ordered : (f : ℕ → Bool) (list : List ℕ) → list_any f (in_order list) ≡ list_any f list
-any-ordered f [] = refl
-any-ordered f (class ∷ list) = any-with f class (in_order list) ∙ ap (λ b. f class || b) (any-ordered f list)
+any-ordered f list = sym (list_any-IsPermutation f list (in_order list) (order-permutes list))
+
+all_by_any : (f : ℕ → Bool) (list : List ℕ) → list_all f list ≡ not (list_any (λ class. not (f class)) list)
+all_by_any f [] = refl
+all_by_any f (class ∷ list) = rw (all_by_any f list) (turned (f class) (list_any (λ class. not (f class)) list))
+  where
+    turned : (x y : Bool) → (x && not y) ≡ not (not x || y)
+    turned true y = refl
+    turned false y = refl
 
 all-ordered : (f : ℕ → Bool) (list : List ℕ) → list_all f (in_order list) ≡ list_all f list
-all-ordered f [] = refl
-all-ordered f (class ∷ list) = all-with f class (in_order list) ∙ ap (λ b. f class && b) (all-ordered f list)
+all-ordered f list = all_by_any f (in_order list) ∙ ap not (any-ordered (λ class. not (f class)) list) ∙ sym (all_by_any f list)
 
 sum-ordered : (f : ℕ → ℕ) (list : List ℕ) → sum_by f (in_order list) ≡ sum_by f list
-sum-ordered f [] = refl
-sum-ordered f (class ∷ list) = omega (arith, sum-with f class (in_order list), sum_by-cons f class list, sum-ordered f list)
+sum-ordered f list = sum_by-IsPermutation f list (in_order list) (order-permutes list)
 
 pub repeat-ordered : (list : List ℕ) → has_no_repeat (in_order list) ≡ has_no_repeat list
 repeat-ordered [] = refl
@@ -99,18 +85,14 @@ all_same : {X : Type 0} (f g : X → Bool) → ((x : X) → f x ≡ g x) → (xs
 all_same f g same [] = refl
 all_same f g same (x ∷ xs) = rw (same x, all_same f g same xs) refl
 
-fills-ordered : (p : Parts) (list : List ℕ) (config : Span) → fills p (in_order list) config ≡ fills p list config
-unfolding fills
-fills-ordered p list config = all_same (has_one (in_order list)) (has_one list) (λ s. ap (λ n. n == 1) (sum-ordered (λ c. cond (is_in c s) 1 0) list)) (spans_at p.subparts config)
-
-avoids-ordered : (p : Parts) (list : List ℕ) (config : Span) → avoids p (in_order list) config ≡ avoids p list config
-unfolding avoids
-avoids-ordered p list config = all_same (has_none (in_order list)) (has_none list) (λ s. ap (λ n. n == 0) (sum-ordered (λ c. cond (is_in c s) 1 0) list)) (spans_at p.subparts config)
+each-ordered : (n : ℕ) (p : Parts) (list : List ℕ) (config : Span) → has_of_each n p (in_order list) config ≡ has_of_each n p list config
+each-ordered n p list config = all_same (has_count n (in_order list)) (has_count n list) (λ s. ap (λ k. k == n) (sum-ordered (λ c. cond (is_in c s) 1 0) list)) (spans_at p.subparts config)
 
 takes_one-ordered : (p : Parts) (list : List ℕ) (configs : List Span) → takes_one p (in_order list) configs ≡ takes_one p list configs
+unfolding fills avoids
 takes_one-ordered p list [] = refl
 takes_one-ordered p list (c ∷ configs) =
-    rw (fills-ordered p list c, all_same (avoids p (in_order list)) (avoids p list) (avoids-ordered p list) configs, avoids-ordered p list c, takes_one-ordered p list configs) refl
+    rw (each-ordered 1 p list c, all_same (avoids p (in_order list)) (avoids p list) (each-ordered 0 p list) configs, each-ordered 0 p list c, takes_one-ordered p list configs) refl
 
 course-ordered : (p : Parts) (list : List ℕ) (o : Option CoursePart) → option_map_or (takes_course p (in_order list)) o false ≡ option_map_or (takes_course p list) o false
 unfolding takes_course

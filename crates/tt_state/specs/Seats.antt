@@ -1,5 +1,6 @@
 -- Seats: whether a class takes one student more.
-use Rattle.std.specs.Prelude.{ℕ, Bool, true, nat_lt, List, [], ◌∷◌, Option, Some, None, count_by, slice_get, slice_set, if◌then◌else◌}
+use Rattle.std.specs.Prelude.{ℕ, Bool, true, not, nat_lt, List, [], ◌∷◌, Option, None, count_by, slice_get, slice_set}
+use Rattle.std.specs.List.{find}
 use Rattle.std.specs.Option.{option_map_or}
 use Rattle.tt_problem.specs.declared.parts.Parts.{Parts}
 use Rattle.tt_roster.specs.Lists.{has_class}
@@ -23,9 +24,7 @@ has_seat p lists student class = option_map_or (nat_lt (others_with lists studen
 
 -- the first of some classes that has no seat for a student, if there is one
 abbrev pub first_without_seat : Parts → List (List ℕ) → (student : ℕ) → List ℕ → Option ℕ
-first_without_seat p lists student [] = None
-first_without_seat p lists student (class ∷ classes) =
-    if has_seat p lists student class then first_without_seat p lists student classes else Some class
+first_without_seat p lists student classes = find (λ class. not (has_seat p lists student class)) classes
 
 -- a student may have these classes: they are none, or a valid enrolment
 abbrev pub may_have : Parts → (student : ℕ) → List ℕ → Bool

@@ -1,4 +1,4 @@
-ghost use Rattle.std.specs.Prelude.{◌≡◌, ◌+◌, ◌<◌, ◌≤◌, ◌∷◌, None, length, slice_index_or, slice_set};
+ghost use Rattle.std.specs.Prelude.{◌≡◌, ◌+◌, ◌<◌, ◌≤◌, ◌^◌, ◌∷◌, None, length, slice_index_or, slice_set};
 ghost use Rattle.tt_score.specs.Kept.{Fits, plan_of, seats_of};
 ghost use Rattle.tt_roster.specs.Lists.{list_of, with_class, without_class};
 ghost use Rattle.tt_state.specs.History.{point_count};
@@ -112,6 +112,7 @@ pub fn change(
     ensures fits { Fits problem.now score.new }
     ensures entries { journal.new.list ≡ Entry.Placed class (slice_index_or (plan_of score.old) class None) ∷ journal.old.list }
     ensures spare { journal.new.spare + 1 ≡ journal.old.spare }
+    ensures few { length journal.new.list < 2 ^ 63 }
 {
     let before = value_now(score, class);
     journal.push(Entry::Placed { class, before });

@@ -45,10 +45,8 @@ fn take_out(
     ensures entries { OnOk result (journal.new.list ≡ noted_out key.class key.value key.other (Some key.other_value) journal.old.list) }
     ensures spare { OnOk result (journal.new.spare + 2 ≡ journal.old.spare) }
 {
-    // A count is at most the number of entries, which are fewer than 2^63.
-    let _entries = journal.len();
-    statistics.bump(key)?;
     change(problem, score, journal, key.other, None);
+    statistics.bump(key)?;
     journal.push(Entry::Bumped { key });
     Ok(())
 }

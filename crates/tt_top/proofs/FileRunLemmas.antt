@@ -14,14 +14,14 @@ use Rattle.tt_desk.specs.Replies.{replies_to, refuses}
 use Rattle.tt_top.specs.declared.end.End.{End}
 use Rattle.tt_top.specs.declared.end.End.TheVariants.{Files, Sink, Memory, TooLong}
 use Rattle.tt_top.specs.declared.end.Done.{Done}
-use Rattle.tt_top.specs.declared.end.Done.TheVariants.{Served, Faulty, Made}
+use Rattle.tt_top.specs.declared.end.Done.TheVariants.{Served, Faulty, Made, Usage}
 use Rattle.tt_top.specs.declared.end.Input.{Input}
 use Rattle.tt_top.specs.declared.end.Input.TheVariants.{Problem, Published}
 use Rattle.tt_top.specs.declared.end.InputFault.{InputFault}
 use Rattle.tt_top.specs.Words.{FileWords, first_words, file_words}
 use Rattle.tt_top.specs.Transcript.{Bytes, FaultyFile, opened, transcript, transcript_from, text_of, first_line, opening_line}
-use Rattle.tt_top.specs.Run.{Moment, Outside, TellFirst, Tell, IsTold, is_long, opens_published, opens_script, due_status, WritesFirst, IsTranscript, IsDue, IsComplete, HasCauses, AsksInOrder, IsStatus, IsFileRun}
-use Rattle.tt_top.specs.Ends.{input_status, faulty_file, seen, end_status, done_status, status_of, HasEndCause, front_words, Begins, Opens, IsFaultyAt, AsksFirst, Serves}
+use Rattle.tt_top.specs.Run.{Moment, Outside, TellFirst, Tell, IsTold, is_long, opens_published, opens_script, due_status, WritesFirst, IsTranscript, IsDue, IsComplete, HasCauses, AsksInOrder, IsFileRun}
+use Rattle.tt_top.specs.Ends.{input_status, faulty_file, seen, end_status, done_status, done_by, status_of, HasEndCause, front_words, Begins, Opens, IsFaultyAt, AsksFirst, Serves}
 use Rattle.tt_top.proofs.LoadLemmas.{not_longer, longer}
 
 -- ---- statuses
@@ -32,6 +32,9 @@ over_four Files le = omega arith
 over_four Sink le = omega arith
 over_four Memory le = omega arith
 over_four TooLong le = omega arith
+
+end_is_no_usage : (e : End) → end_status e ≢ 2
+end_is_no_usage e is = over_four e (omega arith)
 
 -- the status of a script that was served, or of its end
 abbrev pub serve_status : Result Bool End → ℕ
@@ -67,6 +70,11 @@ done_cause which before now x y cause = record {
   rose = λ is. absurd cc;
   same = λ _. cause.same (λ is. cc);
 }
+
+-- a script that was served, or its end, as the end of the run
+pub served_cause : (which : End) (before now : ℕ) (r : Result Bool End) → HasEndCause which before now r → HasEndCause which before now (done_by r)
+served_cause which before now (Ok refused) cause = done_cause which before now refused (Served refused) cause
+served_cause which before now (Err e) cause = same_cause which before now e cause
 
 -- a phase that fails, after one that went well, by another end
 pub no_cause : {T U : Type 0} (which e : End) (before now : ℕ) (value : T) → HasEndCause {T = T} which before now (Ok value) → e ≢ which → HasEndCause {T = U} which before now (Err e)
@@ -363,6 +371,7 @@ few_done : (done : Done) → done_status done ≤ 4
 few_done (Served refused) = let le : done_status (Served refused) ≤ 1 = at_most_one refused in omega arith
 few_done (Faulty input) = (three_or_four input).1
 few_done Made = omega arith
+few_done Usage = omega arith
 
 not_five : (done : Done) → (done_status done ≡ 5) ⊎ (done_status done ≡ 6) → ⊥
 not_five done is = let le = few_done done in elim is [ inl five ↦ omega arith | inr six ↦ omega arith ]
@@ -389,14 +398,12 @@ has_causes o r files sink = record {
   sink_same = λ ne. sink.same (λ is. ne (ap status_of is));
 }
 
-is_status : (r : Result Done End) → IsStatus (status_of r)
-is_status (Ok (Served refused)) = let le : done_status (Served refused) ≤ 1 = at_most_one refused in record { at_most = omega arith; no_usage = λ is. omega arith }
-is_status (Ok (Faulty input)) = let range = three_or_four input in let three = range.0 in let four = range.1 in record { at_most = omega arith; no_usage = λ is. omega arith }
-is_status (Ok Made) = record { at_most = omega arith; no_usage = λ is. omega arith }
-is_status (Err Files) = record { at_most = omega arith; no_usage = λ is. omega arith }
-is_status (Err Sink) = record { at_most = omega arith; no_usage = λ is. omega arith }
-is_status (Err Memory) = record { at_most = omega arith; no_usage = λ is. omega arith }
-is_status (Err TooLong) = record { at_most = omega arith; no_usage = λ is. omega arith }
+most_status : (r : Result Done End) → status_of r ≤ 8
+most_status (Ok done) = let few = few_done done in omega arith
+most_status (Err Files) = omega arith
+most_status (Err Sink) = omega arith
+most_status (Err Memory) = omega arith
+most_status (Err TooLong) = omega arith
 
 -- a run without a failed call ends as is due, or for want of memory
 completes : (words : FileWords) (limit : ℕ) (o : Outside) (r : Result Done End) → IsDue words limit o (status_of r) → HasCauses o (status_of r) → IsComplete words limit o (status_of r)
@@ -406,14 +413,14 @@ completes words limit o (Err Sink) due causes = record { complete = λ b told nf
 completes words limit o (Err Memory) due causes = record { complete = λ b told nf ns. inr refl }
 completes words limit o (Err TooLong) due causes = record { complete = λ b told nf ns. inl (due.due b told (inr refl)) }
 
-is_file_run : (words : FileWords) (limit : ℕ) (o : Outside) (r : Result Done End) → IsTranscript words limit o (status_of r) → IsDue words limit o (status_of r) → AsksInOrder words limit o (status_of r) → HasEndCause Files o.before.files o.now.files r → HasEndCause Sink o.before.sink o.now.sink r → IsFileRun words limit o (status_of r)
-is_file_run words limit o r text due names files sink = record {
+is_file_run : (words : FileWords) (limit : ℕ) (o : Outside) (r : Result Done End) → IsTranscript words limit o (status_of r) → IsDue words limit o (status_of r) → AsksInOrder words limit o (status_of r) → HasEndCause Files o.before.files o.now.files r → HasEndCause Sink o.before.sink o.now.sink r → status_of r ≢ 2 → IsFileRun words limit o (status_of r)
+is_file_run words limit o r text due names files sink no_usage = record {
   transcript = text;
   due = due;
   complete = completes words limit o r due (has_causes o r files sink);
   causes = has_causes o r files sink;
   names = names;
-  statuses = is_status r;
+  statuses = record { at_most = most_status r; no_usage = no_usage };
 }
 
 -- ---- a run, by how it ends
@@ -427,7 +434,7 @@ module _ (words : FileWords) (limit : ℕ) (o : Outside) where
       → HasEndCause {T = Result Session InputFault} Sink o.before.sink o.now.sink (Err e)
       → IsFileRun words limit o (end_status e)
   early_run e opens asks files sink =
-      is_file_run words limit o (Err e) (ended_early words limit o e opens) (early_is_due words limit o e opens) (asks_early words limit o e asks) (same_cause Files _ _ e files) (same_cause Sink _ _ e sink)
+      is_file_run words limit o (Err e) (ended_early words limit o e opens) (early_is_due words limit o e opens) (asks_early words limit o e asks) (same_cause Files _ _ e files) (same_cause Sink _ _ e sink) (end_is_no_usage e)
 
   -- with a fault of a file
   pub faulty_run : (f : InputFault)
@@ -438,7 +445,7 @@ module _ (words : FileWords) (limit : ℕ) (o : Outside) where
       → IsFileRun words limit o (input_status f.input)
   faulty_run f opens asks files sink =
       is_file_run words limit o (Ok (Faulty f.input)) (ended_faulty words limit o f opens) (faulty_is_due words limit o f opens) (asks_faulty words limit o f asks)
-      (done_cause Files _ _ _ _ files) (done_cause Sink _ _ _ _ sink)
+      (done_cause Files _ _ _ _ files) (done_cause Sink _ _ _ _ sink) (λ is. let three = (three_or_four f.input).0 in omega arith)
 
   -- where the script is served, over a session that was opened at this moment
   module _ (mid : Moment) (session : Session)
@@ -450,12 +457,12 @@ module _ (words : FileWords) (limit : ℕ) (o : Outside) where
         → ((s : Option (List ℕ)) → IsTold o.holds words.script s → Serves limit mid.written o.now.written session s r)
         → Grows mid.written o.now.written → AsksAll mid.asked o.now.asked (option_to_list words.script)
         → HasEndCause Files mid.files o.now.files r → HasEndCause Sink mid.sink o.now.sink r
-        → IsFileRun words limit o (serve_status r)
+        → IsFileRun words limit o (status_of (done_by r))
     served_run (Ok refused) serves grows more files_now sink_now =
         is_file_run words limit o (Ok (Served refused)) (served words limit o mid.written session (Ok refused) opens serves grows) (served_is_due words limit o mid.written session (Ok refused) opens serves)
         (asks_served words limit o mid.written session (Ok refused) opens mid.asked grows asks more)
-        (done_cause Files _ _ _ _ (cause_after Files _ _ _ _ _ files files_now)) (done_cause Sink _ _ _ _ (cause_after Sink _ _ _ _ _ sink sink_now))
+        (done_cause Files _ _ _ _ (cause_after Files _ _ _ _ _ files files_now)) (done_cause Sink _ _ _ _ (cause_after Sink _ _ _ _ _ sink sink_now)) (λ is. let le = at_most_one refused in omega arith)
     served_run (Err e) serves grows more files_now sink_now =
         is_file_run words limit o (Err e) (served words limit o mid.written session (Err e) opens serves grows) (served_is_due words limit o mid.written session (Err e) opens serves)
         (asks_served words limit o mid.written session (Err e) opens mid.asked grows asks more)
-        (same_cause Files _ _ e (cause_after Files _ _ _ _ _ files files_now)) (same_cause Sink _ _ e (cause_after Sink _ _ _ _ _ sink sink_now))
+        (same_cause Files _ _ e (cause_after Files _ _ _ _ _ files files_now)) (same_cause Sink _ _ e (cause_after Sink _ _ _ _ _ sink sink_now)) (end_is_no_usage e)

@@ -1,6 +1,6 @@
 -- How the files before the script give the session.
 use Rattle.std.proofs.Common.{◌≡◌, ◌≢◌, ◌≤◌, ◌<◌, ℕ, true, false, List, [], ◌∷◌, ◌++◌, None, Some, Option, Result, Ok, Err, refl, ◌∙◌, ap, append_assoc, arith, length}
-use Rattle.std.specs.Prelude.{IfOk, IfErr, IsErrAnd, IsSome, is_ok, option_to_list}
+use Rattle.std.specs.Prelude.{IfOk, IfErr, IsSome, is_ok, option_to_list}
 use Rattle.std.proofs.lemmas.Bool.{lt-ltb, le-ltb}
 use Rattle.std.proofs.Math.Seq.{take-length}
 use Rattle.tt_io.specs.Causes.{Asks, AsksAll}
@@ -18,13 +18,6 @@ use Rattle.tt_top.specs.Words.{FileWords, first_words}
 use Rattle.tt_top.specs.Transcript.{Bytes, FaultyFile, problem_read, published_in, opened}
 use Rattle.tt_top.specs.Run.{IsTold, TellFirst, is_long, opens_published}
 use Rattle.tt_top.specs.Ends.{faulty_file, seen, rest_of, Begins, AsksFirst, IsFaultyAt, IsAsked}
-
--- ---- ends
-
--- an end that a phase hands on
-pub handed_end : {T : Type 0} (r : Result T End) (x : End) → IsErrAnd r (λ e. e ≡ x) → r ≡ Err x
-handed_end (Ok done) x gives = absurd gives
-handed_end (Err e) x gives = ap Err gives
 
 -- ---- lengths
 

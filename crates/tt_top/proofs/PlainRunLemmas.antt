@@ -15,8 +15,8 @@ use Rattle.tt_top.specs.declared.end.End.TheVariants.{Files, Sink, Memory, TooLo
 use Rattle.tt_top.specs.declared.end.Done.{Done}
 use Rattle.tt_top.specs.declared.end.InputFault.{InputFault}
 use Rattle.tt_top.specs.Transcript.{FaultyFile, Transcript, transcript_from, text_of, first_line}
-use Rattle.tt_top.specs.Run.{WritesFirst}
-use Rattle.tt_top.specs.Ends.{input_status, faulty_file, seen, end_status, status_of, HasEndCause, OpensMade, ServesLines, WritesPlain, EndsPlain}
+use Rattle.tt_top.specs.Run.{Outside, WritesFirst, IsPlainRun}
+use Rattle.tt_top.specs.Ends.{input_status, faulty_file, seen, end_status, done_by, status_of, HasEndCause, OpensMade, ServesLines, WritesPlain}
 use Rattle.tt_top.proofs.FileRunLemmas.{serve_status, at_most_one, at_most_four, none_first, whole_first, first_front, first_line_front, is_six}
 
 -- ---- what is written
@@ -69,7 +69,7 @@ made_failed before now o s TooLong opens = absurd opens
 pub made_faulty : (before now : Option (List ℕ)) (o : Result Session FaultyFile) (s : List ℕ) (f : InputFault) → OpensMade before now o (Ok (Err f)) → WritesPlain (transcript_from o s) before now (input_status f.input)
 made_faulty before now o s f opens = rw opens.0 (one_whole before now (faulty_file f).line (input_status f.input) (at_most_four f.input) opens.1)
 
-pub made_served : (before mid now : Option (List ℕ)) (o : Result Session FaultyFile) (s : List ℕ) (session : Session) (r : Result Bool End) → OpensMade before mid o (Ok (Ok session)) → ServesLines mid now session s r → WritesPlain (transcript_from o s) before now (serve_status r)
+pub made_served : (before mid now : Option (List ℕ)) (o : Result Session FaultyFile) (s : List ℕ) (session : Session) (r : Result Bool End) → OpensMade before mid o (Ok (Ok session)) → ServesLines mid now session s r → WritesPlain (transcript_from o s) before now (status_of (done_by r))
 made_served before mid now o s session (Ok refused) opens serves =
     let le : serve_status (Ok refused) ≤ 1 = at_most_one refused in
     let few : serve_status (Ok refused) ≤ 4 = omega arith in
@@ -100,9 +100,18 @@ serves_lines before now d text s (Err TooLong) is refuses_is written memory fron
 
 -- ---- the answer of a run
 
-pub ends_plain : (t : Transcript) (before now : Option (List ℕ)) (faults faults_now : ℕ) (r : Result Done End) → WritesPlain t before now (status_of r) → HasEndCause Sink faults faults_now r → EndsPlain t before now faults faults_now (status_of r)
-ends_plain t before now faults faults_now r writes cause = record {
-  writes = writes;
-  rose = λ is. cause.rose (is_six r is);
-  same = λ ne. cause.same (λ is. ne (ap status_of is));
+pub plain_run : (t : Transcript) (o : Outside) (r : Result Done End) → WritesPlain t o.before.written o.now.written (status_of r) → HasEndCause Sink o.before.sink o.now.sink r
+    → o.now.files ≡ o.before.files → o.now.asked ≡ o.before.asked → IsPlainRun t o (status_of r)
+plain_run t o r writes cause files asked = record {
+  whole = writes.whole;
+  pieces = writes.pieces;
+  front = writes.front;
+  statuses = writes.statuses;
+  causes = record {
+    files = λ five. absurd (writes.no_files five);
+    sink = λ six. cause.rose (is_six r six);
+    files_same = λ ne. files;
+    sink_same = λ ne. cause.same (λ is. ne (ap status_of is));
+  };
+  asks = asked;
 }

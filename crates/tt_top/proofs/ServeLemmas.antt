@@ -73,6 +73,6 @@ refused_more false one later later' all is splits = sym splits ∙ is
 -- ---- ends
 
 -- a phase that hands on how another one ended
-pub handed_on : {T U : Type 0} (r : Result T End) (s : Result U End) (x end : End) → s ≡ Err x → IsErrAnd r (λ e. e ≡ x) → r ≡ Err end → s ≡ Err end
-handed_on (Ok v) s x end was gives is = absurd gives
-handed_on (Err e) s x end was gives is = let same : e ≡ end = cc in was ∙ ap Err (sym gives ∙ same)
+pub passed_end : {T U : Type 0} (r : Result T End) (s : Result U End) (x end : End) → s ≡ Err x → IsErrAnd r (λ e. e ≡ x) → r ≡ Err end → s ≡ Err end
+passed_end (Ok v) s x end was gives is = absurd gives
+passed_end (Err e) s x end was gives is = let same : e ≡ end = cc in was ∙ ap Err (sym gives ∙ same)

@@ -11,7 +11,7 @@ use Rattle.tt_desk.specs.Replies.{replies_to, refuses}
 use Rattle.tt_top.specs.declared.end.End.{End}
 use Rattle.tt_top.specs.declared.end.End.TheVariants.{Files, Sink, Memory, TooLong}
 use Rattle.tt_top.specs.declared.end.Done.{Done}
-use Rattle.tt_top.specs.declared.end.Done.TheVariants.{Served, Faulty, Made}
+use Rattle.tt_top.specs.declared.end.Done.TheVariants.{Served, Faulty, Made, Usage}
 use Rattle.tt_top.specs.declared.end.Input.{Input}
 use Rattle.tt_top.specs.declared.end.Input.TheVariants.{Problem, Published}
 use Rattle.tt_top.specs.declared.end.InputFault.{InputFault}
@@ -52,6 +52,12 @@ abbrev pub done_status : Done → ℕ
 done_status (Served refused) = if refused then 1 else 0
 done_status (Faulty input) = input_status input
 done_status Made = 0
+done_status Usage = 2
+
+-- how a run ended that served a script, by whether a line was refused
+abbrev pub done_by : Result Bool End → Result Done End
+done_by (Ok refused) = Ok (Served refused)
+done_by (Err end) = Err end
 
 -- the status of a run, by how it ended
 abbrev pub status_of : Result Done End → ℕ
@@ -148,9 +154,3 @@ pub record WritesPlain (t : Transcript) (before now : Option (List ℕ)) (status
   pub front : WritesFront before now (text_of t)
   pub statuses : (status ≡ t.status) ⊎ ((status ≡ 6) ⊎ (status ≡ 7))
   pub no_files : status ≢ 5
-
--- The same, with the count of failed calls on the output.
-pub record EndsPlain (t : Transcript) (before now : Option (List ℕ)) (faults faults_now : ℕ) (status : ℕ) : Type 0 where
-  pub writes : WritesPlain t before now status
-  pub rose : status ≡ 6 → faults_now ≡ one_more faults
-  pub same : status ≢ 6 → faults_now ≡ faults

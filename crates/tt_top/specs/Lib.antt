@@ -2,4 +2,4 @@ pub mod Words
 pub mod Transcript
 pub mod Run
 pub mod Ends
-pub mod Asked
+pub mod Forms

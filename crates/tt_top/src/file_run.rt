@@ -5,7 +5,7 @@ ghost use Rattle.tt_top.specs.Transcript.{Bytes};
 ghost use Rattle.tt_top.specs.Run.{IsFileRun, IsTold, TellFirst};
 ghost use Rattle.tt_top.specs.Ends.{AsksFirst, HasEndCause, Opens, Serves, front_words, status_of};
 
-use crate::end::{Done, End, Loaded};
+use crate::end::{Done, End, Loaded, served};
 use crate::load::{load, read_file};
 use crate::serve::{serve_all, write_first};
 use std::alloc::Global;
@@ -73,10 +73,7 @@ pub fn run_files<F: Files, S: Sink>(
         (status_of result) }
 {
     match begin(limit, alloc, problem, published, files, out)? {
-        Ok(mut session) => {
-            let refused = serve_script(limit, alloc, &mut session, script, files, out)?;
-            Ok(Done::Served { refused })
-        }
+        Ok(mut session) => served(serve_script(limit, alloc, &mut session, script, files, out)),
         Err(fault) => Ok(Done::Faulty(fault.input)),
     }
 }

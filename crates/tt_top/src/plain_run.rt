@@ -2,10 +2,10 @@ ghost use Rattle.std.specs.Prelude.{◌≡◌, ◌++◌, [], None, IfOk, IfErr, 
 ghost use Rattle.tt_make.specs.Text.{make_text};
 ghost use Rattle.tt_text.specs.Fields.{field};
 ghost use Rattle.tt_top.specs.Transcript.{demo_script, demo_transcript, make_transcript, opened};
-ghost use Rattle.tt_top.specs.Ends.{EndsPlain, HasEndCause, OpensMade, ServesLines, WritesPlain, seen, status_of};
-ghost use Rattle.tt_top.specs.Asked.{IsClassCount};
+ghost use Rattle.tt_top.specs.Ends.{HasEndCause, OpensMade, ServesLines, WritesPlain, seen, status_of};
+ghost use Rattle.tt_top.specs.Forms.{IsClassCount};
 
-use crate::end::{Done, End, Loaded, status};
+use crate::end::{Done, End, Loaded, served};
 use crate::load::problem_in;
 use crate::serve::{hand_on, serve_all, write_first};
 use std::alloc::{AllocError, Global};
@@ -80,8 +80,8 @@ fn serve_demo<S: Sink>(
     serve_all(alloc, session, script.bytes(), out)
 }
 
-// Answers the script of `demo` over a problem that is made.
-fn demo<S: Sink>(
+/// Answers the script of `demo` over a problem that is made.
+pub fn demo<S: Sink>(
     alloc: Global,
     seed: u64,
     classes: u32,
@@ -93,10 +93,7 @@ fn demo<S: Sink>(
     ensures cause { HasEndCause End.Sink (S.faults out.old) (S.faults out.new) result }
 {
     match begin_made(alloc, seed, classes, out)? {
-        Ok(mut session) => {
-            let refused = serve_demo(alloc, &mut session, seed, turns, out)?;
-            Ok(Done::Served { refused })
-        }
+        Ok(mut session) => served(serve_demo(alloc, &mut session, seed, turns, out)),
         Err(fault) => Ok(Done::Faulty(fault.input)),
     }
 }
@@ -111,8 +108,8 @@ fn made_line(alloc: Global, seed: u64, classes: u32) -> Result<Vec<u8>, AllocErr
     Ok(line)
 }
 
-// Writes the text of a problem that is made.
-fn make<S: Sink>(alloc: Global, seed: u64, classes: u32, out: &mut S) -> Result<Done, End>
+/// Writes the text of a problem that is made.
+pub fn make<S: Sink>(alloc: Global, seed: u64, classes: u32, out: &mut S) -> Result<Done, End>
     requires { IsClassCount classes }
     ensures writes { WritesPlain (make_transcript seed classes) (S.written out.old) (S.written out.new) (status_of result) }
     ensures cause { HasEndCause End.Sink (S.faults out.old) (S.faults out.new) result }
@@ -120,20 +117,4 @@ fn make<S: Sink>(alloc: Global, seed: u64, classes: u32, out: &mut S) -> Result<
     let line = made_line(alloc, seed, classes)?;
     hand_on(out, &line)?;
     Ok(Done::Made)
-}
-
-/// A run of a fixed script over a problem that is made.
-pub fn run_demo<S: Sink>(alloc: Global, seed: u64, classes: u32, turns: u32, out: &mut S) -> u8
-    requires { IsClassCount classes }
-    ensures { EndsPlain (demo_transcript seed classes turns) (S.written out.old) (S.written out.new) (S.faults out.old) (S.faults out.new) result }
-{
-    status(demo(alloc, seed, classes, turns, out))
-}
-
-/// A run that makes a problem.
-pub fn run_make<S: Sink>(alloc: Global, seed: u64, classes: u32, out: &mut S) -> u8
-    requires { IsClassCount classes }
-    ensures { EndsPlain (make_transcript seed classes) (S.written out.old) (S.written out.new) (S.faults out.old) (S.faults out.new) result }
-{
-    status(make(alloc, seed, classes, out))
 }

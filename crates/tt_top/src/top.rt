@@ -1,12 +1,12 @@
-ghost use Rattle.std.specs.Prelude.{◌≢◌, [], ◌∷◌, map, string_bytes};
+ghost use Rattle.std.specs.Prelude.{◌≢◌, [], ◌∷◌, Err, map, string_bytes};
 ghost use Rattle.tt_top.specs.Words.{form_of, usage_line};
 ghost use Rattle.tt_top.specs.Run.{IsRun, file_limit};
-ghost use Rattle.tt_top.specs.Ends.{EndsPlain};
+ghost use Rattle.tt_top.specs.Ends.{HasEndCause, WritesPlain, status_of};
 
-use crate::end::status;
+use crate::end::{Done, End, status};
 use crate::file_run::run_files;
 use crate::form::{Form, read_form};
-use crate::plain_run::{run_demo, run_make};
+use crate::plain_run::{demo, make};
 use crate::serve::hand_on;
 use std::alloc::Global;
 use tt_io::{Files, Sink};
@@ -18,14 +18,13 @@ const USAGE: &[u8] =
     b"usage: uttab run PROBLEM SCRIPT [PUBLISHED] | check PROBLEM | demo SEED CLASSES TURNS | make SEED CLASSES\n";
 
 // A run whose words are in no form.
-fn run_usage<S: Sink>(out: &mut S) -> u8
-    ensures usage { EndsPlain (record { pieces = usage_line ∷ []; status = 2 }) (S.written out.old) (S.written out.new) (S.faults out.old) (S.faults out.new) result }
-    ensures no_memory { result ≢ 7 }
+fn usage<S: Sink>(out: &mut S) -> Result<Done, End>
+    ensures writes { WritesPlain (record { pieces = usage_line ∷ []; status = 2 }) (S.written out.old) (S.written out.new) (status_of result) }
+    ensures cause { HasEndCause End.Sink (S.faults out.old) (S.faults out.new) result }
+    ensures no_memory { result ≢ Err End.Memory }
 {
-    match hand_on(out, USAGE) {
-        Ok(()) => 2,
-        Err(_) => 6,
-    }
+    hand_on(out, USAGE)?;
+    Ok(Done::Usage)
 }
 
 /// Does the same as [`run`], with another limit on the bytes of a file.
@@ -44,24 +43,25 @@ pub fn run_within<F: Files, S: Sink>(
         })
         result }
 {
-    match read_form(words) {
+    let ended = match read_form(words) {
         Some(
             Form::Files {
                 problem,
                 published,
                 script,
             },
-        ) => status(run_files(limit, alloc, problem, published, script, files, out)),
+        ) => run_files(limit, alloc, problem, published, script, files, out),
         Some(
             Form::Demo {
                 seed,
                 classes,
                 turns,
             },
-        ) => run_demo(alloc, seed, classes, turns, out),
-        Some(Form::Make { seed, classes }) => run_make(alloc, seed, classes, out),
-        None => run_usage(out),
-    }
+        ) => demo(alloc, seed, classes, turns, out),
+        Some(Form::Make { seed, classes }) => make(alloc, seed, classes, out),
+        None => usage(out),
+    };
+    status(ended)
 }
 
 /// Does what the words of the command line say, and answers the status with which the program ends:

@@ -10,6 +10,3 @@ mod times;
 pub use context::Context;
 pub use courses::{Classes, Configs, Subparts, Tree, read_courses};
 pub use rooms::{Rooms, read_rooms};
-
-#[cfg(test)]
-mod tests;

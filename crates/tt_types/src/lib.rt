@@ -5,6 +5,3 @@ mod text;
 mod types;
 
 pub use types::read_type;
-
-#[cfg(test)]
-mod tests;

@@ -1,15 +1,14 @@
-use Rattle.std.proofs.Common.{◌≡◌, ◌<◌, None, Ok, Err, true, [], length, ap, sym, ◌∙◌, rules, arith}
+use Rattle.std.proofs.Common.{refl, ◌≡◌, ◌<◌, None, Ok, Err, true, [], length, ap, sym, ◌∙◌, rules, arith}
 use Rattle.std.specs.Prelude.{slice_set}
 use Rattle.std.proofs.lemmas.List.Elements.{All-get_or}
 use Rattle.tt_roster.specs.Lists.{Ascends, list_of}
 use Rattle.tt_state.specs.declared.state.Refusal.TheVariants.{BadSection, Memory, NoSeat}
 use Rattle.tt_state.specs.History.{Desk, before_step}
-use Rattle.tt_state.specs.Seats.{first_without_seat, may_have}
 use Rattle.tt_state.specs.Snapshots.{in_order, list_in}
 use Rattle.tt_search.specs.Changed.{with_lists}
-use Rattle.tt_search.specs.Recalled.{with_return}
+use Rattle.tt_search.specs.Recalled.{may_return, with_return}
 use Rattle.tt_search.proofs.ListLemmas.{below_end, in_order_same}
-use Rattle.tt_search.proofs.ReturnLemmas.{returned, not_seated, may_by, valid_by, free_by, some_class}
+use Rattle.tt_search.proofs.ReturnLemmas.{not_seated, may_by, some_class}
 use Rattle.tt_state.proofs.StepLemmas.{before_section, within_moved}
 use Rattle.tt_search.proofs.recalling.seat.Goals as goal
 
@@ -35,13 +34,12 @@ returns-in-Ok-clause-present c =
     let list = c.classes_of-classes.result.now in
     let belongs = c.requires.belongs in
     let answer = c.section_step.ensures in
-    let valid : may_have start.problem student list ≡ true =
-    valid_by c.section_step.result _ answer.bad_section (λ no. let both : Ok c.in-Ok.field-0 ≡ Err BadSection = sym c.in-Ok.is ∙ no in cc) in
-    let free : first_without_seat start.problem start.present.lists student list ≡ None =
-    free_by c.section_step.result _ _ answer.no_seat valid (λ class no. let both : Ok c.in-Ok.field-0 ≡ Err (NoSeat class) = sym c.in-Ok.is ∙ no in cc) in
     let some = some_class list c.is_empty.result c.is_empty.ensures c.if-is_empty.false in
-    let given : with_return start.problem published start.present.lists student ≡ slice_set start.present.lists student list =
-    returned start.problem published start.present.lists student list (sym c.classes_of-classes.ensures) some valid free in
+    let may : may_return start.problem published start.present.lists student ≡ true =
+    may_by start.problem published start.present.lists student list c.section_step.result (sym c.classes_of-classes.ensures) some answer.bad_section answer.no_seat
+    (λ no. let both : Ok c.in-Ok.field-0 ≡ Err BadSection = sym c.in-Ok.is ∙ no in cc)
+    (λ class no. let both : Ok c.in-Ok.field-0 ≡ Err (NoSeat class) = sym c.in-Ok.is ∙ no in cc) in
+    let given : with_return start.problem published start.present.lists student ≡ slice_set start.present.lists student list = rw (may, c.classes_of-classes.ensures) refl in
     let within : student < length published.lists = omega (arith, belongs.lists, c.requires.student) in
     let ordered : in_order list ≡ list =
     rw c.classes_of-classes.ensures (in_order_same 0 (length start.problem.classes) (list_of published.lists student) (All-get_or (Ascends 0 (length start.problem.classes)) published.lists student [] within belongs.each)) in
@@ -66,9 +64,7 @@ returns-in-Err-clause-memory c =
     let answer = c.section_step.ensures in
     let memory : c.in-Err.refusal ≡ Memory = search rules in
     let refused : c.section_step.result ≡ Err Memory = c.in-Err.is ∙ ap Err memory in
-    let valid : may_have start.problem student list ≡ true =
-    valid_by c.section_step.result _ answer.bad_section (λ no. let both : Err Memory ≡ Err BadSection = sym refused ∙ no in cc) in
-    let free : first_without_seat start.problem start.present.lists student list ≡ None =
-    free_by c.section_step.result _ _ answer.no_seat valid (λ class no. let both : Err Memory ≡ Err (NoSeat class) = sym refused ∙ no in cc) in
     let some = some_class list c.is_empty.result c.is_empty.ensures c.if-is_empty.false in
-    may_by start.problem published start.present.lists student list (sym c.classes_of-classes.ensures) some valid free
+    may_by start.problem published start.present.lists student list c.section_step.result (sym c.classes_of-classes.ensures) some answer.bad_section answer.no_seat
+    (λ no. let both : Err Memory ≡ Err BadSection = sym refused ∙ no in cc)
+    (λ class no. let both : Err Memory ≡ Err (NoSeat class) = sym refused ∙ no in cc)

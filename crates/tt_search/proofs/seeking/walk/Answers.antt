@@ -5,7 +5,7 @@ use Rattle.rand_pcg.specs.Pcg.{pcg32}
 use Rattle.tt_state.specs.History.{IsWithinStep, trail}
 use Rattle.tt_search.specs.Turns.{turn_of}
 use Rattle.tt_search.specs.Searched.{onward, words_of}
-use Rattle.tt_search.specs.Full.{full_rank, full_best}
+use Rattle.tt_search.specs.Full.{full_rank, full_end}
 use Rattle.tt_search.specs.MovedNow.{AreMoved}
 use Rattle.tt_search.proofs.MovedLemmas.{moved_is, moved_forced}
 use Rattle.tt_state.proofs.StepLemmas.{within_next, within_same, within_still}
@@ -13,7 +13,7 @@ use Rattle.tt_search.proofs.WayLemmas.{made_turn, mark_of_added, no_turn, no_tur
 use Rattle.tt_search.proofs.seeking.walk.Goals as goal
 
 pub loop-made-init : goal.loop-made-init
-unfolding full_best
+unfolding full_end
 loop-made-init c =
     let start = c.args.state.now in
     let aim = option_copied c.args.published in
@@ -106,4 +106,4 @@ returns-clause-way c =
     let onward_is = no_turn_left start.problem aim c.args.turns c.loop-made.made (stream_of (steps_u32 pcg32) c.loop-made.words) c.loop-made.state.present all in
     let way = rw onward_is at c.loop-made.invariant.way in
     let made : c.args.turns ≡ c.loop-made.made = omega arith in
-    record { ranked = way.ranked; ends = way.ends; counts = ap (λ n. n + 0) made ∙ way.counts }
+    record { now = way.now; at = way.at; ranked = way.ranked; ends = way.ends; counts = ap (λ n. n + 0) made ∙ way.counts }

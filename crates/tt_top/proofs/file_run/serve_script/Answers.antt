@@ -1,5 +1,5 @@
 use Rattle.std.proofs.Common.{◌∙◌, refl, ap, Err}
-use Rattle.tt_top.proofs.LoadLemmas.{handed_end}
+use Rattle.tt_enrol.proofs.EnrolLemmas.{handed_on}
 use Rattle.tt_top.proofs.FileRunLemmas.{serves_text, serves_told, script_failed}
 use Rattle.tt_top.proofs.file_run.serve_script.Goals as goal
 
@@ -14,5 +14,5 @@ returns-clause-serves g c = λ s told.
 pub returns-in_err-script-clause-serves : goal.returns-in_err-script-clause-serves
 returns-in_err-script-clause-serves g c = λ s told.
     let e = c.in_err-script.ensures in
-    rw (handed_end _ _ c.from_residual.ensures.1)
+    rw (handed_on _ _ c.from_residual.ensures.1)
     (script_failed c.args.limit (g.F.Files.holds c.args.files.now) c.in-Some.name.now _ _ _ s c.in_err-script.field-0.0 refl (rw c.in-Some.is at told) (λ is. e.no_sink (ap Err is)) (λ is. e.long (ap Err is)))

@@ -1,6 +1,6 @@
-use crate::read_type;
 use tt_bits::PairKind;
 use tt_problem::DistKind;
+use tt_types::read_type;
 
 #[test]
 fn a_name_on_its_own_is_a_pair_type(rt: HostRuntime) {

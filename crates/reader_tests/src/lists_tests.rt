@@ -1,6 +1,5 @@
 ghost use Rattle.tt_fields.specs.List.{IsFew};
 
-use crate::{read_rules, read_students};
 use indexmap::IndexSet;
 use serde_json::Value;
 use std::alloc::Global;
@@ -8,6 +7,7 @@ use std::test::Fail;
 use tt_base::Row;
 use tt_bits::PairKind;
 use tt_fields::{FileFault, Known, list, whole};
+use tt_lists::{read_rules, read_students};
 use tt_problem::{DistKind, Rule, StudentPart};
 
 // Whether a reader answers with this fault.
@@ -29,6 +29,14 @@ fn rules_in(alloc: Global, known: &Known<'_>, text: &str) -> Result<Row<Rule>, F
     read_rules(alloc, known, &items)
 }
 
+// Whether a rule is this one. A required rule has no penalty.
+fn is_rule(rule: &Rule, kind: DistKind, penalty: Option<u32>, members: &[u32]) -> bool {
+    rule.kind == kind
+        && rule.required == penalty.is_none()
+        && rule.penalty == penalty.unwrap_or(0)
+        && rule.members.as_slice() == members
+}
+
 #[test]
 fn distributions_keep_their_order_and_drop_repeats(rt: HostRuntime) -> Result<(), Fail> {
     let alloc = rt.alloc();
@@ -38,21 +46,25 @@ fn distributions_keep_their_order_and_drop_repeats(rt: HostRuntime) -> Result<()
     let text =
         r#"{"d":[{"type":"MaxBreaks( 1, 6 )","penalty":1000000,"classes":[7,{"id":"5"},"07"]},{"type":"SameRoom","required":"true","penalty":[],"classes":[]}]}"#;
     let rules = rules_in(alloc, &Known::among(&ids), text)?;
-    let rules = rules.as_slice();
-    assert_eq!(rt; rules.len(), 2);
-    assert_eq!(rt; rules[0].kind, DistKind::MaxBreaks { breaks: 1, gap: 6 });
-    assert!(rt; !rules[0].required);
-    assert_eq!(rt; rules[0].penalty, 1_000_000);
-    assert_eq!(rt; rules[0].members.as_slice(), [1, 0].as_slice());
-    assert_eq!(rt;
-        rules[1].kind,
-        DistKind::Pair {
-            kind: PairKind::SameRoom
-        }
+    let [first, second] = rules.as_slice() else {
+        return Err(Fail::from("not two rules"));
+    };
+    let (breaks, gap) = (1, 6);
+    let kind = PairKind::SameRoom;
+    let members = [1, 0];
+    assert!(rt;
+        is_rule(
+            first,
+            DistKind::MaxBreaks { breaks, gap },
+            Some(1_000_000),
+            &members
+        ),
+        "first"
     );
-    assert!(rt; rules[1].required);
-    assert_eq!(rt; rules[1].penalty, 0);
-    assert!(rt; rules[1].members.is_empty());
+    assert!(rt;
+        is_rule(second, DistKind::Pair { kind }, None, &[]),
+        "second"
+    );
     Ok(())
 }
 
@@ -121,6 +133,19 @@ fn students_in(alloc: Global, known: &Known<'_>, text: &str) -> Result<Row<Stude
     read_students(alloc, known, &items)
 }
 
+// Whether a student is this one.
+fn is_student(student: &StudentPart, id: u32, courses: &[u32]) -> bool {
+    student.id == id && student.courses.as_slice() == courses
+}
+
+// Whether one student is read.
+fn is_one_student(answer: Result<Row<StudentPart>, FileFault>) -> bool {
+    match answer {
+        Ok(students) => students.len() == 1,
+        Err(_) => false,
+    }
+}
+
 #[test]
 fn students_keep_their_order_and_drop_repeats(rt: HostRuntime) -> Result<(), Fail> {
     let alloc = rt.alloc();
@@ -129,12 +154,22 @@ fn students_keep_their_order_and_drop_repeats(rt: HostRuntime) -> Result<(), Fai
     ids.insert(7)?;
     let text = r#"{"s":[{"id":"9","courses":[7,{"id":7},5]},{"id":4294967295,"courses":[]}]}"#;
     let students = students_in(alloc, &Known::among(&ids), text)?;
-    let students = students.as_slice();
-    assert_eq!(rt; students.len(), 2);
-    assert_eq!(rt; students[0].id, 9);
-    assert_eq!(rt; students[0].courses.as_slice(), [1, 0].as_slice());
-    assert_eq!(rt; students[1].id, 4_294_967_295);
-    assert!(rt; students[1].courses.is_empty());
+    let [first, second] = students.as_slice() else {
+        return Err(Fail::from("not two students"));
+    };
+    assert!(rt; is_student(first, 9, &[1, 0]), "first");
+    assert!(rt; is_student(second, 4_294_967_295, &[]), "second");
+    Ok(())
+}
+
+#[test]
+fn a_student_has_forty_courses_at_most(rt: HostRuntime) -> Result<(), Fail> {
+    let alloc = rt.alloc();
+    let mut ids = IndexSet::new(alloc);
+    ids.insert(5)?;
+    let text =
+        r#"{"s":[{"id":1,"courses":[5,5,5,5,5,5,5,5,5,5,5,5,5,5,5,5,5,5,5,5,5,5,5,5,5,5,5,5,5,5,5,5,5,5,5,5,5,5,5,5]}]}"#;
+    assert!(rt; is_one_student(students_in(alloc, &Known::among(&ids), text)));
     Ok(())
 }
 
@@ -143,9 +178,6 @@ fn faults_of_students(rt: HostRuntime) -> Result<(), Fail> {
     let alloc = rt.alloc();
     let mut ids = IndexSet::new(alloc);
     ids.insert(5)?;
-    let most =
-        r#"{"s":[{"id":1,"courses":[5,5,5,5,5,5,5,5,5,5,5,5,5,5,5,5,5,5,5,5,5,5,5,5,5,5,5,5,5,5,5,5,5,5,5,5,5,5,5,5]}]}"#;
-    assert_eq!(rt; students_in(alloc, &Known::among(&ids), most)?.len(), 1);
     for (text, fault, at) in [
         (
             r#"{"s":[{"id":1,"courses":[5]},{"id":1,"courses":[]}]}"#,
@@ -173,6 +205,6 @@ fn faults_of_students(rt: HostRuntime) -> Result<(), Fail> {
 fn unknown_ids_are_no_fault_before_ids_are_known(rt: HostRuntime) -> Result<(), Fail> {
     let alloc = rt.alloc();
     let text = r#"{"s":[{"id":1,"courses":[6,7]}]}"#;
-    assert_eq!(rt; students_in(alloc, &Known::none(), text)?.len(), 1);
+    assert!(rt; is_one_student(students_in(alloc, &Known::none(), text)));
     Ok(())
 }
