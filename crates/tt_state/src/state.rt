@@ -1,4 +1,4 @@
-ghost use Rattle.std.specs.Prelude.{◌≡◌, All, ◌+◌, ◌<◌, ◌∷◌, ◌++◌, [], ℕ, None, Some, Err, ◌↔◌, IfOk, IfErr, OnOk, OnErr, false, true, length, slice_get, take};
+ghost use Rattle.std.specs.Prelude.{◌≡◌, All, ◌+◌, ◌<◌, ◌∷◌, ◌++◌, [], ℕ, None, Some, Err, ◌↔◌, IfOk, IfErr, OnOk, OnErr, false, true, length, replicate, slice_get, take};
 ghost use Rattle.tt_plan.specs.Domain.{IsOfDomain};
 ghost use Rattle.tt_score.specs.Kept.{Fits, plan_of, seats_of};
 ghost use Rattle.tt_score.specs.Totals.{totals_of};
@@ -99,15 +99,45 @@ fn has_no_faults(totals: Totals) -> bool
     totals.unplaced == 0 && totals.unsectioned == 0 && totals.hard == 0
 }
 
+/// What a state begins with, beside its problem.
+#[derive(Drop)]
+struct Empty {
+    score: Score,
+    marks: Vec<bool>,
+    order: Vec<u32>,
+}
+
+impl Empty {
+    /// Nothing placed, no student with a class, and a mark and a place for each class.
+    fn new(alloc: Global, problem: &Problem) -> Result<Empty, AllocError>
+        ensures plan { IfOk result (λ e. plan_of e.score ≡ replicate (length problem.now.classes) None) }
+        ensures seats { IfOk result (λ e. seats_of e.score ≡ replicate (length problem.now.students) []) }
+        ensures fits { IfOk result (λ e. Fits problem.now e.score) }
+        ensures marks { IfOk result (λ e. e.marks.items ≡ replicate (length problem.now.classes) false) }
+        ensures order { IfOk result (λ e. e.order.items ≡ replicate (length problem.now.classes) 0) }
+    {
+        let count = problem.class_count() as usize;
+        let marks = vec![in alloc; false; count]?;
+        let order = vec![in alloc; 0; count]?;
+        let score = Score::new(alloc, problem)?;
+        Ok(Empty {
+            score,
+            marks,
+            order,
+        })
+    }
+}
+
 impl State {
     /// Nothing placed, no student with a class, and no step.
     pub fn start(alloc: Global, problem: Problem) -> Result<State, AllocError>
         ensures { IfOk result (λ s. s ≡ record { problem = problem; present = opening_snapshot problem; entries = []; taken = [] }) }
     {
-        let score = Score::new(alloc, &problem)?;
-        let count = problem.class_count() as usize;
-        let marks = vec![in alloc; false; count]?;
-        let order = vec![in alloc; 0; count]?;
+        let Empty {
+            score,
+            marks,
+            order,
+        } = Empty::new(alloc, &problem)?;
         Ok(State {
             problem,
             score,
