@@ -1,3 +1,4 @@
 pub mod Sets
 pub mod Facts
 pub mod Among
+pub mod Lists

@@ -22,7 +22,8 @@ use Rattle.tt_clash.specs.Freed.{IsFreedRule}
 use Rattle.tt_measure.specs.Removals.{IsPart}
 use Rattle.tt_clash.specs.Forced.{AreForced, stays_at_0, IsAt0, FitsAmong}
 use Rattle.tt_clash.proofs.AmountLemmas.{open-none, free-from_open}
-use Rattle.tt_clash.specs.ConflictSet.{is_in, spot_with, amount_with, breaks_rule, clashes, clashing, conflict_set}
+use Rattle.tt_base.specs.Lists.{is_listed}
+use Rattle.tt_clash.specs.ConflictSet.{spot_with, amount_with, breaks_rule, clashes, clashing, conflict_set}
 use Rattle.tt_occupancy.specs.Clashes.{clash}
 use Rattle.tt_clash.specs.Freed.{IsFreed}
 use Rattle.tt_clash.proofs.ListedLemmas.{in-range}
@@ -31,21 +32,21 @@ use Rattle.tt_clash.proofs.FreedLemmas.{grows, freed-all}
 use Rattle.tt_measure.proofs.RemovalLemmas.{days_over-part, load_over-part, long_blocks-part}
 
 -- a class that clashes is in the conflict set
-pub clashes-listed : (p : Parts) (amounts : ℕ → List (Option Spot) → ℕ) (spots : List (Option Spot)) (c : ℕ) (x : Spot) (d : ℕ) → clashes p spots c x d ≡ true → is_in (conflict_set p amounts spots c x) d ≡ true
+pub clashes-listed : (p : Parts) (amounts : ℕ → List (Option Spot) → ℕ) (spots : List (Option Spot)) (c : ℕ) (x : Spot) (d : ℕ) → clashes p spots c x d ≡ true → is_listed d (conflict_set p amounts spots c x) ≡ true
 clashes-listed p amounts spots c x d clash =
     let more = grows p amounts spots c x (clashing p spots c x) (rules_of p c) in
-    let first : is_in (clashing p spots c x) d ≡ true =
+    let first : is_listed d (clashing p spots c x) ≡ true =
     elim (cases_lt d (length spots)) [
       | inl within ↦ in-range (clashes p spots c x) 0 (length spots) d (omega arith) (omega arith) ∙ clash
       | inr past ↦ absurd (both_ways (clashes p spots c x d) (passes-past spots c _ d past) clash)
     ] in
-    ap (λ (l : List ℕ). is_in l d) more.1 ∙ list_any-append (nat_eq d) (clashing p spots c x) more.0 ∙ or_left _ _ first
+    ap (λ (l : List ℕ). is_listed d l) more.1 ∙ list_any-append (nat_eq d) (clashing p spots c x) more.0 ∙ or_left _ _ first
 
 -- no class that is left overlaps c in its room or breaks a required pair rule with it
 pub no-clash-left : (p : Parts) (amounts : ℕ → List (Option Spot) → ℕ) (spots : List (Option Spot)) (c : ℕ) (x : Spot) (d : ℕ) (y : Spot) → (d == c) ≡ false
     → spot_with spots c x (conflict_set p amounts spots c x) d ≡ Some y → (clash x y || list_any (breaks_rule p x d y) (rules_of p c)) ≡ false
 no-clash-left p amounts spots c x d y other stays =
-    elim (cases_Bool (is_in (conflict_set p amounts spots c x) d)) [
+    elim (cases_Bool (is_listed d (conflict_set p amounts spots c x))) [
       | inl gone ↦ let none : None ≡ Some y = rw (other, gone) at stays in absurd (cc none)
       | inr left ↦
           let is : spot_at spots d ≡ Some y = rw (other, left) at stays in
@@ -58,27 +59,27 @@ no-clash-left p amounts spots c x d y other stays =
     ]
 
 -- with more classes taken out, each member has what it had or nothing
-part-at : (spots : List (Option Spot)) (c : ℕ) (x : Spot) (some all : List ℕ) (d : ℕ) → (is_in some d ≡ true → is_in all d ≡ true) → (spot_with spots c x all d ≡ None) ⊎ (spot_with spots c x all d ≡ spot_with spots c x some d)
+part-at : (spots : List (Option Spot)) (c : ℕ) (x : Spot) (some all : List ℕ) (d : ℕ) → (is_listed d some ≡ true → is_listed d all ≡ true) → (spot_with spots c x all d ≡ None) ⊎ (spot_with spots c x all d ≡ spot_with spots c x some d)
 part-at spots c x some all d more =
     elim (cases_Bool (d == c)) [
       | inl same ↦ inr (rw same refl)
       | inr other ↦
-          elim (cases_Bool (is_in all d)) [
+          elim (cases_Bool (is_listed d all)) [
             | inl gone ↦ inl (rw (other, gone) refl)
             | inr left ↦
-                elim (cases_Bool (is_in some d)) [
-                  | inl before ↦ absurd (both_ways (is_in all d) left (more before))
+                elim (cases_Bool (is_listed d some)) [
+                  | inl before ↦ absurd (both_ways (is_listed d all) left (more before))
                   | inr not_before ↦ inr (rw (other, left, not_before) refl)
                 ]
           ]
     ]
 
-part-map : (spots : List (Option Spot)) (c : ℕ) (x : Spot) (some all members : List ℕ) → ((d : ℕ) → is_in some d ≡ true → is_in all d ≡ true) → IsPart (map (spot_with spots c x all) members) (map (spot_with spots c x some) members)
+part-map : (spots : List (Option Spot)) (c : ℕ) (x : Spot) (some all members : List ℕ) → ((d : ℕ) → is_listed d some ≡ true → is_listed d all ≡ true) → IsPart (map (spot_with spots c x all) members) (map (spot_with spots c x some) members)
 part-map spots c x some all [] more = tt
 part-map spots c x some all (d ∷ ds) more = (part-at spots c x some all d (more d), part-map spots c x some all ds more)
 
-in-front : (j : ℕ) (all : List ℕ) (d : ℕ) → is_in (take j all) d ≡ true → is_in all d ≡ true
-in-front j all d before = ap (λ (l : List ℕ). is_in l d) (sym (take-append-drop j all)) ∙ list_any-append (nat_eq d) (take j all) (drop j all) ∙ or_left _ _ before
+in-front : (j : ℕ) (all : List ℕ) (d : ℕ) → is_listed d (take j all) ≡ true → is_listed d all ≡ true
+in-front j all d before = ap (λ (l : List ℕ). is_listed d l) (sym (take-append-drop j all)) ∙ list_any-append (nat_eq d) (take j all) (drop j all) ∙ or_left _ _ before
 
 -- an amount that is 0 stays 0
 pub part-at_0 : (kind : DistKind) (weeks : ℕ) (t : Table) (g h : List (Option Spot)) → stays_at_0 kind ≡ true → IsPart g h → kind_amount kind weeks t h ≡ 0 → kind_amount kind weeks t g ≡ 0

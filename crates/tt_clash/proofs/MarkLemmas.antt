@@ -10,11 +10,12 @@ use Rattle.std.proofs.lemmas.Bool.{eq-eqb, eqb-false}
 use Rattle.std.proofs.lemmas.Bool.Decides.{eqb_tells}
 use Rattle.tt_bits.specs.declared.times.Spot.{Spot}
 use Rattle.tt_bits.specs.Spots.{spot_at}
-use Rattle.tt_clash.specs.ConflictSet.{is_in, spot_with}
+use Rattle.tt_base.specs.Lists.{is_listed}
+use Rattle.tt_clash.specs.ConflictSet.{spot_with}
 use Rattle.tt_clash.specs.Marks.{spot_unless, is_out, IsListed}
 use Rattle.tt_clash.specs.RulesOf.{IsMemberAt}
 use Rattle.tt_clash.proofs.MixedLemmas.{turned, map-one}
-use Rattle.tt_clash.proofs.FrontLemmas.{is_in-push_other}
+use Rattle.tt_clash.proofs.FrontLemmas.{is_listed-push_other}
 
 -- one more mark
 counted-more : (marks : List Bool) (d : ℕ) → d < length marks → get_or marks d false ≡ false → count_by (λ b. b) (slice_set marks d true) ≡ count_by (λ b. b) marks + 1
@@ -28,18 +29,18 @@ pub listed-room : (marks : List Bool) (order : List ℕ) (count d : ℕ) → IsL
 listed-room marks order count d listed within unmarked =
     omega (arith, counted-more marks d within unmarked, count_by-le-length (λ (b : Bool). b) (slice_set marks d true), length-set marks d true, listed.counted)
 
-is_in-push_same : (out : List ℕ) (d : ℕ) → is_in (out ++ d ∷ []) d ≡ true
-is_in-push_same out d =
+is_listed-push_same : (out : List ℕ) (d : ℕ) → is_listed d (out ++ d ∷ []) ≡ true
+is_listed-push_same out d =
     let same : nat_eq d d ≡ true = eq-eqb d d refl in
-    list_any-append (nat_eq d) out (d ∷ []) ∙ rw same (or-true (is_in out d))
+    list_any-append (nat_eq d) out (d ∷ []) ∙ rw same (or-true (is_listed d out))
 
-marks-more : (marks : List Bool) (out : List ℕ) (d : ℕ) → d < length marks → ((e : ℕ) → get_or marks e false ≡ is_in out e) → (e : ℕ) → get_or (slice_set marks d true) e false ≡ is_in (out ++ d ∷ []) e
+marks-more : (marks : List Bool) (out : List ℕ) (d : ℕ) → d < length marks → ((e : ℕ) → get_or marks e false ≡ is_listed e out) → (e : ℕ) → get_or (slice_set marks d true) e false ≡ is_listed e (out ++ d ∷ [])
 marks-more marks out d within each e =
     elim (eqb_tells d e) [
-      | inl same ↦ let is : d ≡ e = same.1 in rw (← is) (get_or-set_same marks d true false within ∙ sym (is_in-push_same out d))
+      | inl same ↦ let is : d ≡ e = same.1 in rw (← is) (get_or-set_same marks d true false within ∙ sym (is_listed-push_same out d))
       | inr other ↦
           let apart : e ≢ d = λ is. other.1 (sym is) in
-          get_or-set_other marks d e true false apart ∙ each e ∙ sym (is_in-push_other out d e other.0)
+          get_or-set_other marks d e true false apart ∙ each e ∙ sym (is_listed-push_other out d e other.0)
     ]
 
 -- a class that is marked and listed
@@ -54,10 +55,10 @@ listed-more marks order count d listed within long unmarked =
 
 -- with c put in at its place, the members have what they have once the marked classes are taken out and c has the spot
 pub held-with : (spots : List (Option Spot)) (c : ℕ) (x : Spot) (marks : List Bool) (out members : List ℕ) (place : ℕ) → IsDistinct nat_eq members → IsMemberAt members place c
-    → ((e : ℕ) → get_or marks e false ≡ is_in out e) → slice_set (map (spot_unless (is_out c marks) spots) members) place (Some x) ≡ map (spot_with spots c x out) members
+    → ((e : ℕ) → get_or marks e false ≡ is_listed e out) → slice_set (map (spot_unless (is_out c marks) spots) members) place (Some x) ≡ map (spot_with spots c x out) members
 held-with spots c x marks out members place distinct at each =
     map-one (spot_with spots c x out) (spot_unless (is_out c marks) spots) members place c (Some x) distinct at.within (get_or_default members place c 0 at.within ∙ at.is) (let same : nat_eq c c ≡ true = eq-eqb c c refl in rw same refl)
-    (λ e apart. let other : nat_eq e c ≡ false = turned c e apart in let marked : get_or marks e false ≡ is_in out e = each e in rw (other, marked) refl)
+    (λ e apart. let other : nat_eq e c ≡ false = turned c e apart in let marked : get_or marks e false ≡ is_listed e out = each e in rw (other, marked) refl)
 
 none_either : (b : Bool) (s : Option Spot) → None ≡ cond (b || true) None s
 none_either true s = refl

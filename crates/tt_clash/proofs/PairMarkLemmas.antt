@@ -15,7 +15,8 @@ use Rattle.tt_bits.specs.Spots.{spot_at}
 use Rattle.tt_pair.specs.ViolatedPairs.{is_violated}
 use Rattle.tt_problem.specs.declared.parts.RulePlace.{RulePlace}
 use Rattle.tt_problem.specs.declared.parts.Parts.{Parts}
-use Rattle.tt_clash.specs.ConflictSet.{is_in, passes, breaks_pair, breaks_rule}
+use Rattle.tt_base.specs.Lists.{is_listed}
+use Rattle.tt_clash.specs.ConflictSet.{passes, breaks_pair, breaks_rule}
 use Rattle.tt_occupancy.specs.Clashes.{clash}
 use Rattle.tt_clash.specs.Marks.{breaks_with, clashes_in_rule}
 
@@ -75,17 +76,17 @@ later_more false true false b = or-false b
 later_more false false true b = refl
 later_more false false false b = refl
 
-member-more : (place d m : ℕ) (l : List ℕ) (a b : Bool) → (((is_in (take place l) d && a) || (is_in (drop place l) d && b)) || ((d == m) && cond (nat_lt (length l) place) a b))
-    ≡ ((is_in (take place (l ++ m ∷ [])) d && a) || (is_in (drop place (l ++ m ∷ [])) d && b))
+member-more : (place d m : ℕ) (l : List ℕ) (a b : Bool) → (((is_listed d (take place l) && a) || (is_listed d (drop place l) && b)) || ((d == m) && cond (nat_lt (length l) place) a b))
+    ≡ ((is_listed d (take place (l ++ m ∷ [])) && a) || (is_listed d (drop place (l ++ m ∷ [])) && b))
 member-more place d m l a b =
     elim (cases_lt (length l) place) [
       | inl before ↦
           let one_more : length (l ++ m ∷ []) ≤ place = omega (arith, length-append l (m ∷ [])) in
           rw (lt-ltb (length l) place before, take_all place l (omega arith), drop_all place l (omega arith), take_all place (l ++ m ∷ []) one_more, drop_all place (l ++ m ∷ []) one_more, list_any-append (nat_eq d) l (m ∷ []))
-          (before_more (is_in l d) (d == m) a b)
+          (before_more (is_listed d l) (d == m) a b)
       | inr later ↦
           rw (le-ltb (length l) place later, take-append-le place l (m ∷ []) later, drop-append-le place l (m ∷ []) later, list_any-append (nat_eq d) (drop place l) (m ∷ []))
-          (later_more (is_in (take place l) d && a) (is_in (drop place l) d) (d == m) b)
+          (later_more (is_listed d (take place l) && a) (is_listed d (drop place l)) (d == m) b)
     ]
 
 pair-more : (kind : PairKind) (t : Table) (members : List ℕ) (place d q : ℕ) (x y : Spot) → q < length members

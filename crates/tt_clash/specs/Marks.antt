@@ -6,7 +6,8 @@ use Rattle.tt_bits.specs.Spots.{spot_at}
 use Rattle.tt_travel.specs.Table.{Table}
 use Rattle.tt_pair.specs.ViolatedPairs.{is_violated}
 use Rattle.tt_pool.specs.Places.{places_where}
-use Rattle.tt_clash.specs.ConflictSet.{is_in, passes, breaks_pair}
+use Rattle.tt_base.specs.Lists.{is_listed}
+use Rattle.tt_clash.specs.ConflictSet.{passes, breaks_pair}
 
 -- the member d at another place breaks the pair rule with c
 abbrev pub breaks_with : PairKind → Table → List (Option Spot) → ℕ → ℕ → Spot → ℕ → ℕ → Bool
@@ -35,7 +36,7 @@ may_go spots c marks d = not (d == c) && not (slice_index_or marks d false) && i
 -- exactly the first `count` classes of `order` are marked, and each is listed once
 pub record IsListed (marks : List Bool) (order : List ℕ) (count : ℕ) : Type 0 where
   pub counted : count ≡ count_by (λ b. b) marks
-  pub each : (d : ℕ) → slice_index_or marks d false ≡ is_in (take count order) d
+  pub each : (d : ℕ) → slice_index_or marks d false ≡ is_listed d (take count order)
 
 -- the first `count` classes of `order` are the marked ones, in order
 pub record AreInOrder (marks : List Bool) (order : List ℕ) (count : ℕ) : Type 0 where

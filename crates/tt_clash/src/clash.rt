@@ -4,7 +4,8 @@ ghost use Rattle.tt_travel.specs.Table.{IsRoomOf};
 ghost use Rattle.tt_measure.specs.Held.{AreRoomsOf};
 ghost use Rattle.tt_occupancy.specs.Clashes.{clashes_in_room};
 ghost use Rattle.tt_problem.specs.RulePlaces.{rules_of};
-ghost use Rattle.tt_clash.specs.ConflictSet.{clashing, conflict_set, is_in};
+ghost use Rattle.tt_base.specs.Lists.{is_listed};
+ghost use Rattle.tt_clash.specs.ConflictSet.{clashing, conflict_set};
 ghost use Rattle.tt_clash.specs.Freed.{IsFreeAlone, IsFreedRule};
 ghost use Rattle.tt_clash.specs.RulesOf.{IsRuleOf};
 ghost use Rattle.tt_clash.specs.Groups.{amounts_of, SameGroups, AreHeldBy};
@@ -237,7 +238,7 @@ fn list_one(marks: &mut [bool], order: &mut [u32], count: u32, class: u32) -> u3
 /// Takes the marks off the listed classes.
 fn clear_marks(marks: &mut [bool], listed: &[u32])
     requires listed { All (λ d. d < length marks.old) listed.now }
-    requires each { (d : ℕ) → slice_index_or marks.old d false ≡ is_in listed.now d }
+    requires each { (d : ℕ) → slice_index_or marks.old d false ≡ is_listed d listed.now }
     ensures { All (λ b. b ≡ false) marks.new }
 {
     for class in listed {

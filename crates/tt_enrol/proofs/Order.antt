@@ -11,7 +11,8 @@ use Rattle.std.proofs.lemmas.List.MinMax.{ranks_by}
 use Rattle.tt_problem.specs.declared.parts.Span.{Span}
 use Rattle.tt_problem.specs.Spans.{CoversFrom}
 use Rattle.tt_enrol.specs.Choices.{each_before, choices_of}
-use Rattle.tt_enrol.specs.Least.{Situation, is_allowed, pairs_added, comes_before, is_less, least, least_choice}
+use Rattle.tt_base.specs.Lists.{comes_before, least}
+use Rattle.tt_enrol.specs.Least.{Situation, is_allowed, pairs_added, is_less, least_choice}
 use Rattle.tt_enrol.specs.Passed.{is_fewer, better, passed}
 
 -- each list comes before all later ones

@@ -8,7 +8,8 @@ use Rattle.tt_bits.specs.declared.times.Spot.{Spot}
 use Rattle.tt_bits.specs.declared.times.Value.{Value}
 use Rattle.tt_problem.specs.declared.parts.Parts.{Parts}
 use Rattle.tt_plan.specs.Domain.{spot_at_value, spots_from}
-use Rattle.tt_roster.specs.Lists.{Ascends, has_class, list_of}
+use Rattle.tt_base.specs.Lists.{is_listed}
+use Rattle.tt_roster.specs.Lists.{Ascends, list_of}
 use Rattle.tt_enrol.specs.Seats.{lists_but}
 use Rattle.tt_roster.proofs.ListLemmas.{has-below}
 
@@ -16,7 +17,7 @@ use Rattle.tt_roster.proofs.ListLemmas.{has-below}
 pub record IsCounting (n : ℕ) (old list counts left : List ℕ) : Type 0 where
   pub from : ℕ
   pub ascends : Ascends from n left
-  pub each : (class : ℕ) → class < n → get_or counts class 0 + cond (has_class class left) 1 0 ≡ get_or old class 0 + cond (has_class class list) 1 0
+  pub each : (class : ℕ) → class < n → get_or counts class 0 + cond (is_listed class left) 1 0 ≡ get_or old class 0 + cond (is_listed class list) 1 0
 
 pub counting_none : (n : ℕ) (old list : List ℕ) → Ascends 0 n list → IsCounting n old list old list
 counting_none n old list up = record { from = 0; ascends = up; each = λ class lt. refl }
@@ -26,7 +27,7 @@ pub counting_next : (n : ℕ) (old list counts left : List ℕ) (class : ℕ) (r
 counting_next n old list counts left class rest h e few =
     let up : Ascends h.from n (class ∷ rest) = rw e at h.ascends in
     let each = h.each class up.1 in
-    (up.1, omega (arith, each, few class up.1, most (has_class class list)))
+    (up.1, omega (arith, each, few class up.1, most (is_listed class list)))
   where
     most : (b : Bool) → cond b 1 0 ≤ 1
     most true = omega arith
@@ -40,25 +41,25 @@ counting_more n old list counts left class rest long h e =
       from = class + 1;
       ascends = up.2;
       each = λ c lt.
-          let before : get_or counts c 0 + cond (nat_eq c class || has_class c rest) 1 0 ≡ get_or old c 0 + cond (has_class c list) 1 0 = rw e at (h.each c lt) in
+          let before : get_or counts c 0 + cond (nat_eq c class || is_listed c rest) 1 0 ≡ get_or old c 0 + cond (is_listed c list) 1 0 = rw e at (h.each c lt) in
           step c before (nat_eq c class) refl up;
     }
   where
-    step : (c : ℕ) → get_or counts c 0 + cond (nat_eq c class || has_class c rest) 1 0 ≡ get_or old c 0 + cond (has_class c list) 1 0 → (b : Bool) → nat_eq c class ≡ b → Ascends h.from n (class ∷ rest)
-        → get_or (slice_set counts class (get_or counts class 0 + 1)) c 0 + cond (has_class c rest) 1 0 ≡ get_or old c 0 + cond (has_class c list) 1 0
+    step : (c : ℕ) → get_or counts c 0 + cond (nat_eq c class || is_listed c rest) 1 0 ≡ get_or old c 0 + cond (is_listed c list) 1 0 → (b : Bool) → nat_eq c class ≡ b → Ascends h.from n (class ∷ rest)
+        → get_or (slice_set counts class (get_or counts class 0 + 1)) c 0 + cond (is_listed c rest) 1 0 ≡ get_or old c 0 + cond (is_listed c list) 1 0
     step c before true is up =
         let same : c ≡ class = grind (arith, nat_tests) in
         let lt : class < length counts = omega (arith, up.1) in
-        let none : has_class c rest ≡ false = has-below c (class + 1) n rest up.2 (omega arith) in
+        let none : is_listed c rest ≡ false = has-below c (class + 1) n rest up.2 (omega arith) in
         let now : get_or (slice_set counts class (get_or counts class 0 + 1)) c 0 ≡ get_or counts c 0 + 1 = rw (same, get_or-set_same) refl in
-        let had : get_or counts c 0 + 1 ≡ get_or old c 0 + cond (has_class c list) 1 0 = rw is at before in
+        let had : get_or counts c 0 + 1 ≡ get_or old c 0 + cond (is_listed c list) 1 0 = rw is at before in
         rw (none, now) (omega (arith, had))
     step c before false is up =
         let ne : c ≢ class = grind (arith, nat_tests) in
-        let had : get_or counts c 0 + cond (has_class c rest) 1 0 ≡ get_or old c 0 + cond (has_class c list) 1 0 = rw is at before in
+        let had : get_or counts c 0 + cond (is_listed c rest) 1 0 ≡ get_or old c 0 + cond (is_listed c list) 1 0 = rw is at before in
         rw get_or-set_other had
 
-pub counting_all : (n : ℕ) (old list counts : List ℕ) → IsCounting n old list counts [] → (class : ℕ) → class < n → get_or counts class 0 ≡ get_or old class 0 + cond (has_class class list) 1 0
+pub counting_all : (n : ℕ) (old list counts : List ℕ) → IsCounting n old list counts [] → (class : ℕ) → class < n → get_or counts class 0 ≡ get_or old class 0 + cond (is_listed class list) 1 0
 counting_all n old list counts h class lt = omega (arith, h.each class lt)
 
 -- the spots of one class more
@@ -70,10 +71,10 @@ spots_more p start (w ∷ plan) v =
 
 -- one student more
 module _ (lists : List (List ℕ)) (class i : ℕ) (lt : i < length lists) where
-  pub count_more : count_by (has_class class) (take (i + 1) lists) ≡ count_by (has_class class) (take i lists) + cond (has_class class (get_or lists i [])) 1 0
-  count_more = sum_by_more (λ (list : List ℕ). cond (has_class class list) 1 0) lists i [] lt
+  pub count_more : count_by (is_listed class) (take (i + 1) lists) ≡ count_by (is_listed class) (take i lists) + cond (is_listed class (get_or lists i [])) 1 0
+  count_more = sum_by_more (λ (list : List ℕ). cond (is_listed class list) 1 0) lists i [] lt
 
-pub left_out : (lists : List (List ℕ)) (except : Option ℕ) (student class : ℕ) → student < length lists → option_map_or (nat_eq student) except false ≡ true → has_class class (list_of (lists_but lists except) student) ≡ false
+pub left_out : (lists : List (List ℕ)) (except : Option ℕ) (student class : ℕ) → student < length lists → option_map_or (nat_eq student) except false ≡ true → is_listed class (list_of (lists_but lists except) student) ≡ false
 left_out lists None student class lt e = absurd (cc e)
 left_out lists (Some other) student class lt e =
     let same : other ≡ student = grind (arith, nat_tests) in

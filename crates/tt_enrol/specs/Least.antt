@@ -1,10 +1,9 @@
 -- The least allowed choice.
-use Rattle.std.specs.Prelude.{ℕ, ◌+◌, Bool, true, ◌||◌, ◌&&◌, List, [], ◌∷◌, Option, Some, None, filter, count_by, sum_by}
-use Rattle.std.specs.Cmp.Lexicographic.{slice_cmp}
-use Rattle.std.specs.List.{best_of, list_all}
+use Rattle.std.specs.Prelude.{ℕ, ◌+◌, Bool, true, ◌||◌, ◌&&◌, List, ◌∷◌, Option, filter, count_by, sum_by}
+use Rattle.std.specs.List.{list_all}
 use Rattle.std.specs.Option.{option_map_or}
-use Rattle.std.specs.Ordering.{nat_cmp, is_lt}
 use Rattle.tt_base.specs.Among.{pairs_among}
+use Rattle.tt_base.specs.Lists.{comes_before, least}
 use Rattle.tt_struct.specs.Enrolments.{lists}
 
 -- What a choice is judged by: which classes have a seat for the student, the parent of a class, which pairs of classes
@@ -31,18 +30,9 @@ pairs_with_taken s choice = sum_by (λ c. count_by (s.conflicts c) s.taken) choi
 abbrev pub pairs_added : Situation → List ℕ → ℕ
 pairs_added s choice = pairs_with_taken s choice + pairs_among s.conflicts choice
 
--- the first list comes before the second, compared from the left
-abbrev pub comes_before : List ℕ → List ℕ → Bool
-comes_before xs ys = is_lt (slice_cmp nat_cmp xs ys)
-
 -- the first choice is less than the second: it adds fewer pairs, or as many, and its list comes before
 abbrev pub is_less : Situation → List ℕ → List ℕ → Bool
 is_less s a b = comes_before (pairs_added s a ∷ a) (pairs_added s b ∷ b)
-
--- the least of a list, and none where it is empty
-abbrev pub least : {A : Type 0} → (A → A → Bool) → List A → Option A
-least less [] = None
-least less (x ∷ xs) = Some (best_of less x xs)
 
 -- the least of the choices that are allowed, and none where none is
 abbrev pub least_choice : Situation → List (List ℕ) → Option (List ℕ)

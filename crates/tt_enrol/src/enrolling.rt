@@ -1,5 +1,6 @@
 ghost use Rattle.std.specs.Prelude.{◌≡◌, ℕ, ◌+◌, ◌<◌, ◌≤◌, IfOk, IfSome, None, cond, length, map, slice_index};
-ghost use Rattle.tt_roster.specs.Lists.{Ascends, has_class, list_of};
+ghost use Rattle.tt_base.specs.Lists.{is_listed};
+ghost use Rattle.tt_roster.specs.Lists.{Ascends, list_of};
 ghost use Rattle.tt_score.specs.Kept.{Fits, plan_of, seats_of};
 ghost use Rattle.tt_enrol.specs.Choices.{choices_at};
 ghost use Rattle.tt_enrol.specs.Students.{courses_of, taken_in};
@@ -51,7 +52,7 @@ impl Known {
         ensures spots { self.new.spots.items ≡ self.old.spots.items }
         ensures whole { length self.new.counts.items ≡ length self.old.counts.items }
         ensures each { (class : ℕ) → class < length self.old.counts.items → slice_index self.new.counts.items class
-            ≡ slice_index self.old.counts.items class + cond (has_class class (list_of roster.now.seats student)) 1 0 }
+            ≡ slice_index self.old.counts.items class + cond (is_listed class (list_of roster.now.seats student)) 1 0 }
     {
         count_list(roster, student, self.counts.as_mut_slice());
     }

@@ -3,7 +3,8 @@ ghost use Rattle.std.specs.Option.{option_map_or};
 ghost use Rattle.tt_plan.specs.Domain.{IsOfDomain, spot_at_value, spots_of};
 ghost use Rattle.tt_score.specs.Kept.{IsPlanOf};
 ghost use Rattle.tt_roster.specs.Kept.{IsRosterOf};
-ghost use Rattle.tt_roster.specs.Lists.{Ascends, has_class, list_of};
+ghost use Rattle.tt_base.specs.Lists.{is_listed};
+ghost use Rattle.tt_roster.specs.Lists.{Ascends, list_of};
 ghost use Rattle.tt_enrol.specs.Seats.{AreCounts, lists_but};
 
 use std::alloc::{AllocError, Global};
@@ -46,7 +47,7 @@ pub fn count_list(roster: &Roster, student: u32, counts: &mut [u32])
     requires list { Ascends 0 (length counts.old) (list_of roster.now.seats student) }
     requires small { length counts.old ≤ 20000 }
     requires few { (class : ℕ) → class < length counts.old → slice_index counts.old class ≤ 100000 }
-    ensures { (class : ℕ) → class < length counts.old → slice_index counts.new class ≡ slice_index counts.old class + cond (has_class class (list_of roster.now.seats student)) 1 0 }
+    ensures { (class : ℕ) → class < length counts.old → slice_index counts.new class ≡ slice_index counts.old class + cond (is_listed class (list_of roster.now.seats student)) 1 0 }
 {
     for class in roster.classes(student) {
         counts[class as usize] += 1;
@@ -69,7 +70,7 @@ fn count_student(roster: &Roster, except: Option<u32>, student: u32, counts: &mu
     requires list { Ascends 0 (length counts.old) (list_of roster.now.seats student) }
     requires small { length counts.old ≤ 20000 }
     requires few { (class : ℕ) → class < length counts.old → slice_index counts.old class ≤ 100000 }
-    ensures { (class : ℕ) → class < length counts.old → slice_index counts.new class ≡ slice_index counts.old class + cond (has_class class (list_of (lists_but roster.now.seats except) student)) 1 0 }
+    ensures { (class : ℕ) → class < length counts.old → slice_index counts.new class ≡ slice_index counts.old class + cond (is_listed class (list_of (lists_but roster.now.seats except) student)) 1 0 }
 {
     if !is_left_out(except, student) {
         count_list(roster, student, counts);

@@ -1,14 +1,13 @@
 -- The laws of violated pairs, for each kind alike. Proofs alone need them.
-use Rattle.std.proofs.Common.{◌≡◌, ℕ, ◌+◌, ◌-◌, ◌*◌, ◌/◌, ◌<◌, ◌≤◌, ◌^◌, List, [], ◌∷◌, Option, Some, None, length, count_by, take, pos, refl, ap, zero, suc, arith, cond}
-use Rattle.std.specs.Prelude.{◌+ℤ◌, slice_set, slice_index_or, replicate, IfSome}
+use Rattle.std.proofs.Common.{◌≡◌, ℕ, ◌+◌, ◌-◌, ◌*◌, ◌/◌, ◌<◌, ◌≤◌, ◌^◌, List, [], ◌∷◌, Option, Some, None, length, take, pos, refl, ap, zero, suc, arith, cond}
+use Rattle.std.specs.Prelude.{◌+ℤ◌, slice_set, replicate}
 use Rattle.std.proofs.lemmas.List.Sums.{sum_by-cons}
 use Rattle.tt_base.proofs.AmongLemmas.{twice-pairs}
 use Rattle.tt_bits.specs.declared.pairs.PairKind.{PairKind}
 use Rattle.tt_bits.specs.declared.times.Spot.{Spot}
-use Rattle.tt_bits.proofs.SetLemmas.{week_set-lt}
 use Rattle.tt_travel.specs.Table.{Table}
-use Rattle.tt_measure.specs.Limits.{most_members, most_weeks}
-use Rattle.tt_bits.specs.Spots.{IsEmptyAt, placed, AreBelow, IsBelow}
+use Rattle.tt_measure.specs.Limits.{most_members}
+use Rattle.tt_bits.specs.Spots.{IsEmptyAt, placed}
 use Rattle.tt_bits.proofs.SpotLemmas.{length-placed, count-placed-set}
 use Rattle.tt_pair.specs.ViolatedPairs.{is_violated, violated_pairs, violated_with}
 

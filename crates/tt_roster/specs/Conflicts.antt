@@ -6,7 +6,7 @@ use Rattle.tt_bits.specs.declared.times.Spot.{Spot}
 use Rattle.tt_bits.specs.Times.{end_of, shares_day_and_week, overlaps}
 use Rattle.tt_travel.specs.Table.{Table, between}
 use Rattle.tt_bits.specs.Spots.{spot_at}
-use Rattle.tt_roster.specs.Lists.{has_class}
+use Rattle.tt_base.specs.Lists.{is_listed}
 
 -- the slots from the end of the one to the start of the other
 abbrev pub slots_between : Time → Time → ℕ
@@ -41,4 +41,4 @@ conflicts_with t spots class x list = conflicts_by t (slice_set spots class None
 
 -- the conflicting pairs with this class at that spot, over the students who have it
 abbrev pub class_conflicts : Table → List (Option Spot) → List (List ℕ) → ℕ → Spot → ℕ
-class_conflicts t spots seats class x = sum_by (λ list. cond (has_class class list) (conflicts_with t spots class x list) 0) seats
+class_conflicts t spots seats class x = sum_by (λ list. cond (is_listed class list) (conflicts_with t spots class x list) 0) seats

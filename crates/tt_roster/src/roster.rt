@@ -1,7 +1,8 @@
 ghost use Rattle.std.specs.Prelude.{◌≡◌, ◌<◌, ◌≤◌, length, replicate, slice_set, slice_index, count_by, Some, None, IsSome, IfOk, IfSome, [], false, true};
 ghost use Rattle.tt_problem.specs.declared.parts.Parts.{Parts};
 ghost use Rattle.tt_bits.specs.Spots.{spot_at, IsEmptyAt};
-ghost use Rattle.tt_roster.specs.Lists.{has_class, with_class, without_class, list_of, students_of};
+ghost use Rattle.tt_base.specs.Lists.{is_listed};
+ghost use Rattle.tt_roster.specs.Lists.{with_class, without_class, list_of, students_of};
 ghost use Rattle.tt_roster.specs.Conflicts.{student_conflicts, class_conflicts};
 ghost use Rattle.tt_roster.specs.Kept.{IsRosterOf};
 
@@ -63,7 +64,7 @@ impl Roster {
         requires fits { IsRosterOf problem.now self.old }
         requires student { student < length problem.now.students }
         requires class { class < length problem.now.classes }
-        requires free { has_class class (list_of self.old.seats student) ≡ false }
+        requires free { is_listed class (list_of self.old.seats student) ≡ false }
         requires spare { length (list_of self.old.seats student) < slice_index self.old.most student }
         ensures seats { self.new.seats ≡ slice_set self.old.seats student (with_class class (list_of self.old.seats student)) }
         ensures most { self.new.most ≡ self.old.most }
@@ -88,7 +89,7 @@ impl Roster {
         requires fits { IsRosterOf problem.now self.old }
         requires student { student < length problem.now.students }
         requires class { class < length problem.now.classes }
-        requires seated { has_class class (list_of self.old.seats student) ≡ true }
+        requires seated { is_listed class (list_of self.old.seats student) ≡ true }
         ensures seats { self.new.seats ≡ slice_set self.old.seats student (without_class class (list_of self.old.seats student)) }
         ensures most { self.new.most ≡ self.old.most }
         ensures spots { self.new.spots ≡ self.old.spots }
@@ -143,7 +144,7 @@ impl Roster {
 
     /// How many students have a class.
     pub fn count(&self, class: u32) -> u32
-        ensures { result ≡ count_by (has_class class) self.now.seats }
+        ensures { result ≡ count_by (is_listed class) self.now.seats }
     {
         if (class as usize) < self.spots.len() {
             self.attendees.len(class)

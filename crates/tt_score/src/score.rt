@@ -43,7 +43,8 @@ impl Score {
     ghost use Rattle.tt_plan.specs.Domain.{IsOfDomain, spot_at_value, spots_of};
     ghost use Rattle.tt_score.specs.Amounts.{rule_amount, rule_cost};
     ghost use Rattle.tt_score.specs.Kept.{Fits, plan_of, seats_of, occupancy_of, roster_of, group_count};
-    ghost use Rattle.tt_roster.specs.Lists.{has_class, with_class, without_class, list_of};
+    ghost use Rattle.tt_base.specs.Lists.{is_listed};
+    ghost use Rattle.tt_roster.specs.Lists.{with_class, without_class, list_of};
     ghost use Rattle.tt_score.specs.Totals.{totals_of};
 
     /// The score where no class is placed and no student has a class. Only this call takes memory.
@@ -115,7 +116,7 @@ impl Score {
         requires fits { Fits problem.now self.old }
         requires student { student < length problem.now.students }
         requires class { class < length problem.now.classes }
-        requires free { has_class class (list_of (seats_of self.old) student) ≡ false }
+        requires free { is_listed class (list_of (seats_of self.old) student) ≡ false }
         requires spare { length (list_of (seats_of self.old) student) < slice_index (roster_of self.old).most student }
         ensures plan { plan_of self.new ≡ plan_of self.old }
         ensures seats { seats_of self.new ≡ slice_set (seats_of self.old) student (with_class class (list_of (seats_of self.old) student)) }
@@ -132,7 +133,7 @@ impl Score {
         requires fits { Fits problem.now self.old }
         requires student { student < length problem.now.students }
         requires class { class < length problem.now.classes }
-        requires seated { has_class class (list_of (seats_of self.old) student) ≡ true }
+        requires seated { is_listed class (list_of (seats_of self.old) student) ≡ true }
         ensures plan { plan_of self.new ≡ plan_of self.old }
         ensures seats { seats_of self.new ≡ slice_set (seats_of self.old) student (without_class class (list_of (seats_of self.old) student)) }
         ensures fits { Fits problem.now self.new }

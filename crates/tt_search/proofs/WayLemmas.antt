@@ -7,7 +7,8 @@ use Rattle.tt_problem.specs.declared.parts.Parts.{Parts}
 use Rattle.tt_solution.specs.Timetable.{Timetable}
 use Rattle.tt_state.specs.Snapshots.{Snapshot}
 use Rattle.tt_search.specs.declared.seeking.Best.{Best}
-use Rattle.tt_search.specs.Least.{comes_before, is_less}
+use Rattle.tt_base.specs.Lists.{comes_before}
+use Rattle.tt_search.specs.Least.{is_less}
 use Rattle.tt_search.specs.Turns.{turn_of}
 use Rattle.rand_core.specs.Steps.{stream_of, steps_u32}
 use Rattle.rand_pcg.specs.Lcg.{Lcg, started, increment_of}

@@ -20,7 +20,8 @@ use Rattle.tt_problem.specs.declared.parts.StudentPart.{StudentPart}
 use Rattle.tt_problem.specs.declared.parts.Parts.{Parts}
 use Rattle.tt_problem.specs.Valid.{IsValid, class_ids, student_ids}
 use Rattle.tt_problem.proofs.IdLemmas.{is_new}
-use Rattle.tt_roster.specs.Lists.{has_class, having_from, students_of}
+use Rattle.tt_base.specs.Lists.{is_listed}
+use Rattle.tt_roster.specs.Lists.{having_from, students_of}
 use Rattle.tt_solution.proofs.TextLemmas.{all_having, classes_from}
 use Rattle.tt_solution.specs.declared.meeting.Meeting.{Meeting}
 use Rattle.tt_roster.specs.Lists.{Ascends}
@@ -225,7 +226,7 @@ having_few : (class from : ℕ) (seats : List (List ℕ)) → length (having_fro
 having_few class from [] = omega arith
 having_few class from (list ∷ seats) =
     let rest = having_few class (from + 1) seats in
-    elim (cases_Bool (has_class class list)) [
+    elim (cases_Bool (is_listed class list)) [
       | inl t ↦ rw t (omega (arith, rest))
       | inr f ↦ rw f (omega (arith, rest))
     ]

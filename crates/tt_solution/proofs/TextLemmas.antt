@@ -13,7 +13,8 @@ use Rattle.tt_problem.specs.declared.parts.ClassPart.{ClassPart}
 use Rattle.tt_problem.specs.declared.parts.StudentPart.{StudentPart}
 use Rattle.tt_problem.specs.declared.parts.Parts.{Parts}
 use Rattle.tt_problem.specs.Valid.{class_ids, student_ids}
-use Rattle.tt_roster.specs.Lists.{has_class, having_from, students_of}
+use Rattle.tt_base.specs.Lists.{is_listed}
+use Rattle.tt_roster.specs.Lists.{having_from, students_of}
 use Rattle.tt_roster.specs.Rostered.{Rostered}
 use Rattle.tt_roster.specs.Kept.{IsRosterOf}
 use Rattle.tt_solution.specs.declared.meeting.Meeting.{Meeting}
@@ -34,7 +35,7 @@ pub all_having : (P : ℕ → Type 0) (class from n : ℕ) (seats : List (List �
 all_having P class from n [] is h = tt
 all_having P class from n (list ∷ seats) is h =
     let rest = all_having P class (from + 1) n seats (omega arith) h in
-    elim (cases_Bool (has_class class list)) [
+    elim (cases_Bool (is_listed class list)) [
       | inl t ↦ rw t (h from (omega arith), rest)
       | inr f ↦ rw f rest
     ]

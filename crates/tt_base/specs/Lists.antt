@@ -1,0 +1,18 @@
+-- Numbers in lists, and the order of lists.
+use Rattle.std.specs.Prelude.{ℕ, Bool, List, [], ◌∷◌, Option, Some, None, nat_eq}
+use Rattle.std.specs.Cmp.Lexicographic.{slice_cmp}
+use Rattle.std.specs.List.{best_of, list_any}
+use Rattle.std.specs.Ordering.{nat_cmp, is_lt}
+
+-- the number is in the list
+abbrev pub is_listed : ℕ → List ℕ → Bool
+is_listed n list = list_any (nat_eq n) list
+
+-- the first list comes before the second, compared from the left
+abbrev pub comes_before : List ℕ → List ℕ → Bool
+comes_before xs ys = is_lt (slice_cmp nat_cmp xs ys)
+
+-- the first of a list that nothing in it is less than, and none where the list is empty
+abbrev pub least : {A : Type 0} → (A → A → Bool) → List A → Option A
+least less [] = None
+least less (x ∷ xs) = Some (best_of less x xs)
