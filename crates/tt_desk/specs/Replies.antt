@@ -46,10 +46,9 @@ present_moved s = option_map (moved_of s.desk.problem s.desk.present.plan) s.pub
 -- an accepted command writes its own lines and the line of totals, a refused one why it is refused; a skipped line and `quit`
 -- write nothing
 abbrev pub reply_to : Session → List ℕ → Outcome → List ℕ
-reply_to s lines Skipped = []
 reply_to s lines Accepted = lines ++ totals_line (present_totals s) (present_moved s)
 reply_to s lines (Refused r) = refusal_line r
-reply_to s lines Ended = []
+reply_to s lines _ = []
 
 -- something is written for the line
 abbrev pub HasReply : Outcome → Type 0
@@ -63,16 +62,12 @@ abbrev pub reply_of : Step → List ℕ
 reply_of step = reply_to step.session step.lines step.outcome
 
 abbrev pub is_refused : Outcome → Bool
-is_refused Skipped = false
-is_refused Accepted = false
 is_refused (Refused r) = true
-is_refused Ended = false
+is_refused _ = false
 
 abbrev pub is_end : Outcome → Bool
-is_end Skipped = false
-is_end Accepted = false
-is_end (Refused r) = false
 is_end Ended = true
+is_end _ = false
 
 -- a step and those after it, which are none where it ends the script
 abbrev pub with_later : Step → List Step → List Step

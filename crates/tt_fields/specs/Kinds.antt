@@ -24,12 +24,9 @@ or_wrong p found = or_fault 31 p found
 
 -- the number that a value is: a JSON number that `as_u64` gives, or a text of 1 to 20 decimal digits
 abbrev pub json_number : Data → Option ℕ
-json_number null = None
-json_number (boolean b) = None
 json_number (number n) = as_u64 n
 json_number (string s) = decimal_of s
-json_number (array ds) = None
-json_number (object ms) = None
+json_number _ = None
 
 -- the number, which has fault 32 outside the range from `least` to `most`
 abbrev pub in_range : ℕ → ℕ → Part → ℕ → Result ℕ Fault
@@ -41,12 +38,9 @@ a_number least most p = or_wrong p (json_number p.value) >>= in_range least most
 
 -- the truth value that a value is: `true` or `false`, as such or as text
 abbrev pub truth_of : Data → Option Bool
-truth_of null = None
 truth_of (boolean b) = Some b
-truth_of (number n) = None
 truth_of (string s) = if bytes_eq s (codes "true") then Some true else (if bytes_eq s (codes "false") then Some false else None)
-truth_of (array ds) = None
-truth_of (object ms) = None
+truth_of _ = None
 
 -- a truth value
 unfoldable pub a_truth : Part → Result Bool Fault

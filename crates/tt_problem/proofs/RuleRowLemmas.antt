@@ -1,5 +1,5 @@
 -- The table of the rules by class, as its rows grow.
-use Rattle.std.proofs.Common.{◌≡◌, ◌∙◌, ℕ, ◌+◌, ◌<◌, ◌≤◌, ◌≢◌, Bool, true, false, cond, ◌||◌, List, [], ◌∷◌, ◌++◌, Option, Some, None, length, get_or, map, take, nat_eq, replicate, refl, sym, ap, inl, inr, arith, length-append, append-nil, append_assoc, add-zero}
+use Rattle.std.proofs.Common.{◌≡◌, ◌∙◌, ℕ, ◌+◌, ◌<◌, ◌≢◌, Bool, true, false, cond, ◌||◌, List, [], ◌∷◌, ◌++◌, Option, Some, None, length, get_or, map, take, nat_eq, replicate, refl, sym, ap, inl, inr, arith, append-nil, add-zero}
 use Rattle.std.specs.Prelude.{position, slice_set}
 use Rattle.std.specs.List.{IsDistinct, list_any, position_from}
 use Rattle.std.specs.declared.vec.Vec.{Vec}

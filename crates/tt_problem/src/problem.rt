@@ -5,29 +5,20 @@ ghost use Rattle.tt_problem.specs.Valid.{AreValidWeights, IsValid, IsValidClass,
 ghost use Rattle.tt_problem.specs.RulePlaces.{rules_of};
 ghost use Rattle.tt_problem.specs.Places.{place_of_id, class_of, room_of, student_of, subpart_of, config_of, course_of};
 
+use crate::index::{Index, index_of};
 use crate::parts::{
     ClassPart, CoursePart, Parts, RoomPart, Rule, RulePlace, Span, StudentPart, Weights,
-};
-use crate::tables::{
-    course_table, ids_of_classes, ids_of_rooms, ids_of_students, rule_table, table_of,
 };
 use indexmap::IndexSet;
 use std::alloc::{AllocError, Global};
 use std::marker::Model;
-use tt_base::Row;
 use tt_travel::Travel;
 
 /// A problem, seen as its parts, which are valid. It never changes.
 #[derive(Drop)]
 pub struct Problem {
     parts: Parts,
-    class_ids: IndexSet<u32>,
-    room_ids: IndexSet<u32>,
-    student_ids: IndexSet<u32>,
-    class_subparts: Row<u32>,
-    subpart_configs: Row<u32>,
-    config_courses: Row<u32>,
-    rule_places: Vec<Vec<RulePlace>>,
+    index: Index,
 }
 
 impl Model for Problem {
@@ -42,7 +33,7 @@ impl Model for Problem {
     ghost invariant = { IsKept };
 }
 
-#[tactic(auto, using(crate::proofs::SpanLemmas::span_within, crate::proofs::SpanLemmas::course_within, crate::proofs::SpanLemmas::few_subparts, crate::proofs::SpanLemmas::few_configs))]
+#[tactic(auto, using(crate::proofs::SpanLemmas::span_within, crate::proofs::SpanLemmas::course_within))]
 impl Problem {
     /// The problem of these parts. Where there is no memory for its index and tables, the parts are
     /// dropped.
@@ -50,23 +41,8 @@ impl Problem {
         requires { IsValid parts }
         ensures { IfOk result (λ p. p ≡ parts) }
     {
-        let class_ids = ids_of_classes(alloc, parts.classes.as_slice())?;
-        let room_ids = ids_of_rooms(alloc, parts.rooms.as_slice())?;
-        let student_ids = ids_of_students(alloc, parts.students.as_slice())?;
-        let class_subparts = table_of(alloc, parts.subparts.as_slice(), parts.classes.len())?;
-        let subpart_configs = table_of(alloc, parts.configs.as_slice(), parts.subparts.len())?;
-        let config_courses = course_table(alloc, parts.courses.as_slice(), parts.configs.len())?;
-        let rule_places = rule_table(alloc, &parts)?;
-        Ok(Problem {
-            parts,
-            class_ids,
-            room_ids,
-            student_ids,
-            class_subparts,
-            subpart_configs,
-            config_courses,
-            rule_places,
-        })
+        let index = index_of(alloc, &parts)?;
+        Ok(Problem { parts, index })
     }
 
     /// All parts.
@@ -123,7 +99,7 @@ impl Problem {
         ensures place { result ≡ class_of self.now id }
         ensures in_range { IfSome result (λ place. place < length self.now.classes) }
     {
-        place_of_id(&self.class_ids, id)
+        place_of_id(&self.index.ids.classes, id)
     }
 
     /// The place of the room with an id, and `None` where no room has it.
@@ -131,7 +107,7 @@ impl Problem {
         ensures place { result ≡ room_of self.now id }
         ensures in_range { IfSome result (λ place. place < length self.now.rooms) }
     {
-        place_of_id(&self.room_ids, id)
+        place_of_id(&self.index.ids.rooms, id)
     }
 
     /// The place of the student with an id, and `None` where no student has it.
@@ -139,7 +115,7 @@ impl Problem {
         ensures place { result ≡ student_of self.now id }
         ensures in_range { IfSome result (λ place. place < length self.now.students) }
     {
-        place_of_id(&self.student_ids, id)
+        place_of_id(&self.index.ids.students, id)
     }
 
     /// The class at a place.
@@ -184,7 +160,7 @@ impl Problem {
         ensures place { subpart_of self.now class ≡ Some result }
         ensures in_range { result < length self.now.subparts }
     {
-        self.class_subparts.as_slice()[class as usize]
+        self.index.owners.subparts.as_slice()[class as usize]
     }
 
     /// The place of the configuration that has a class.
@@ -193,7 +169,7 @@ impl Problem {
         ensures place { config_of self.now class ≡ Some result }
         ensures in_range { result < length self.now.configs }
     {
-        self.subpart_configs.as_slice()[self.subpart_of(class) as usize]
+        self.index.owners.configs.as_slice()[self.subpart_of(class) as usize]
     }
 
     /// The place of the course that has a class.
@@ -202,7 +178,7 @@ impl Problem {
         ensures place { course_of self.now class ≡ Some result }
         ensures in_range { result < length self.now.courses }
     {
-        self.config_courses.as_slice()[self.config_of(class) as usize]
+        self.index.owners.courses.as_slice()[self.config_of(class) as usize]
     }
 
     /// How many students there are.
@@ -275,7 +251,7 @@ impl Problem {
         requires { class < length self.now.classes }
         ensures { result.now ≡ rules_of self.now class }
     {
-        self.rule_places[class as usize].as_slice()
+        self.index.rule_places[class as usize].as_slice()
     }
 }
 

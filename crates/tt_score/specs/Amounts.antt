@@ -12,9 +12,7 @@ use Rattle.tt_problem.specs.declared.parts.Parts.{Parts}
 abbrev pub kind_cost : DistKind → (weeks penalty amount : ℕ) → ℕ
 kind_cost (Pair kind) weeks penalty amount = penalty * amount
 kind_cost (MaxDays most) weeks penalty amount = penalty * amount
-kind_cost (MaxDayLoad most) weeks penalty amount = (penalty * amount) / weeks
-kind_cost (MaxBreaks breaks gap) weeks penalty amount = (penalty * amount) / weeks
-kind_cost (MaxBlock most gap) weeks penalty amount = (penalty * amount) / weeks
+kind_cost _ weeks penalty amount = (penalty * amount) / weeks
 
 -- 1 where the amount is above 0
 abbrev pub one_if_any : ℕ → ℕ
@@ -23,10 +21,7 @@ one_if_any amount = if amount == 0 then 0 else 1
 -- how many hard conflicts an amount of a required rule of this kind is
 abbrev pub kind_hard : DistKind → (amount : ℕ) → ℕ
 kind_hard (Pair kind) amount = amount
-kind_hard (MaxDays most) amount = one_if_any amount
-kind_hard (MaxDayLoad most) amount = one_if_any amount
-kind_hard (MaxBreaks breaks gap) amount = one_if_any amount
-kind_hard (MaxBlock most gap) amount = one_if_any amount
+kind_hard _ amount = one_if_any amount
 
 -- what the members of a rule have, by the spots of all classes
 abbrev pub held_by : List (Option Spot) → Rule → List (Option Spot)

@@ -15,8 +15,7 @@ id_of word = at_most 4294967295 (decimal_of word)
 -- one more id before others; none where one of them is missing
 abbrev pub with_id : Option ℕ → Option (List ℕ) → Option (List ℕ)
 with_id (Some id) (Some ids) = Some (id ∷ ids)
-with_id (Some id) None = None
-with_id None ids = None
+with_id _ _ = None
 
 -- an id for each word
 abbrev pub ids_of : List (List ℕ) → Option (List ℕ)
@@ -39,9 +38,7 @@ seed_of word = at_most 18446744073709551615 (decimal_of word)
 
 abbrev pub choice_with : Option ℕ → Option ℕ → Option (Option ℕ) → Option Choice
 choice_with (Some class) (Some time) (Some room) = Some (record { class = class; time = time; room = room })
-choice_with (Some class) (Some time) None = None
-choice_with (Some class) None room = None
-choice_with None time room = None
+choice_with _ _ _ = None
 
 -- `C T R`: a class, the number of a time, and a room
 abbrev pub choice_of : List (List ℕ) → Option Choice
@@ -50,8 +47,7 @@ choice_of words = None
 
 abbrev pub turns_with : Option ℕ → Option ℕ → Option Turns
 turns_with (Some count) (Some seed) = Some (record { count = count; seed = seed })
-turns_with (Some count) None = None
-turns_with None seed = None
+turns_with _ _ = None
 
 -- `N SEED`: a number of turns, and the seed
 abbrev pub turns_of : List (List ℕ) → Option Turns
@@ -70,8 +66,7 @@ enrol_of words = None
 
 abbrev pub section_with : Option ℕ → Option (List ℕ) → Option Command
 section_with (Some student) (Some classes) = Some (Section student classes)
-section_with (Some student) None = None
-section_with None classes = None
+section_with _ _ = None
 
 -- `S C1 C2 ..`: a student, and then any number of classes
 abbrev pub section_of : List (List ℕ) → Option Command

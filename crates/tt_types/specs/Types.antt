@@ -50,9 +50,8 @@ with_one name (Some n) = option_map (λ make. make n) (named name types_with_one
 
 -- a type with two parameters
 unfoldable pub with_two : List ℕ → Option ℕ → Option ℕ → Option DistKind
-with_two name None n = None
-with_two name (Some m) None = None
 with_two name (Some m) (Some n) = option_map (λ make. make m n) (named name types_with_two)
+with_two name _ _ = None
 
 -- a name with what stands in parentheses after it, cut at a comma
 abbrev pub with_parameters : List ℕ → List ℕ → Option (List ℕ × List ℕ) → Option DistKind
