@@ -15,20 +15,21 @@ use Rattle.tt_cbs.specs.KeyOrder.{key_cmp}
 use Rattle.tt_cbs.specs.Counts.{count_at}
 use Rattle.tt_cbs.proofs.KeyLemmas.{count_empty}
 use Rattle.tt_journal.specs.declared.Entry.{Entry}
-use Rattle.tt_journal.specs.declared.Entry.TheVariants.{Placed}
+use Rattle.tt_journal.specs.declared.Entry.TheVariants.{Left, Placed, Seated}
 use Rattle.tt_state.specs.Snapshots.{Snapshot, in_order, list_in, value_in, with_list, with_value}
 use Rattle.tt_state.specs.Values.{MayHave}
 use Rattle.tt_state.specs.Seats.{first_without_seat, may_have}
 use Rattle.tt_state.specs.Sound.{AreListsOf, IsSound}
-use Rattle.tt_state.specs.History.{left_by, point_count, seated_by}
+use Rattle.tt_state.specs.History.{HasStep, left_by, point_count, seated_by}
 use Rattle.tt_state.specs.declared.change.Beginning.{Beginning}
 use Rattle.tt_state.specs.declared.change.Beginning.TheVariants.{Step, Moment}
 use Rattle.tt_state.specs.Past.{HasPastOf, LeadsTo, MayBegin, StandsOn, begun}
 use Rattle.tt_state.specs.Kept.{IsStateOf, LeadBack, counts_of, most_at, snapshot_of}
 use Rattle.tt_state.proofs.OrderLemmas.{enrolled_once, enrolled_ordered}
-use Rattle.tt_state.proofs.SeatLemmas.{has-ordered, left_back, left_counts, left_past, left_step, ordered_ascends, same_list, seated_back, seated_counts, seated_past, seated_step}
+use Rattle.tt_state.proofs.SeatLemmas.{has-ordered, left_back, left_past, ordered_ascends, same_list, seated_back, seated_past}
 use Rattle.tt_state.proofs.ListsLemmas.{all_have_seats, lists_empty, lists_with, lists_without}
 use Rattle.tt_state.proofs.PastLemmas.{past_placed, past_then, put_back}
+use Rattle.tt_state.proofs.StepLemmas.{noted_keep}
 
 pub same_snapshot : (s t : Snapshot) → s.plan ≡ t.plan → s.lists ≡ t.lists → s.statistics ≡ t.statistics → s ≡ t
 same_snapshot s t plan lists counts =
@@ -87,8 +88,8 @@ emptied p s es student on has =
       stands = record {
         sound = record { plan = on.sound.plan; lists = lists_without p s.lists student has.within on.sound.lists; statistics = on.sound.statistics };
         back = left_back p s student 0 list es lt has.within has.up has.few on.step there;
-        counted = on.counted ∙ sym (left_counts student list es);
-        step = left_step student list es on.step;
+        counted = noted_keep (λ fs. s.statistics ≡ counts_of fs) (Left student) (λ class fs same. same) list es on.counted;
+        step = noted_keep HasStep (Left student) (λ class fs step. step) list es on.step;
       };
       past = subst (λ x. HasPastOf x es (with_list s student []) (left_by student list es)) (same_list s student) (left_past s student 0 (length p.classes) list es lt has.up);
     }
@@ -102,8 +103,8 @@ seated p s es student list on within up lists =
       stands = record {
         sound = record { plan = on.sound.plan; lists = lists; statistics = on.sound.statistics };
         back = seated_back p s student 0 [] list es lt within up (λ c le. refl) on.step on.back;
-        counted = on.counted ∙ sym (seated_counts student list es);
-        step = seated_step student list es on.step;
+        counted = noted_keep (λ fs. s.statistics ≡ counts_of fs) (Seated student) (λ class fs same. same) list es on.counted;
+        step = noted_keep HasStep (Seated student) (λ class fs step. step) list es on.step;
       };
       past = seated_past s student 0 (length p.classes) [] list es lt up (λ c le. refl);
     }

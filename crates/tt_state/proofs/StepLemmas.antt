@@ -4,7 +4,7 @@ use Rattle.tt_problem.specs.declared.parts.Parts.{Parts}
 use Rattle.tt_journal.specs.declared.Entry.{Entry}
 use Rattle.tt_journal.specs.declared.Entry.TheVariants.{Mark, Point, Left, Seated}
 use Rattle.tt_state.specs.Snapshots.{Snapshot}
-use Rattle.tt_state.specs.History.{Desk, Held, HasStep, IsWithinStep, desk_of, moved_to, undone, earlier, earlier_by, before_step, left_by, seated_by}
+use Rattle.tt_state.specs.History.{Desk, Held, HasStep, IsWithinStep, desk_of, moved_to, undone, earlier, earlier_by, before_step, left_by, noted_by, seated_by}
 use Rattle.tt_state.specs.Kept.{LeadBack}
 
 -- where there is an entry, there is a step
@@ -50,14 +50,14 @@ within_moved a b s moved below = record {
   below = below;
 }
 
+-- what each entry keeps, the entries for a list keep
+pub noted_keep : (Holds : List Entry → Type 0) (note : ℕ → Entry) → ((class : ℕ) (es : List Entry) → Holds es → Holds (note class ∷ es)) → (list : List ℕ) (es : List Entry) → Holds es → Holds (noted_by note list es)
+noted_keep Holds note keep [] es holds = holds
+noted_keep Holds note keep (class ∷ list) es holds = noted_keep Holds note keep list (note class ∷ es) (keep class es holds)
+
 -- the entries of a list that a student gets are those of the last step
-pub before_left : (student : ℕ) (list : List ℕ) (es : List Entry) → before_step (left_by student list es) ≡ before_step es
-before_left student [] es = refl
-before_left student (class ∷ list) es = before_left student list (Left student class ∷ es)
-
-pub before_seated : (student : ℕ) (list : List ℕ) (es : List Entry) → before_step (seated_by student list es) ≡ before_step es
-before_seated student [] es = refl
-before_seated student (class ∷ list) es = before_seated student list (Seated student class ∷ es)
-
 pub before_section : (student : ℕ) (list had : List ℕ) (es : List Entry) → before_step (seated_by student list (left_by student had (Point ∷ es))) ≡ before_step es
-before_section student list had es = before_seated student list (left_by student had (Point ∷ es)) ∙ before_left student had (Point ∷ es)
+before_section student list had es =
+    let Same : List Entry → Type 0 = λ fs. before_step fs ≡ before_step es in
+    noted_keep Same (Seated student) (λ class fs same. same) list (left_by student had (Point ∷ es))
+    (noted_keep Same (Left student) (λ class fs same. same) had (Point ∷ es) refl)

@@ -78,15 +78,18 @@ HasStep [] = ⊥
 HasStep (Mark k ∷ es) = Unit {0}
 HasStep (entry ∷ es) = HasStep es
 
--- the entries with one more for each class that a student leaves, the first class first
-abbrev pub left_by : (student : ℕ) → List ℕ → List Entry → List Entry
-left_by student [] es = es
-left_by student (class ∷ list) es = left_by student list (Left student class ∷ es)
+-- the entries with one more for each class of a list, the first class first
+abbrev pub noted_by : (note : ℕ → Entry) → List ℕ → List Entry → List Entry
+noted_by note [] es = es
+noted_by note (class ∷ list) es = noted_by note list (note class ∷ es)
 
--- the entries with one more for each class in which a student gets a seat, the first class first
+-- the entries with one more for each class that a student leaves
+abbrev pub left_by : (student : ℕ) → List ℕ → List Entry → List Entry
+left_by student list es = noted_by (Left student) list es
+
+-- the entries with one more for each class in which a student gets a seat
 abbrev pub seated_by : (student : ℕ) → List ℕ → List Entry → List Entry
-seated_by student [] es = es
-seated_by student (class ∷ list) es = seated_by student list (Seated student class ∷ es)
+seated_by student list es = noted_by (Seated student) list es
 
 -- the snapshots before each step, the newest first
 abbrev pub earlier : Held → List Snapshot

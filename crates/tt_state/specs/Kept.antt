@@ -3,7 +3,8 @@ use Rattle.std.specs.Prelude.{◌≡◌, ℕ, ◌<◌, ◌≤◌, true, false, B
 use Rattle.std.specs.FinMap.{FinMap, empty}
 use Rattle.tt_problem.specs.declared.parts.Parts.{Parts}
 use Rattle.tt_problem.specs.Seats.{most_seats}
-use Rattle.tt_roster.specs.Lists.{has_class, list_of}
+use Rattle.tt_base.specs.Lists.{is_listed}
+use Rattle.tt_roster.specs.Lists.{list_of}
 use Rattle.tt_score.specs.declared.score.Score.{Score}
 use Rattle.tt_score.specs.Kept.{Fits, plan_of, seats_of}
 use Rattle.tt_cbs.specs.KeyOrder.{key_cmp}
@@ -23,14 +24,14 @@ most_at p student = slice_index (map (most_seats p) p.students) student
 pub record MaySeat (p : Parts) (lists : List (List ℕ)) (student class : ℕ) : Type 0 where
   pub in_students : student < length p.students
   pub in_classes : class < length p.classes
-  pub free : has_class class (list_of lists student) ≡ false
+  pub free : is_listed class (list_of lists student) ≡ false
   pub spare : length (list_of lists student) < most_at p student
 
 -- the student may leave the class
 pub record MayLeave (p : Parts) (lists : List (List ℕ)) (student class : ℕ) : Type 0 where
   pub in_students : student < length p.students
   pub in_classes : class < length p.classes
-  pub seated : has_class class (list_of lists student) ≡ true
+  pub seated : is_listed class (list_of lists student) ≡ true
 
 -- Each entry can be undone from the snapshot that it led to: it stands in a step, its change may be taken back, a mark has
 -- the number of points of the step before, and where a step begins and at its points the snapshot is sound.

@@ -1,6 +1,7 @@
 ghost use Rattle.std.specs.Prelude.{◌≡◌, ◌<◌, All, Some, None, length, slice_get};
 ghost use Rattle.tt_score.specs.Kept.{Fits, seats_of};
-ghost use Rattle.tt_roster.specs.Lists.{has_class, list_of};
+ghost use Rattle.tt_base.specs.Lists.{is_listed};
+ghost use Rattle.tt_roster.specs.Lists.{list_of};
 ghost use Rattle.tt_state.specs.Seats.{first_without_seat, has_seat, others_with};
 ghost use Rattle.tt_state.specs.Faults.{list_fault_of, section_fault_of};
 
@@ -20,7 +21,7 @@ pub enum SectionFault {
 /// Whether a student has a class.
 fn has_class(score: &Score, student: u32, class: u32) -> bool
     requires { student < length (seats_of score.now) }
-    ensures { result ≡ has_class class (list_of (seats_of score.now) student) }
+    ensures { result ≡ is_listed class (list_of (seats_of score.now) student) }
 {
     for other in score.roster().classes(student) {
         if class == other {

@@ -1,7 +1,8 @@
 use Rattle.std.proofs.Common.{◌≡◌, ◌∙◌, ◌<◌, ◌-◌, [], List, ℕ, length, drop, get_or, ap, arith}
 use Rattle.std.specs.Prelude.{slice_index, slice_set}
 use Rattle.std.proofs.lemmas.List.{set-set}
-use Rattle.tt_roster.specs.Lists.{has_class, list_of, with_class}
+use Rattle.tt_base.specs.Lists.{is_listed}
+use Rattle.tt_roster.specs.Lists.{list_of, with_class}
 use Rattle.tt_score.specs.Kept.{seats_of}
 use Rattle.tt_state.specs.Snapshots.{in_order}
 use Rattle.tt_state.proofs.ListsLemmas.{list_now}
@@ -18,7 +19,7 @@ seat-requires-clause-free c =
     let first = seats_of c.args.score.now in
     let classes = c.args.classes.now in
     let lt : c.args.student < length first = omega (arith, c.requires.student, c.requires.fits.roster.students) in
-    ap (has_class (get_or classes (c.loop-place.place - 1) 0)) (list_now (seats_of c.loop-place.score) first c.args.student (in_order (drop c.loop-place.place classes)) lt c.loop-place.invariant.lists)
+    ap (is_listed (get_or classes (c.loop-place.place - 1) 0)) (list_now (seats_of c.loop-place.score) first c.args.student (in_order (drop c.loop-place.place classes)) lt c.loop-place.invariant.lists)
     ∙ free_at classes c.loop-place.place c.loop-place-test.true c.loop-place.invariant.within c.requires.no_repeat
 
 pub seat-requires-clause-spare : goal.seat-requires-clause-spare
