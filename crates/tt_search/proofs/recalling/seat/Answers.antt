@@ -1,4 +1,4 @@
-use Rattle.std.proofs.Common.{refl, ◌≡◌, ◌<◌, None, Ok, Err, true, [], length, ap, sym, ◌∙◌, rules, arith}
+use Rattle.std.proofs.Common.{refl, ◌≡◌, ◌<◌, Ok, Err, true, [], length, ap, sym, ◌∙◌, rules, arith}
 use Rattle.std.specs.Prelude.{slice_set}
 use Rattle.std.proofs.lemmas.List.Elements.{All-get_or}
 use Rattle.tt_roster.specs.Lists.{Ascends, list_of}
