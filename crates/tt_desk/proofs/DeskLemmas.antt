@@ -1,18 +1,18 @@
 -- The checks of commands.
-use Rattle.std.proofs.Common.{◌≡◌, ◌∙◌, ℕ, zero, suc, ◌+◌, ◌<◌, List, [], ◌∷◌, ◌++◌, Option, None, Some, Result, Ok, Err, refl, sym, ap, append_assoc, subst, arith, rules, take, drop, set, length, get_or}
+use Rattle.std.proofs.Common.{◌≡◌, ◌∙◌, ℕ, suc, ◌+◌, ◌<◌, List, [], ◌∷◌, ◌++◌, Option, None, Some, Result, Ok, Err, refl, sym, ap, append_assoc, subst, arith, rules, take, drop, set, length, get_or}
 use Rattle.std.proofs.lemmas.Grind.{common_steps}
 use Rattle.std.proofs.lemmas.List.{append-nil, take_more_set, drop-set-lt}
-use Rattle.std.proofs.lemmas.List.Elements.{All-append, All-head, All-nil, All-tail}
+use Rattle.std.proofs.lemmas.List.Elements.{All-append}
 use Rattle.std.proofs.Math.Seq.{drop-cons, drop-length, take-length, take-append_seam}
 use Rattle.std.specs.Prelude.{All}
 use Rattle.tt_problem.specs.declared.parts.Parts.{Parts}
 use Rattle.tt_problem.specs.Places.{class_of}
-use Rattle.std.specs.Prelude.{◌↔◌, true, false, Bool, if◌then◌else◌}
+use Rattle.std.specs.Prelude.{◌↔◌, true, false, Bool}
 use Rattle.tt_problem.specs.Places.{student_of}
 use Rattle.tt_struct.specs.Enrolments.{is_enrolment}
 use Rattle.tt_state.specs.declared.state.Refusal.{Refusal as StateRefusal}
 use Rattle.tt_state.specs.declared.state.Refusal.TheVariants.{NotPlaced, Blocked as StateBlocked, BadSection, NoSeat as StateNoSeat, NotSectioned, NothingToUndo, Memory}
-use Rattle.tt_state.specs.Seats.{first_without_seat, has_seat}
+use Rattle.tt_state.specs.Seats.{first_without_seat}
 use Rattle.tt_state.specs.Snapshots.{with_list, in_order}
 use Rattle.tt_state.specs.History.{Desk, Held, desk_of, with_taken}
 use Rattle.tt_script.specs.declared.command.Command.TheVariants.{Section, Publish, Force}
@@ -26,18 +26,10 @@ use Rattle.tt_state.specs.Sound.{is_ready, no_faults}
 use Rattle.tt_solution.specs.Published.{timetable_of}
 use Rattle.tt_solution.specs.Text.{published_text}
 use Rattle.std.proofs.lemmas.Bool.{eqb-true}
-use Rattle.std.specs.Prelude.{◌&&◌, is_some}
-use Rattle.std.specs.Option.{option_map_or}
-use Rattle.tt_bits.specs.declared.times.Spot.{Spot}
+use Rattle.std.specs.Prelude.{◌&&◌}
 use Rattle.tt_bits.specs.declared.times.Value.{Value}
-use Rattle.tt_bits.specs.Spots.{spot_at}
-use Rattle.tt_plan.specs.Domain.{spot_at_value, spots_from, spots_of}
 use Rattle.tt_plan.specs.Named.{find_value}
 use Rattle.tt_clash.specs.declared.Block.{Block}
-use Rattle.tt_clash.specs.Amounts.{rule_amounts}
-use Rattle.tt_clash.specs.ConflictSet.{conflict_set}
-use Rattle.tt_clash.specs.Forced.{IsOther}
-use Rattle.tt_state.specs.Snapshots.{Snapshot}
 use Rattle.tt_state.specs.Values.{blocked_of, conflicts_of}
 use Rattle.tt_state.specs.Forced.{forced}
 use Rattle.tt_solution.specs.Timetable.{Timetable}
