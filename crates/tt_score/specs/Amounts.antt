@@ -4,7 +4,7 @@ use Rattle.tt_bits.specs.declared.times.Spot.{Spot}
 use Rattle.tt_bits.specs.Spots.{spot_at}
 use Rattle.tt_clash.specs.Amounts.{kind_amount}
 use Rattle.tt_problem.specs.declared.parts.DistKind.{DistKind}
-use Rattle.tt_problem.specs.declared.parts.DistKind.TheVariants.{Pair, MaxDays, MaxDayLoad, MaxBreaks, MaxBlock}
+use Rattle.tt_problem.specs.declared.parts.DistKind.TheVariants.{Pair, MaxDays}
 use Rattle.tt_problem.specs.declared.parts.Rule.{Rule}
 use Rattle.tt_problem.specs.declared.parts.Parts.{Parts}
 
