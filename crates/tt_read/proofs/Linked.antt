@@ -1,5 +1,5 @@
 -- Parts of which each reference was looked up.
-use Rattle.std.proofs.Common.{◌≡◌, ℕ, ◌<◌, ◌≤◌, List, length, map, Option, Some, None, Ok, Err, sym, ap, subst, ◌∙◌, arith}
+use Rattle.std.proofs.Common.{◌≡◌, ℕ, ◌<◌, ◌≤◌, List, length, map, Option, Some, Ok, Err, sym, ap, subst, ◌∙◌, arith}
 use Rattle.std.specs.Prelude.{All, nat_eq}
 use Rattle.std.specs.List.{IsDistinct}
 use Rattle.std.proofs.lemmas.Option.{IfSome_then}
@@ -66,9 +66,9 @@ module _ (p : Parts) where
 -- ---- all parts
 
 pub linked : (s : passes.Shape.Shape) (c : context.Context.Context) (k : Known) (r : rooms.Rooms.Rooms) (t : courses.Tree.Tree) (rules : List Rule) (students : List StudentPart)
-    → IsShape s → context_of c ≡ known (shape_read s) → known_of k ≡ Some s.course_ids.keys
-    → IsRooms c (length s.rooms.values.now) r → length r.rooms.items ≡ length s.rooms.values.now
-    → IsTree c t → length t.courses.items ≡ length s.courses.values.now → courses_in (context_of c) (items_of s.courses) ≡ Ok (tree_read t)
+    → IsShape s → context_of c ≡ known (shape_read s) → known_of k ≡ Some s.courses.ids.keys
+    → IsRooms c (length s.rooms.items.values.now) r → length r.rooms.items ≡ length s.rooms.items.values.now
+    → IsTree c t → length t.courses.items ≡ length s.courses.items.values.now → courses_in (context_of c) (items_of s.courses.items) ≡ Ok (tree_read t)
     → All (IsRuleAmong c.classes) rules → length rules ≡ length s.distributions.values.now
     → All (IsStudentAmong k) students → IsDistinct nat_eq (map (λ x. x.id) students) → length students ≡ length s.students.values.now
     → IsLinked (parts_with (shape_read s) (rooms_read r) (tree_read t) rules students)
@@ -78,13 +78,13 @@ linked s c k r t rules students shape same courses_known ok_rooms room_count ok_
     let p : Parts = parts_with (shape_read s) (rooms_read r) (tree_read t) rules students in
     let days : c.nr_days ≡ p.nr_days = ap (λ (x : Context). x.nr_days) same in
     let weeks : c.nr_weeks ≡ p.nr_weeks = ap (λ (x : Context). x.nr_weeks) same in
-    let class_count : length s.class_ids.keys ≡ length p.classes = sym (shape.classes.count (context_of c) (tree_read t) read) in
+    let class_count : length s.courses.class_ids.keys ≡ length p.classes = sym (shape.classes.count (context_of c) (tree_read t) read) in
     let rooms_below : (n : ℕ) → IsAmong c.rooms n → n < length p.rooms =
-    below c.rooms s.room_ids.keys (length p.rooms) (ap (λ (x : Context). x.rooms) same) (shape.rooms ∙ sym room_count) in
+    below c.rooms s.rooms.ids.keys (length p.rooms) (ap (λ (x : Context). x.rooms) same) (shape.rooms ∙ sym room_count) in
     let classes_below : (n : ℕ) → IsAmong c.classes n → n < length p.classes =
-    below c.classes s.class_ids.keys (length p.classes) (ap (λ (x : Context). x.classes) same) class_count in
+    below c.classes s.courses.class_ids.keys (length p.classes) (ap (λ (x : Context). x.classes) same) class_count in
     let courses_below : (n : ℕ) → IsAmong k n → n < length p.courses =
-    below k s.course_ids.keys (length p.courses) courses_known (shape.courses ∙ sym course_count) in
+    below k s.courses.ids.keys (length p.courses) courses_known (shape.courses ∙ sym course_count) in
     let rules_valid : All (IsValidRule p) rules = All-weaker (IsRuleAmong c.classes) (IsValidRule p) (rule_valid p c.classes classes_below) rules ok_rules in
     let students_valid : All (IsValidStudent p) students = All-weaker (IsStudentAmong k) (IsValidStudent p) (student_valid p k courses_below) students ok_students in
     record {

@@ -13,13 +13,13 @@ use Rattle.tt_read.specs.Tables.{Shape}
 -- what the first pass of the code has found
 abbrev pub shape_read : passes.Shape.Shape → Shape
 shape_read s = record {
-  term = s.term;
-  weights = s.weights;
-  rooms = items_of s.rooms;
-  room_ids = s.room_ids.keys;
-  courses = items_of s.courses;
-  course_ids = s.course_ids.keys;
-  class_ids = s.class_ids.keys;
+  term = s.head.term;
+  weights = s.head.weights;
+  rooms = items_of s.rooms.items;
+  room_ids = s.rooms.ids.keys;
+  courses = items_of s.courses.items;
+  course_ids = s.courses.ids.keys;
+  class_ids = s.courses.class_ids.keys;
   distributions = items_of s.distributions;
   students = items_of s.students;
 }
@@ -27,14 +27,14 @@ shape_read s = record {
 -- the term and the weights are valid, the lists are within their limits, and each item has an id; the
 -- courses have as many classes as there are ids of classes, whatever ids are known
 pub record IsShape (s : passes.Shape.Shape) : Type 0 where
-  pub term : IsValidTerm s.term.nr_days s.term.nr_weeks
-  pub weights : AreValidWeights s.weights
-  pub few_rooms : length s.rooms.values.now ≤ most_rooms
-  pub rooms : length s.room_ids.keys ≡ length s.rooms.values.now
-  pub few_courses : length s.courses.values.now ≤ 20000
-  pub courses : length s.course_ids.keys ≡ length s.courses.values.now
-  pub few_classes : length s.class_ids.keys ≤ 20000
-  pub classes : HasClasses (items_of s.courses) (length s.class_ids.keys)
+  pub term : IsValidTerm s.head.term.nr_days s.head.term.nr_weeks
+  pub weights : AreValidWeights s.head.weights
+  pub few_rooms : length s.rooms.items.values.now ≤ most_rooms
+  pub rooms : length s.rooms.ids.keys ≡ length s.rooms.items.values.now
+  pub few_courses : length s.courses.items.values.now ≤ 20000
+  pub courses : length s.courses.ids.keys ≡ length s.courses.items.values.now
+  pub few_classes : length s.courses.class_ids.keys ≤ 20000
+  pub classes : HasClasses (items_of s.courses.items) (length s.courses.class_ids.keys)
   pub few_distributions : length s.distributions.values.now ≤ 20000
   pub few_students : length s.students.values.now ≤ 100000
 

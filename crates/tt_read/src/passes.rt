@@ -1,9 +1,12 @@
-ghost use Rattle.std.specs.Prelude.{◌≡◌, Some, IfOk};
+ghost use Rattle.std.specs.Prelude.{◌≡◌, ◌≤◌, length, Some, IfOk};
+ghost use Rattle.tt_travel.specs.Table.{most_rooms};
 ghost use Rattle.tt_problem.specs.Valid.{AreValidWeights, IsValidTerm};
 ghost use Rattle.tt_fields.specs.Answer.{Reads, Gives, part_of};
-ghost use Rattle.tt_fields.specs.List.{known_of, IsFew};
+ghost use Rattle.tt_fields.specs.List.{items_of, known_of, IsFew};
 ghost use Rattle.tt_tree.specs.Context.{context_of, IsContext};
 ghost use Rattle.tt_tree.specs.Read.{rooms_read, tree_read};
+ghost use Rattle.tt_tree.specs.Whole.{HasClasses};
+ghost use Rattle.tt_read.specs.Lists.{head_of, head_read, room_list_of, room_list_read, course_list_of, course_list_read, rule_list_of, student_list_of, shape_by_lists};
 ghost use Rattle.tt_read.specs.Read.{shape_read, IsShape, IsLinked};
 ghost use Rattle.tt_read.specs.Tables.{term_of, weights_of, unknown as unknown_of, known as known_of_shape, shape_of, parts_with as parts_of_all, linked_of};
 
@@ -49,20 +52,6 @@ fn read_weights<'a>(object: &'a Part<'a>) -> Result<Weights, Fault<'a>>
     })
 }
 
-/// What the first pass finds: the lists of the whole value, and the ids in them.
-#[derive(Drop)]
-pub struct Shape<'a> {
-    pub term: Term,
-    pub weights: Weights,
-    pub rooms: Items<'a>,
-    pub room_ids: IndexSet<u32>,
-    pub courses: Items<'a>,
-    pub course_ids: IndexSet<u32>,
-    pub class_ids: IndexSet<u32>,
-    pub distributions: Items<'a>,
-    pub students: Items<'a>,
-}
-
 /// What the first pass reads with: no reference is looked up.
 fn unknown(term: Term) -> Context<'static>
     requires { IsValidTerm term.nr_days term.nr_weeks }
@@ -77,43 +66,146 @@ fn unknown(term: Term) -> Context<'static>
     }
 }
 
+/// What stands before the lists of the whole value.
+#[derive(Clone, Copy)]
+pub struct Head {
+    pub term: Term,
+    pub weights: Weights,
+}
+
+/// The head of the whole value.
+#[tactic(auto, unfolding(crate::specs::Lists::head_of))]
+fn read_head(object: &Part<'_>) -> Result<Head, FileFault>
+    ensures reads { Gives head_read result (head_of (part_of object.now)) }
+    ensures term { IfOk result (λ head. IsValidTerm head.term.nr_days head.term.nr_weeks) }
+    ensures weights { IfOk result (λ head. AreValidWeights head.weights) }
+{
+    let term = read_term(object)?;
+    let optimization = required_object(object, "optimization")?;
+    let weights = read_weights(&optimization)?;
+    Ok(Head { term, weights })
+}
+
+/// The list of rooms, and the ids in it.
+#[derive(Drop)]
+pub struct RoomList<'a> {
+    pub items: Items<'a>,
+    pub ids: IndexSet<u32>,
+}
+
+/// The rooms, with no reference looked up.
+#[tactic(auto, using(crate::proofs::Linked::ids_count), unfolding(crate::specs::Lists::room_list_of))]
+fn read_room_list<'a>(
+    alloc: Global,
+    term: Term,
+    object: &'a Part<'a>,
+) -> Result<RoomList<'a>, FileFault>
+    requires { IsValidTerm term.nr_days term.nr_weeks }
+    ensures reads { Gives room_list_read result (room_list_of term (part_of object.now)) }
+    ensures few { IfOk result (λ list. length list.items.values.now ≤ most_rooms) }
+    ensures count { IfOk result (λ list. length list.ids.keys ≡ length list.items.values.now) }
+{
+    let context = unknown(term);
+    let items = list_or_none(object, "rooms", 2500)?;
+    let Rooms { ids, .. } = read_rooms(alloc, &context, &items)?;
+    Ok(RoomList { items, ids })
+}
+
+/// The list of courses, and the ids of courses and of classes in it.
+#[derive(Drop)]
+pub struct CourseList<'a> {
+    pub items: Items<'a>,
+    pub ids: IndexSet<u32>,
+    pub class_ids: IndexSet<u32>,
+}
+
+/// The courses, with no reference looked up.
+#[tactic(auto, using(crate::proofs::Linked::ids_count), unfolding(crate::specs::Lists::course_list_of))]
+fn read_course_list<'a>(
+    alloc: Global,
+    term: Term,
+    object: &'a Part<'a>,
+) -> Result<CourseList<'a>, FileFault>
+    requires { IsValidTerm term.nr_days term.nr_weeks }
+    ensures reads { Gives course_list_read result (course_list_of term (part_of object.now)) }
+    ensures few { IfOk result (λ list. length list.items.values.now ≤ 20000) }
+    ensures count { IfOk result (λ list. length list.ids.keys ≡ length list.items.values.now) }
+    ensures few_classes { IfOk result (λ list. length list.class_ids.keys ≤ 20000) }
+    ensures classes { IfOk result (λ list. HasClasses (items_of list.items) (length list.class_ids.keys)) }
+{
+    let context = unknown(term);
+    let items = list(object, "courses", 0, 20_000)?;
+    let Tree { ids, configs, .. } = read_courses(alloc, &context, &items)?;
+    let Configs { subparts, .. } = configs;
+    let Subparts { classes, .. } = subparts;
+    let Classes { ids: class_ids, .. } = classes;
+    Ok(CourseList {
+        items,
+        ids,
+        class_ids,
+    })
+}
+
+/// The list of distributions, read with no reference looked up.
+#[tactic(auto, unfolding(crate::specs::Lists::rule_list_of))]
+fn read_rule_list<'a>(alloc: Global, object: &'a Part<'a>) -> Result<Items<'a>, FileFault>
+    ensures reads { Gives items_of result (rule_list_of (part_of object.now)) }
+    ensures few { IfOk result (λ items. length items.values.now ≤ 20000) }
+{
+    let items = list_or_none(object, "distributions", 20_000)?;
+    read_rules(alloc, &Known::none(), &items)?;
+    Ok(items)
+}
+
+/// The list of students, read with no reference looked up.
+#[tactic(auto, unfolding(crate::specs::Lists::student_list_of))]
+fn read_student_list<'a>(alloc: Global, object: &'a Part<'a>) -> Result<Items<'a>, FileFault>
+    ensures reads { Gives items_of result (student_list_of (part_of object.now)) }
+    ensures few { IfOk result (λ items. length items.values.now ≤ 100000) }
+{
+    let items = list_or_none(object, "students", 100_000)?;
+    read_students(alloc, &Known::none(), &items)?;
+    Ok(items)
+}
+
+/// What the first pass finds: the lists of the whole value, and the ids in them.
+#[derive(Drop)]
+pub struct Shape<'a> {
+    pub head: Head,
+    pub rooms: RoomList<'a>,
+    pub courses: CourseList<'a>,
+    pub distributions: Items<'a>,
+    pub students: Items<'a>,
+}
+
+/// The shape of an object.
+#[tactic(auto, unfolding(crate::specs::Lists::shape_by_lists))]
+fn read_shape<'a>(alloc: Global, object: &'a Part<'a>) -> Result<Shape<'a>, FileFault>
+    ensures reads { Gives shape_read result (shape_by_lists (part_of object.now)) }
+    ensures valid { IfOk result IsShape }
+{
+    let head = read_head(object)?;
+    let rooms = read_room_list(alloc, head.term, object)?;
+    let courses = read_course_list(alloc, head.term, object)?;
+    let distributions = read_rule_list(alloc, object)?;
+    let students = read_student_list(alloc, object)?;
+    Ok(Shape {
+        head,
+        rooms,
+        courses,
+        distributions,
+        students,
+    })
+}
+
 /// The first pass: the shape of all.
-#[tactic(auto, using(crate::proofs::Linked::ids_count), unfolding(crate::specs::Tables::shape_of))]
+#[tactic(auto, using(crate::proofs::ShapeLemmas::shape_is_by_lists))]
 pub fn first_pass<'a>(alloc: Global, object: &'a Part<'a>) -> Result<Shape<'a>, FileFault>
     ensures reads { Gives shape_read result (shape_of (part_of object.now)) }
     ensures valid { IfOk result IsShape }
 {
     as_object(object)?;
-    let term = read_term(object)?;
-    let optimization = required_object(object, "optimization")?;
-    let weights = read_weights(&optimization)?;
-    let context = unknown(term);
-    let rooms = list_or_none(object, "rooms", 2500)?;
-    let Rooms { ids: room_ids, .. } = read_rooms(alloc, &context, &rooms)?;
-    let courses = list(object, "courses", 0, 20_000)?;
-    let Tree {
-        ids: course_ids,
-        configs,
-        ..
-    } = read_courses(alloc, &context, &courses)?;
-    let Configs { subparts, .. } = configs;
-    let Subparts { classes, .. } = subparts;
-    let Classes { ids: class_ids, .. } = classes;
-    let distributions = list_or_none(object, "distributions", 20_000)?;
-    read_rules(alloc, &Known::none(), &distributions)?;
-    let students = list_or_none(object, "students", 100_000)?;
-    read_students(alloc, &Known::none(), &students)?;
-    Ok(Shape {
-        term,
-        weights,
-        rooms,
-        room_ids,
-        courses,
-        course_ids,
-        class_ids,
-        distributions,
-        students,
-    })
+    read_shape(alloc, object)
 }
 
 /// What the second pass reads with: the ids of the first.
@@ -123,10 +215,10 @@ fn known<'a>(shape: &'a Shape<'_>) -> Context<'a>
     ensures valid { IsContext result }
 {
     Context {
-        nr_days: shape.term.nr_days,
-        nr_weeks: shape.term.nr_weeks,
-        rooms: Known::among(&shape.room_ids),
-        classes: Known::among(&shape.class_ids),
+        nr_days: shape.head.term.nr_days,
+        nr_weeks: shape.head.term.nr_weeks,
+        rooms: Known::among(&shape.rooms.ids),
+        classes: Known::among(&shape.courses.class_ids),
     }
 }
 
@@ -155,9 +247,9 @@ fn parts_with(
     } = subparts;
     let Classes { classes, .. } = classes;
     Parts {
-        nr_days: shape.term.nr_days,
-        nr_weeks: shape.term.nr_weeks,
-        weights: shape.weights,
+        nr_days: shape.head.term.nr_days,
+        nr_weeks: shape.head.term.nr_weeks,
+        weights: shape.head.weights,
         courses: Row::from_vec(courses),
         configs: Row::from_vec(configs),
         subparts: Row::from_vec(subparts),
@@ -177,10 +269,10 @@ pub fn second_pass(alloc: Global, shape: &Shape<'_>) -> Result<Parts, FileFault>
     ensures linked { IfOk result IsLinked }
 {
     let context = known(&*shape);
-    let rooms = read_rooms(alloc, &context, &shape.rooms)?;
-    let tree = read_courses(alloc, &context, &shape.courses)?;
+    let rooms = read_rooms(alloc, &context, &shape.rooms.items)?;
+    let tree = read_courses(alloc, &context, &shape.courses.items)?;
     let rules = read_rules(alloc, &context.classes, &shape.distributions)?;
-    let courses = Known::among(&shape.course_ids);
+    let courses = Known::among(&shape.courses.ids);
     let students = read_students(alloc, &courses, &shape.students)?;
     Ok(parts_with(shape, rooms, tree, rules, students))
 }
