@@ -2,6 +2,7 @@
 use Rattle.std.proofs.Common.{◌≡◌, ◌≢◌, ◌≤◌, ◌<◌, ℕ, suc, Bool, true, false, List, [], ◌++◌, None, Some, Option, Result, Ok, Err, refl, sym, ◌∙◌, ap, subst, append_assoc, arith, inl, inr, length, take, drop}
 use Rattle.std.specs.Prelude.{◌⊎◌, ◌&&◌, ◌+◌, IfOk, OnOk, IsTrue, IsSome, is_ok, not, option_to_list, unwrap_or, if◌then◌else◌}
 use Rattle.std.specs.List.{concat}
+use Rattle.std.specs.Result.{result_and}
 use Rattle.std.proofs.lemmas.List.{append-nil, take-append-drop, take-append-le, length-append}
 use Rattle.std.proofs.lemmas.List.Folds.{concat-append}
 use Rattle.std.proofs.Math.Seq.{take-length}
@@ -35,11 +36,6 @@ over_four TooLong le = omega arith
 
 end_is_no_usage : (e : End) → end_status e ≢ 2
 end_is_no_usage e is = over_four e (omega arith)
-
--- the status of a script that was served, or of its end
-abbrev pub serve_status : Result Bool End → ℕ
-serve_status (Ok refused) = done_status (Served refused)
-serve_status (Err e) = end_status e
 
 pub at_most_one : (refused : Bool) → done_status (Served refused) ≤ 1
 at_most_one true = omega arith
@@ -130,11 +126,11 @@ pub served_status : (o : Result Session FaultyFile) (session : Session) (s : Lis
 served_status o session s refused is refuses_is = rw (is, ← refuses_is) refl
 
 module _ (limit : ℕ) (mid now : Option (List ℕ)) (d : Session) (s : Option (List ℕ)) where
-  serves_whole : (r : Result Bool End) → Serves limit mid now d s r → serve_status r ≤ 4 → Writes mid now (concat (replies_to d (lines_of (unwrap_or s []))))
+  serves_whole : (r : Result Bool End) → Serves limit mid now d s r → status_of (done_by r) ≤ 4 → Writes mid now (concat (replies_to d (lines_of (unwrap_or s []))))
   serves_whole (Ok refused) serves le = serves.2
   serves_whole (Err e) serves le = absurd (over_four e le)
 
-  serves_pieces : (r : Result Bool End) → Serves limit mid now d s r → serve_status r ≢ 6 → WritesFirst mid now (replies_to d (lines_of (unwrap_or s [])))
+  serves_pieces : (r : Result Bool End) → Serves limit mid now d s r → status_of (done_by r) ≢ 6 → WritesFirst mid now (replies_to d (lines_of (unwrap_or s [])))
   serves_pieces (Ok refused) serves ne = whole_first mid now _ serves.2
   serves_pieces (Err Files) serves ne = none_first mid now _ serves
   serves_pieces (Err Sink) serves ne = absurd (ne refl)
@@ -196,7 +192,7 @@ first_of_three false b c is = absurd cc
 published_first : (limit : ℕ) (b : Bytes) → opens_script limit b ≡ true → IsTrue (opens_published limit b)
 published_first limit b is = first_of_three (opens_published limit b) (not (is_long limit b.published)) (is_ok (opened b.problem b.published)) is
 
-served_due : (limit : ℕ) (mid now : Option (List ℕ)) (b : Bytes) (session : Session) (r : Result Bool End) → opened b.problem b.published ≡ Ok session → opens_script limit b ≡ true → Serves limit mid now session b.script r → (serve_status r ≤ 4) ⊎ (serve_status r ≡ 8) → serve_status r ≡ due_status limit b
+served_due : (limit : ℕ) (mid now : Option (List ℕ)) (b : Bytes) (session : Session) (r : Result Bool End) → opened b.problem b.published ≡ Ok session → opens_script limit b ≡ true → Serves limit mid now session b.script r → (status_of (done_by r) ≤ 4) ⊎ (status_of (done_by r) ≡ 8) → status_of (done_by r) ≡ due_status limit b
 served_due limit mid now b session (Ok refused) is opens serves which =
     rw (due_late limit b opens, serves.0) (served_status (opened b.problem b.published) session (unwrap_or b.script []) refused is serves.1)
 served_due limit mid now b session (Err e) is opens serves which = elim which [
@@ -244,6 +240,29 @@ first_failed limit before now b l TooLong begins memory front no_files no_limit 
 pub asked_failed : (words : FileWords) (limit : ℕ) (holds : List ℕ → Option (List ℕ)) (a c : Option (List (List ℕ))) (l : Result Session InputFault) (e : End) → AsksFirst words limit holds a c (Ok l) → AsksFirst words limit holds a c (Err e)
 asked_failed words limit holds a c l e asks = record { count = asks.count; asked = asks.asked; few = asks.few; some = asks.some; later = asks.later; each = tt }
 
+-- ---- a first line after files that were read
+
+-- what a write that came last makes of the causes
+pub cause_of_write : {T : Type 0} (which : End) (before now : ℕ) (value : T) (r : Result (Unit {0}) End) → HasEndCause which before now r → HasEndCause which before now (result_and r (Ok value))
+cause_of_write which before now value (Ok x) cause = record { rose = λ is. absurd (cc is); same = λ _. cause.same (λ is. cc) }
+cause_of_write which before now value (Err e) cause = same_cause which before now e cause
+
+-- a write that doesn't end so leaves the cause as it was
+pub cause_kept : {T : Type 0} (which : End) (before now : ℕ) (value : T) (r : Result (Unit {0}) End) → HasEndCause which before now (Ok value) → r ≢ Err which → HasEndCause which before now (result_and r (Ok value))
+cause_kept which before now value (Ok x) first ne = first
+cause_kept which before now value (Err e) first ne = no_cause which e before now value first (λ is. ne (ap Err is))
+
+-- the files asked for are those that were read
+pub asked_then : (words : FileWords) (limit : ℕ) (holds : List ℕ → Option (List ℕ)) (a c : Option (List (List ℕ))) (l : Result Session InputFault) (r : Result (Unit {0}) End) → AsksFirst words limit holds a c (Ok l) → AsksFirst words limit holds a c (result_and r (Ok l))
+asked_then words limit holds a c l (Ok x) asks = asks
+asked_then words limit holds a c l (Err e) asks = asked_failed words limit holds a c l e asks
+
+pub first_written : (limit : ℕ) (before now : Option (List ℕ)) (b : Bytes) (l : Result Session InputFault) (r : Result (Unit {0}) End) → Begins limit b (Ok l) → OnOk r (Writes before now (first_line (seen l)))
+    → (r ≡ Err Memory → now ≡ before) → WritesFront before now (first_line (seen l)) → r ≢ Err Files → r ≢ Err TooLong → Opens limit before now b (result_and r (Ok l))
+first_written limit before now b l (Ok x) begins written memory front no_files no_limit = (begins.0, begins.1, written)
+first_written limit before now b l (Err e) begins written memory front no_files no_limit =
+    first_failed limit before now b l e begins (λ is. memory (ap Err is)) front (λ is. no_files (ap Err is)) (λ is. no_limit (ap Err is))
+
 -- ---- names
 
 asks_append : (a b c : Option (List (List ℕ))) (xs ys : List (List ℕ)) → AsksAll a b xs → AsksAll b c ys → AsksAll a c (xs ++ ys)
@@ -260,7 +279,7 @@ faulty_two : (words : FileWords) (count : ℕ) (input : Input) → IsFaultyAt wo
 faulty_two words count Problem at is = absurd (omega arith)
 faulty_two words count Published at is = at
 
-not_faulty : (r : Result Bool End) → (serve_status r ≡ 3) ⊎ (serve_status r ≡ 4) → ⊥
+not_faulty : (r : Result Bool End) → (status_of (done_by r) ≡ 3) ⊎ (status_of (done_by r) ≡ 4) → ⊥
 not_faulty (Ok refused) is = let le : done_status (Served refused) ≤ 1 = at_most_one refused in elim is [ inl three ↦ omega arith | inr four ↦ omega arith ]
 not_faulty (Err e) is = over_four e (elim is [ inl three ↦ omega arith | inr four ↦ omega arith ])
 
@@ -337,7 +356,7 @@ module _ (words : FileWords) (limit : ℕ) (o : Outside) where
       script_is : (b : Bytes) → Tell o.holds words limit b → Serves limit mid o.now.written session b.script r
       script_is b told = let w = opens b (told_first b told.begins) in serves b.script (told.script w.1)
 
-      served : Grows mid o.now.written → IsTranscript words limit o (serve_status r)
+      served : Grows mid o.now.written → IsTranscript words limit o (status_of (done_by r))
       served grows = record {
         whole = λ b told le. let w = opens b (told_first b told.begins) in served_whole _ mid _ (opened b.problem b.published) session _ w.0 w.2 (serves_whole limit mid _ session b.script r (script_is b told) le);
         pieces = λ b told ne. let w = opens b (told_first b told.begins) in served_pieces _ mid _ (opened b.problem b.published) session _ w.0 w.2 (serves_pieces limit mid _ session b.script r (script_is b told) ne);
@@ -345,10 +364,10 @@ module _ (words : FileWords) (limit : ℕ) (o : Outside) where
         first = λ b told ne. let w = opens b (told_first b told) in inr (rw w.0 (past _ mid _ _ w.2 grows));
       }
 
-      served_is_due : IsDue words limit o (serve_status r)
+      served_is_due : IsDue words limit o (status_of (done_by r))
       served_is_due = record { due = λ b told which. let w = opens b (told_first b told.begins) in served_due limit mid _ b session r w.0 w.1 (script_is b told) which }
 
-    asks_served : (mid_asked : Option (List (List ℕ))) → Grows mid o.now.written → AsksFirst (front_words words.problem words.published) limit o.holds o.before.asked mid_asked (Ok (Ok session)) → AsksAll mid_asked o.now.asked (option_to_list words.script) → AsksInOrder words limit o (serve_status r)
+    asks_served : (mid_asked : Option (List (List ℕ))) → Grows mid o.now.written → AsksFirst (front_words words.problem words.published) limit o.holds o.before.asked mid_asked (Ok (Ok session)) → AsksAll mid_asked o.now.asked (option_to_list words.script) → AsksInOrder words limit o (status_of (done_by r))
     asks_served mid_asked grows first second = record {
       count = length (file_words words);
       asked = rw (take-length (file_words words)) (asks_append _ mid_asked _ (first_words words) (option_to_list words.script) (rw (first.each, take-length (first_words words)) at first.asked) second);

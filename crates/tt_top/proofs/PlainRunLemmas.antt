@@ -2,6 +2,7 @@
 use Rattle.std.proofs.Common.{◌≡◌, ◌≢◌, ◌≤◌, ℕ, suc, Bool, List, [], ◌∷◌, ◌++◌, Option, Result, Ok, Err, refl, ◌∙◌, ap, arith, inl, inr}
 use Rattle.std.specs.Prelude.{IfOk, OnOk}
 use Rattle.std.specs.List.{concat}
+use Rattle.std.specs.Result.{result_and}
 use Rattle.std.proofs.lemmas.List.{append-nil}
 use Rattle.tt_io.specs.Causes.{Writes}
 use Rattle.tt_io.specs.Whole.{WritesFront}
@@ -17,7 +18,7 @@ use Rattle.tt_top.specs.declared.end.InputFault.{InputFault}
 use Rattle.tt_top.specs.Transcript.{FaultyFile, Transcript, transcript_from, text_of, first_line}
 use Rattle.tt_top.specs.Run.{Outside, WritesFirst, IsPlainRun}
 use Rattle.tt_top.specs.Ends.{input_status, faulty_file, seen, end_status, done_by, status_of, HasEndCause, OpensMade, ServesLines, WritesPlain}
-use Rattle.tt_top.proofs.FileRunLemmas.{serve_status, at_most_one, at_most_four, none_first, whole_first, first_front, first_line_front, is_six}
+use Rattle.tt_top.proofs.FileRunLemmas.{at_most_one, at_most_four, none_first, whole_first, first_front, first_line_front, is_six}
 
 -- ---- what is written
 
@@ -71,9 +72,9 @@ made_faulty before now o s f opens = rw opens.0 (one_whole before now (faulty_fi
 
 pub made_served : (before mid now : Option (List ℕ)) (o : Result Session FaultyFile) (s : List ℕ) (session : Session) (r : Result Bool End) → OpensMade before mid o (Ok (Ok session)) → ServesLines mid now session s r → WritesPlain (transcript_from o s) before now (status_of (done_by r))
 made_served before mid now o s session (Ok refused) opens serves =
-    let le : serve_status (Ok refused) ≤ 1 = at_most_one refused in
-    let few : serve_status (Ok refused) ≤ 4 = omega arith in
-    rw opens.0 (plain_whole _ before now (serve_status (Ok refused)) (rw (← serves.0) refl) few (Writes-append before mid now _ _ opens.1 serves.1))
+    let le : status_of (done_by (Ok refused)) ≤ 1 = at_most_one refused in
+    let few : status_of (done_by (Ok refused)) ≤ 4 = omega arith in
+    rw opens.0 (plain_whole _ before now (status_of (done_by (Ok refused))) (rw (← serves.0) refl) few (Writes-append before mid now _ _ opens.1 serves.1))
 made_served before mid now o s session (Err Files) opens serves = absurd serves
 made_served before mid now o s session (Err Sink) opens serves = rw opens.0 (plain_failed _ before now (WritesFront-after before mid now _ _ opens.1 serves))
 made_served before mid now o s session (Err Memory) opens serves = rw opens.0 (plain_memory _ before now (suc serves.0, Writes-append before mid now _ _ opens.1 serves.1))
@@ -85,6 +86,13 @@ made_unwritten before now o l Files is memory front no_files no_limit = absurd (
 made_unwritten before now o l Sink is memory front no_files no_limit = rw is front
 made_unwritten before now o l Memory is memory front no_files no_limit = memory refl
 made_unwritten before now o l TooLong is memory front no_files no_limit = absurd (no_limit refl)
+
+-- the first line of a problem that is made, written or not
+pub made_written : (before now : Option (List ℕ)) (o : Result Session FaultyFile) (l : Result Session InputFault) (r : Result (Unit {0}) End) → o ≡ seen l → OnOk r (Writes before now (first_line (seen l)))
+    → (r ≡ Err Memory → now ≡ before) → WritesFront before now (first_line (seen l)) → r ≢ Err Files → r ≢ Err TooLong → OpensMade before now o (result_and r (Ok l))
+made_written before now o l (Ok x) is written memory front no_files no_limit = (is, written)
+made_written before now o l (Err e) is written memory front no_files no_limit =
+    made_unwritten before now o l e is (λ same. memory (ap Err same)) front (λ same. no_files (ap Err same)) (λ same. no_limit (ap Err same))
 
 -- no problem was made
 pub not_made : (before now : Option (List ℕ)) (o : Result Session FaultyFile) (e : End) → e ≡ Memory → now ≡ before → OpensMade before now o (Err e)

@@ -4,6 +4,7 @@ use Rattle.std.specs.List.{concat}
 use Rattle.tt_io.specs.Causes.{Writes, one_more, AsksAll}
 use Rattle.tt_io.specs.Whole.{WritesFront}
 use Rattle.tt_problem.specs.declared.parts.Parts.{Parts}
+use Rattle.tt_solution.specs.Timetable.{Timetable}
 use Rattle.tt_desk.specs.Chain.{◌>>=◌}
 use Rattle.tt_desk.specs.Script.{lines_of}
 use Rattle.tt_desk.specs.Desk.{Session, opening_desk}
@@ -77,11 +78,13 @@ pub record HasEndCause {T : Type 0} (which : End) (before now : ℕ) (result : R
 abbrev pub front_words : List ℕ → Option (List ℕ) → FileWords
 front_words problem published = record { problem = problem; published = published; script = None }
 
+-- the session of this problem, with what was read as published
+abbrev pub with_rest : Parts → Result (Option Timetable) FaultyFile → Result Session FaultyFile
+with_rest p read = read >>= λ published. Ok (record { desk = opening_desk p; published = published })
+
 -- the session of this problem, with what the published file gives
 abbrev pub rest_of : Parts → Option (List ℕ) → Result Session FaultyFile
-rest_of p o = do
-  t ← published_in p o
-  Ok (record { desk = opening_desk p; published = t })
+rest_of p o = with_rest p (published_in p o)
 
 -- The script can be opened where there is a session; else the run ends with the status of the fault.
 abbrev pub IsFit : ℕ → Bytes → Result Session InputFault → Type 0

@@ -1,14 +1,14 @@
-ghost use Rattle.std.specs.Prelude.{◌≡◌, ◌≢◌, ◌≤◌, ◌<◌, ◌+◌, ℕ, false, true, List, Some, None, Option, IfOk, IfErr, IfSome, IsSome, length, option_map, option_to_list};
+ghost use Rattle.std.specs.Prelude.{◌≡◌, ◌≢◌, ◌≤◌, ◌<◌, ◌+◌, ℕ, false, true, List, Some, None, Option, Err, IfOk, IfErr, IfSome, IsSome, length, option_map, option_to_list};
 ghost use Rattle.tt_io.specs.Causes.{Asks, AsksAll};
 ghost use Rattle.tt_io.specs.Whole.{TakesAtMost};
 ghost use Rattle.tt_read.specs.Tables.{problem_of};
 ghost use Rattle.tt_solution.specs.Timetable.{IsTimetableOf};
 ghost use Rattle.tt_top.specs.Transcript.{Bytes, problem_read, published_in};
 ghost use Rattle.tt_top.specs.Run.{IsTold, TellFirst, is_long};
-ghost use Rattle.tt_top.specs.Ends.{AsksFirst, Begins, HasEndCause, front_words, rest_of, seen};
+ghost use Rattle.tt_top.specs.Ends.{AsksFirst, Begins, HasEndCause, front_words, rest_of, seen, with_rest};
 
 use crate::end::{End, Input, InputFault, Loaded};
-use std::alloc::Global;
+use std::alloc::{AllocError, Global};
 use tt_desk::Session;
 use tt_fields::FileFault;
 use tt_io::{Files, ReadEnd, read_whole};
@@ -121,6 +121,25 @@ fn load_published<F: Files>(
     timetable_in(alloc, problem, &bytes)
 }
 
+// The session of a problem, with what its published file gave.
+fn start_with(
+    alloc: Global,
+    problem: Problem,
+    published: Loaded<Option<Published>>,
+) -> Result<Loaded<Session>, AllocError>
+    requires { IfOk published (λ o. IfSome o (λ t. IsTimetableOf problem t)) }
+    ensures starts { IfOk result (λ l. with_rest problem (seen published) ≡ seen l) }
+    ensures fault { IfOk result (λ l. IfErr l (λ f. published ≡ Err f)) }
+{
+    match published {
+        Ok(timetable) => {
+            let session = Session::start(alloc, problem, timetable)?;
+            Ok(Ok(session))
+        }
+        Err(fault) => Ok(Err(fault)),
+    }
+}
+
 // The session of a problem with what is published for it.
 fn load_rest<F: Files>(
     limit: u64,
@@ -137,10 +156,8 @@ fn load_rest<F: Files>(
     ensures same { (n : List ℕ) → F.holds files.new n ≡ F.holds files.old n }
     ensures cause { HasEndCause End.Files (F.faults files.old) (F.faults files.new) result }
 {
-    match load_published(limit, alloc, &problem, name, files)? {
-        Ok(published) => Ok(Ok(Session::start(alloc, problem, published)?)),
-        Err(fault) => Ok(Err(fault)),
-    }
+    let published = load_published(limit, alloc, &problem, name, files)?;
+    Ok(start_with(alloc, problem, published)?)
 }
 
 /// Reads the files before the script: the problem, and the published timetable where one is named.
