@@ -10,6 +10,7 @@ use Rattle.std.proofs.lemmas.Bool.{cases_Bool, cases_lt, eq-eqb, lt-ltb, le-ltb}
 use Rattle.std.proofs.lemmas.Bool.Decides.{nat_tests}
 use Rattle.tt_base.specs.Sets.{has, count, first, places}
 use Rattle.tt_base.proofs.SetLemmas.{has_above, first_lt}
+use Rattle.tt_base.proofs.ListLemmas.{apart_turned}
 use Rattle.tt_bits.specs.declared.times.Spot.{Spot}
 use Rattle.tt_bits.specs.Sets.{day_set, week_set}
 use Rattle.tt_bits.proofs.SetLemmas.{day_set-lt, week_set-lt}
@@ -18,7 +19,6 @@ use Rattle.tt_measure.specs.Cells.{seven_days, stands_in, cell_of, over_cells, d
 use Rattle.tt_measure.specs.Blocks.{blocks_of, is_too_long, breaks_over, long_blocks}
 use Rattle.tt_clash.specs.Rules.{alone}
 use Rattle.tt_clash.specs.Blocked.{blocks_alone}
-use Rattle.tt_clash.proofs.MixedLemmas.{turned}
 use Rattle.tt_bits.specs.declared.pairs.PairKind.{PairKind}
 use Rattle.tt_problem.specs.declared.parts.DistKind.TheVariants.{Pair, MaxDays, MaxDayLoad, MaxBreaks, MaxBlock}
 use Rattle.tt_problem.specs.declared.parts.Rule.{Rule}
@@ -26,7 +26,7 @@ use Rattle.tt_problem.specs.declared.parts.Parts.{Parts}
 
 none_placed : (c : ℕ) (x : Spot) (members : List ℕ) → AllByRecursion (λ e. nat_eq c e ≡ false) members → placed (alone c x members) ≡ []
 none_placed c x [] apart = refl
-none_placed c x (d ∷ ds) apart = let other : nat_eq d c ≡ false = turned c d apart.0 in rw other (none_placed c x ds apart.1)
+none_placed c x (d ∷ ds) apart = let other : nat_eq d c ≡ false = apart_turned c d apart.0 in rw other (none_placed c x ds apart.1)
 
 -- c is the one that is placed
 pub one_placed : (c : ℕ) (x : Spot) (members : List ℕ) (place : ℕ) → IsDistinct nat_eq members → place < length members → get_or members place 0 ≡ c → placed (alone c x members) ≡ x ∷ []

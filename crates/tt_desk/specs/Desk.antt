@@ -78,23 +78,16 @@ known_value p class time room = result_map_both (λ v. v) value_refusal (find_va
 abbrev pub placed : Desk → ℕ → Result Value Refusal
 placed d class = ok_or (value_in d.present class) NotPlaced
 
--- the value of a class isn't blocked
-abbrev pub open_value : Parts → ℕ → Value → Result (Unit {0}) Refusal
-open_value p class v = none_or Blocked (blocked_of p class v)
-
 -- the list is a valid enrolment of the student
 abbrev pub valid_list : Desk → ℕ → List ℕ → Result (Unit {0}) Refusal
 valid_list d student classes = if is_enrolment d.problem student classes then Ok tt else Err NoEnrolment
 
--- each class of the list has a seat for the student
-abbrev pub seated : Desk → ℕ → List ℕ → Result (Unit {0}) Refusal
-seated d student classes = none_or (λ full. NoSeat (class_id d.problem full)) (first_without_seat d.problem d.present.lists student classes)
-
--- the classes that a student has, of which there is one at least
+-- the list, where it has a class
 abbrev pub or_not_sectioned : List ℕ → Result (List ℕ) Refusal
 or_not_sectioned [] = Err NotSectioned
 or_not_sectioned (class ∷ classes) = Ok (class ∷ classes)
 
+-- the classes that a student has, of which there is one at least
 abbrev pub sectioned : Desk → ℕ → Result (List ℕ) Refusal
 sectioned d student = or_not_sectioned (list_in d.present student)
 
@@ -102,18 +95,16 @@ sectioned d student = or_not_sectioned (list_in d.present student)
 abbrev pub enrolment : Desk → ℕ → Result Snapshot Refusal
 enrolment d student = ok_or (enrolled d.problem d.present student) NoEnrolment
 
--- the desk before its last step
-abbrev pub or_nothing : Parts → List Snapshot → Result Desk Refusal
-or_nothing p [] = Err NothingToUndo
-or_nothing p (s ∷ ss) = Ok (record { problem = p; present = s; earlier = ss })
+-- the desk with the newest of these earlier snapshots as its present one
+abbrev pub undone : Parts → List Snapshot → Result Desk Refusal
+undone p [] = Err NothingToUndo
+undone p (s ∷ ss) = Ok (record { problem = p; present = s; earlier = ss })
 
-abbrev pub undone : Desk → Result Desk Refusal
-undone d = or_nothing d.problem d.earlier
-
--- the present snapshot, in which all classes are placed, all students are sectioned, and nothing is in conflict
+-- how far a snapshot with these totals is from being ready
 abbrev pub not_ready : totals.Totals → Refusal
 not_ready t = NotReady t.unplaced t.unsectioned t.hard
 
+-- the present snapshot, in which all classes are placed, all students are sectioned, and nothing is in conflict
 abbrev pub ready : Desk → Result Snapshot Refusal
 ready d = if is_ready d.problem d.present then Ok d.present else Err (not_ready (totals_of d.problem d.present.plan d.present.lists))
 
@@ -172,13 +163,13 @@ carried_out s (Unassign class) = do
 carried_out s (Force class time room) = do
   c ← known_class s.desk.problem class
   v ← known_value s.desk.problem c time room
-  free ← open_value s.desk.problem c v
+  free ← none_or Blocked (blocked_of s.desk.problem c v)
   Ok (with_step s (forced s.desk.problem s.desk.present c v) (taken_lines s.desk.problem (conflicts_of s.desk.problem s.desk.present c v)))
 carried_out s (Section student classes) = do
   list ← known_classes s.desk.problem classes
   i ← known_student s.desk.problem student
   valid ← valid_list s.desk i list
-  free ← seated s.desk i list
+  free ← none_or (λ full. NoSeat (class_id s.desk.problem full)) (first_without_seat s.desk.problem s.desk.present.lists i list)
   Ok (with_step s (with_list s.desk.present i (in_order list)) [])
 carried_out s (Drop student) = do
   i ← known_student s.desk.problem student
@@ -197,7 +188,7 @@ carried_out s Recall = do
   t ← published s
   Ok (with_step s (recalled s.desk.problem t s.desk.present) [])
 carried_out s Undo = do
-  d ← undone s.desk
+  d ← undone s.desk.problem s.desk.earlier
   Ok (with_desk s d [])
 carried_out s Publish = do
   now ← ready s.desk

@@ -1,6 +1,7 @@
 -- The replies to the lines of a script.
-use Rattle.std.specs.Prelude.{ℕ, ⊤, Bool, true, false, List, [], ◌∷◌, ◌++◌, map, if◌then◌else◌, None, Some, Option, option_map, codes, decimal}
+use Rattle.std.specs.Prelude.{ℕ, ⊤, Bool, true, false, List, [], ◌∷◌, ◌++◌, map, if◌then◌else◌, Option, option_map, codes, decimal}
 use Rattle.std.specs.List.{list_any}
+use Rattle.std.specs.Option.{option_map_or}
 use Rattle.tt_score.specs.declared.totals.Totals.{Totals}
 use Rattle.tt_score.specs.Totals.{totals_of}
 use Rattle.tt_solution.specs.Published.{moved_of}
@@ -9,11 +10,6 @@ use Rattle.tt_desk.specs.declared.refusal.Outcome.{Outcome}
 use Rattle.tt_desk.specs.declared.refusal.Outcome.TheVariants.{Skipped, Accepted, Refused, Ended}
 use Rattle.tt_desk.specs.Refusals.{refusal_line}
 use Rattle.tt_desk.specs.Desk.{Session, Step, line_step}
-
--- how many published classes moved; '-' while nothing is published
-abbrev pub moved_text : Option ℕ → List ℕ
-moved_text None = codes "-"
-moved_text (Some moved) = decimal moved
 
 -- the sums and their weighted total
 abbrev pub sums_text : Totals → List ℕ
@@ -31,9 +27,9 @@ counts_text t =
     ++ field (codes " unplaced ") t.unplaced
     ++ field (codes " unsectioned ") t.unsectioned
 
--- the line of totals
+-- the line of totals, with how many published classes moved, or '-' while nothing is published
 abbrev pub totals_line : Totals → Option ℕ → List ℕ
-totals_line t moved = sums_text t ++ counts_text t ++ codes " moved " ++ moved_text moved ++ codes "\n"
+totals_line t moved = sums_text t ++ counts_text t ++ codes " moved " ++ option_map_or decimal moved (codes "-") ++ codes "\n"
 
 -- the totals of the present snapshot
 unfoldable pub present_totals : Session → Totals

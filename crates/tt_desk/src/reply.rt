@@ -1,7 +1,9 @@
-ghost use Rattle.std.specs.Prelude.{◌≡◌, ◌++◌, [], OnOk, OnErr, codes};
+ghost use Rattle.std.specs.Prelude.{◌≡◌, ◌++◌, [], OnOk, OnErr, codes, decimal};
+ghost use Rattle.std.specs.Option.{option_map_or};
+ghost use Rattle.tt_text.specs.Fields.{field};
 ghost use Rattle.tt_desk.specs.Desk.{taken_lines};
-ghost use Rattle.tt_desk.specs.Refusals.{refusal_number, refusal_text, refusal_line};
-ghost use Rattle.tt_desk.specs.Replies.{HasReply, counts_text, moved_text, reply_to, sums_text, totals_line};
+ghost use Rattle.tt_desk.specs.Refusals.{refusal_text, refusal_line};
+ghost use Rattle.tt_desk.specs.Replies.{HasReply, counts_text, reply_to, sums_text, totals_line};
 
 use crate::refusal::{Outcome, Refusal};
 use crate::session::Session;
@@ -13,7 +15,7 @@ use tt_text::Reply;
 
 // Appends a number, or a dash where there is none.
 fn add_number_or_dash(reply: &mut Reply, moved: Option<u32>) -> Result<(), AllocError>
-    ensures { OnOk result (reply.new ≡ reply.old ++ moved_text moved) }
+    ensures { OnOk result (reply.new ≡ reply.old ++ option_map_or decimal moved (codes "-")) }
 {
     match moved {
         None => reply.text("-"),
@@ -43,7 +45,7 @@ fn add_counts(reply: &mut Reply, totals: &Totals) -> Result<(), AllocError>
 
 // Appends the end of a line of totals: how many published classes moved.
 fn add_moved(reply: &mut Reply, moved: Option<u32>) -> Result<(), AllocError>
-    ensures { OnOk result (reply.new ≡ reply.old ++ codes " moved " ++ moved_text moved ++ codes "\n") }
+    ensures { OnOk result (reply.new ≡ reply.old ++ codes " moved " ++ option_map_or decimal moved (codes "-") ++ codes "\n") }
 {
     reply.text(" moved ")?;
     add_number_or_dash(reply, moved)?;
@@ -59,27 +61,6 @@ fn add_totals(reply: &mut Reply, totals: &Totals, moved: Option<u32>) -> Result<
     add_moved(reply, moved)
 }
 
-// The number of a refusal.
-fn refusal_number(refusal: Refusal) -> u8
-    ensures { result ≡ refusal_number refusal }
-{
-    match refusal {
-        Refusal::BadLine => 10,
-        Refusal::NoSuchClass => 11,
-        Refusal::NoSuchStudent => 12,
-        Refusal::NoSuchTime => 13,
-        Refusal::RoomNotListed => 14,
-        Refusal::NotPlaced => 16,
-        Refusal::Blocked { .. } => 17,
-        Refusal::NoEnrolment => 18,
-        Refusal::NoSeat { .. } => 19,
-        Refusal::NotSectioned => 20,
-        Refusal::NothingToUndo => 21,
-        Refusal::NotReady { .. } => 22,
-        Refusal::NothingPublished => 23,
-    }
-}
-
 // Appends how much isn't ready.
 fn add_not_ready(
     reply: &mut Reply,
@@ -87,36 +68,39 @@ fn add_not_ready(
     unsectioned: u32,
     hard: u64,
 ) -> Result<(), AllocError>
-    ensures { OnOk result (reply.new ≡ reply.old ++ refusal_text (Refusal.NotReady unplaced unsectioned hard)) }
+    ensures { OnOk result (reply.new ≡ reply.old ++ field (codes "22 not ready ") unplaced ++ field (codes " ") unsectioned ++ field (codes " ") hard) }
 {
-    reply.field("not ready ", u128::from(unplaced))?;
+    reply.field("22 not ready ", u128::from(unplaced))?;
     reply.field(" ", u128::from(unsectioned))?;
     reply.field(" ", u128::from(hard))
 }
 
-// Appends the words of a refusal.
+// Appends the number and the words of a refusal.
 #[tactic(auto, using(std::proofs::Common::append_assoc))]
-fn add_words(reply: &mut Reply, refusal: Refusal) -> Result<(), AllocError>
+fn add_refusal(reply: &mut Reply, refusal: Refusal) -> Result<(), AllocError>
     ensures { OnOk result (reply.new ≡ reply.old ++ refusal_text refusal) }
 {
     match refusal {
-        Refusal::BadLine => reply.text("bad line"),
-        Refusal::NoSuchClass => reply.text("no such class"),
-        Refusal::NoSuchStudent => reply.text("no such student"),
-        Refusal::NoSuchTime => reply.text("no such time"),
-        Refusal::RoomNotListed => reply.text("room not in the list"),
-        Refusal::NotPlaced => reply.text("not placed"),
-        Refusal::Blocked { reason } => add_block(reply, reason),
-        Refusal::NoEnrolment => reply.text("no valid enrolment"),
-        Refusal::NoSeat { class } => reply.field("no seat in class ", u128::from(class)),
-        Refusal::NotSectioned => reply.text("not sectioned"),
-        Refusal::NothingToUndo => reply.text("nothing to undo"),
+        Refusal::BadLine => reply.text("10 bad line"),
+        Refusal::NoSuchClass => reply.text("11 no such class"),
+        Refusal::NoSuchStudent => reply.text("12 no such student"),
+        Refusal::NoSuchTime => reply.text("13 no such time"),
+        Refusal::RoomNotListed => reply.text("14 room not in the list"),
+        Refusal::NotPlaced => reply.text("16 not placed"),
+        Refusal::Blocked { reason } => {
+            reply.text("17 ")?;
+            add_block(reply, reason)
+        }
+        Refusal::NoEnrolment => reply.text("18 no valid enrolment"),
+        Refusal::NoSeat { class } => reply.field("19 no seat in class ", u128::from(class)),
+        Refusal::NotSectioned => reply.text("20 not sectioned"),
+        Refusal::NothingToUndo => reply.text("21 nothing to undo"),
         Refusal::NotReady {
             unplaced,
             unsectioned,
             hard,
         } => add_not_ready(reply, unplaced, unsectioned, hard),
-        Refusal::NothingPublished => reply.text("nothing published"),
+        Refusal::NothingPublished => reply.text("23 nothing published"),
     }
 }
 
@@ -125,9 +109,8 @@ fn put_refusal(reply: &mut Reply, refusal: Refusal) -> Result<(), AllocError>
     requires { reply.old ≡ [] }
     ensures { OnOk result (reply.new ≡ refusal_line refusal) }
 {
-    reply.field("refused ", u128::from(refusal_number(refusal)))?;
-    reply.text(" ")?;
-    add_words(reply, refusal)?;
+    reply.text("refused ")?;
+    add_refusal(reply, refusal)?;
     reply.text("\n")
 }
 

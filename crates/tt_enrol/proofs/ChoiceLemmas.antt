@@ -3,11 +3,12 @@ use Rattle.std.proofs.Common.{◌≡◌, ℕ, suc, zero, ◌+◌, ◌-◌, ◌<�
 use Rattle.std.specs.Prelude.{◌&&◌, ◌||◌, ◌==◌, not}
 use Rattle.std.specs.List.{list_all, range_with_len, AllByRecursion}
 use Rattle.std.proofs.lemmas.Bool.Decides.{nat_tests}
+use Rattle.tt_base.specs.Lists.{is_listed}
 use Rattle.tt_problem.specs.declared.parts.Span.{Span}
 use Rattle.tt_problem.specs.declared.parts.Parts.{Parts}
 use Rattle.tt_problem.specs.Spans.{is_in, CoversFrom}
 use Rattle.tt_problem.specs.Seats.{spans_at}
-use Rattle.tt_struct.specs.Enrolments.{lists, count_in, has_no_repeat, has_count, fills, avoids, takes_one}
+use Rattle.tt_struct.specs.Enrolments.{count_in, has_no_repeat, has_count, fills, avoids, takes_one}
 use Rattle.tt_enrol.specs.Choices.{choices_of, course_choices, each_before}
 use Rattle.tt_enrol.proofs.Order.{all-append, all-weaken, covers-le}
 use Rattle.tt_enrol.proofs.CourseLemmas.{covers-later, covers-cut, drop-further}
@@ -55,7 +56,7 @@ module _ (a b : ℕ) (s : Span) (subparts : List Span) (starts : s.first ≡ a) 
       record {
         within = ((omega arith, omega arith), wider s.after b a b choice (omega arith) (omega arith) h.within);
         each = both (has_count 1 (c ∷ choice) s) (list_all (has_count 1 (c ∷ choice)) subparts) first (later ∙ h.each);
-        once = both (not (lists choice c)) (has_no_repeat choice) (ap not new) h.once;
+        once = both (not (is_listed c choice)) (has_no_repeat choice) (ap not new) h.once;
       }
 
   grown-map : (c : ℕ) (choices : List (List ℕ)) → s.first ≤ c → c < s.after → AllByRecursion (IsOneOfEach s.after b subparts) choices → AllByRecursion (IsOneOfEach a b (s ∷ subparts)) (map (λ choice. c ∷ choice) choices)

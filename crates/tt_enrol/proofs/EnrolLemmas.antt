@@ -1,6 +1,6 @@
 -- What is found by the numbers at hand is what the definitions find.
 use Rattle.std.proofs.Common.{◌≡◌, ℕ, ◌<◌, ◌≤◌, Bool, true, List, [], Option, Some, None, Ok, Err, map, length, get_or, refl, sym, ap, ◌∙◌, inl, inr}
-use Rattle.std.specs.Prelude.{nat_lt, slice_index, slice_set, IfErr, IsErrAnd, OnErr}
+use Rattle.std.specs.Prelude.{nat_lt, slice_index, slice_set, IfErr, OnErr}
 use Rattle.std.specs.declared.result.Result.{Result}
 use Rattle.std.specs.Option.{option_map, option_map_or}
 use Rattle.std.proofs.Math.Path.{fun_ext}
@@ -87,11 +87,6 @@ enrolled_some p s student list e = ap (option_map (λ list. with_list s student 
 pub on_err : {T E P : Type 0} (r : Result T E) → P → OnErr r P
 on_err (Ok x) h = tt
 on_err (Err e) h = h
-
--- an error that is handed on
-pub handed_on : {T E : Type 0} (r : Result T E) (x : E) → IsErrAnd r (λ e. e ≡ x) → r ≡ Err x
-handed_on (Ok v) x gives = absurd gives
-handed_on (Err e) x gives = ap Err gives
 
 -- a refusal of a section that is no want of a seat
 pub only_enrol : (r : Result (Unit {0}) Refusal) → IfErr r IsOfSection → ((class : ℕ) → r ≡ Err (NoSeat class) → ⊥) → IfErr r IsOfEnrol

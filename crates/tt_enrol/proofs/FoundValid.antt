@@ -1,6 +1,6 @@
 -- The classes found for a student, course after course, are a valid enrolment with seats.
 use Rattle.std.proofs.Common.{◌≡◌, ℕ, zero, suc, ◌+◌, ◌<◌, Bool, true, false, List, [], ◌∷◌, ◌++◌, Option, Some, None, map, length, arith, refl, sym, ap, ◌∙◌, append_assoc, append-nil, nat_eq}
-use Rattle.std.specs.Prelude.{◌&&◌, ◌||◌, ◌==◌, IfSome, slice_get, fold}
+use Rattle.std.specs.Prelude.{◌&&◌, ◌||◌, IfSome, slice_get, fold}
 use Rattle.std.specs.List.{list_all, AllByRecursion, IsDistinct}
 use Rattle.std.specs.Option.{option_map, option_map_or}
 use Rattle.std.proofs.lemmas.Bool.{and_parts}
@@ -9,13 +9,14 @@ use Rattle.std.proofs.lemmas.List.Elements.{recursion_from_All, All-from_recursi
 use Rattle.std.proofs.lemmas.List.Folds.{list_all-append, list_any-append}
 use Rattle.std.proofs.lemmas.Map.Keys.{IsDistinct-head, IsDistinct-tail}
 use Rattle.std.proofs.lemmas.Option.{none-some}
+use Rattle.tt_base.specs.Lists.{is_listed}
 use Rattle.tt_problem.specs.declared.parts.Span.{Span}
 use Rattle.tt_problem.specs.declared.parts.ClassPart.{ClassPart}
 use Rattle.tt_problem.specs.declared.parts.StudentPart.{StudentPart}
 use Rattle.tt_problem.specs.declared.parts.Parts.{Parts}
 use Rattle.tt_problem.specs.Places.{course_of}
 use Rattle.tt_problem.specs.Valid.{IsValid, IsValidStudent}
-use Rattle.tt_struct.specs.Enrolments.{lists, count_in, takes, is_of_courses, has_parent_of, has_parent, is_enrolment_of}
+use Rattle.tt_struct.specs.Enrolments.{count_in, takes, is_of_courses, has_parent_of, has_parent, is_enrolment_of}
 use Rattle.tt_state.specs.Seats.{has_seat, first_without_seat}
 use Rattle.tt_state.specs.Snapshots.{Snapshot}
 use Rattle.tt_enrol.specs.Choices.{choices_at}
@@ -39,9 +40,9 @@ parents_kept p taken choice (c ∷ list) h =
     let parts = and_parts (has_parent p taken c) (list_all (has_parent p taken) list) h in
     both (has_parent p (taken ++ choice) c) (list_all (has_parent p (taken ++ choice)) list) (of_class (slice_get p.classes c) parts.0) (parents_kept p taken choice list parts.1)
   where
-    of_parent : (o : Option ℕ) → option_map_or (lists taken) o true ≡ true → option_map_or (lists (taken ++ choice)) o true ≡ true
+    of_parent : (o : Option ℕ) → option_map_or (λ q. is_listed q taken) o true ≡ true → option_map_or (λ q. is_listed q (taken ++ choice)) o true ≡ true
     of_parent None e = e
-    of_parent (Some q) e = list_any-append (λ (other : ℕ). other == q) taken choice ∙ ap (λ (b : Bool). b || lists choice q) e
+    of_parent (Some q) e = list_any-append (nat_eq q) taken choice ∙ ap (λ (b : Bool). b || is_listed q choice) e
 
     of_class : (o : Option ClassPart) → option_map_or (has_parent_of taken) o false ≡ true → option_map_or (has_parent_of (taken ++ choice)) o false ≡ true
     of_class None e = e
@@ -59,18 +60,18 @@ either_way false false e = e
 
 -- the class has no parent, or its parent is in the choice or taken
 abbrev has_parent_in : Parts → (taken choice : List ℕ) → ℕ → Bool
-has_parent_in p taken choice c = option_map_or (λ q. lists choice q || lists taken q) (parent_in p c) true
+has_parent_in p taken choice c = option_map_or (λ q. is_listed q choice || is_listed q taken) (parent_in p c) true
 
 -- the parents of an allowed choice are in it or taken, and its classes have seats
-parent_there : (taken choice : List ℕ) (o : Option ℕ) → option_map_or (λ q. lists choice q || lists taken q) o true ≡ true → option_map_or (lists (taken ++ choice)) o true ≡ true
+parent_there : (taken choice : List ℕ) (o : Option ℕ) → option_map_or (λ q. is_listed q choice || is_listed q taken) o true ≡ true → option_map_or (λ q. is_listed q (taken ++ choice)) o true ≡ true
 parent_there taken choice None e = e
-parent_there taken choice (Some q) e = list_any-append (λ (other : ℕ). other == q) taken choice ∙ either_way (lists taken q) (lists choice q) e
+parent_there taken choice (Some q) e = list_any-append (nat_eq q) taken choice ∙ either_way (is_listed q taken) (is_listed q choice) e
 
 class_there : (p : Parts) (taken choice : List ℕ) (c : ℕ) → c < length p.classes → has_parent_in p taken choice c ≡ true → has_parent p (taken ++ choice) c ≡ true
 unfolding has_parent has_parent_of
 class_there p taken choice c below e = of_class (slice_get p.classes c) refl e
   where
-    of_class : (o : Option ClassPart) → slice_get p.classes c ≡ o → option_map_or (λ q. lists choice q || lists taken q) (option_map_or (λ part. part.parent) o None) true ≡ true
+    of_class : (o : Option ClassPart) → slice_get p.classes c ≡ o → option_map_or (λ q. is_listed q choice || is_listed q taken) (option_map_or (λ part. part.parent) o None) true ≡ true
         → option_map_or (has_parent_of (taken ++ choice)) o false ≡ true
     of_class None none h = absurd (slice_some p.classes c below none)
     of_class (Some part) some h = parent_there taken choice part.parent h
@@ -97,23 +98,23 @@ module _ (p : Parts) (has : ℕ → Bool) (taken choice : List ℕ) where
 -- none of the courses to come is done, and none stands twice
 abbrev AreNew : (done rest : List ℕ) → Type 0
 AreNew done [] = Unit {0}
-AreNew done (k ∷ rest) = (lists done k ≡ false) × AreNew (done ++ k ∷ []) rest
+AreNew done (k ∷ rest) = (is_listed k done ≡ false) × AreNew (done ++ k ∷ []) rest
 
-new_more : (done : List ℕ) (k : ℕ) (rest : List ℕ) → AllByRecursion (λ j. lists done j ≡ false) rest → AllByRecursion (λ j. nat_eq k j ≡ false) rest → AllByRecursion (λ j. lists (done ++ k ∷ []) j ≡ false) rest
+new_more : (done : List ℕ) (k : ℕ) (rest : List ℕ) → AllByRecursion (λ j. is_listed j done ≡ false) rest → AllByRecursion (λ j. nat_eq k j ≡ false) rest → AllByRecursion (λ j. is_listed j (done ++ k ∷ []) ≡ false) rest
 new_more done k [] h d = tt
-new_more done k (j ∷ rest) h d = (list_any-append (λ (other : ℕ). other == j) done (k ∷ []) ∙ none (lists done j) h.0 d.0, new_more done k rest h.1 d.1)
+new_more done k (j ∷ rest) h d = (list_any-append (nat_eq j) done (k ∷ []) ∙ none (is_listed j done) h.0 d.0, new_more done k rest h.1 d.1)
   where
-    none : (b : Bool) → b ≡ false → nat_eq k j ≡ false → (b || ((k == j) || false)) ≡ false
+    none : (b : Bool) → b ≡ false → nat_eq k j ≡ false → (b || (nat_eq j k || false)) ≡ false
     none b e f = grind (arith, nat_tests)
 
-are_new : (done rest : List ℕ) → AllByRecursion (λ j. lists done j ≡ false) rest → IsDistinct nat_eq rest → AreNew done rest
+are_new : (done rest : List ℕ) → AllByRecursion (λ j. is_listed j done ≡ false) rest → IsDistinct nat_eq rest → AreNew done rest
 are_new done [] h d = tt
 are_new done (k ∷ rest) h d = (h.0, are_new (done ++ k ∷ []) rest (new_more done k rest h.1 (IsDistinct-head nat_eq k rest d)) (IsDistinct-tail nat_eq k rest d))
 
 -- one course more
 module _ (p : Parts) (valid : IsValid p) (at : List ℕ → Situation) (has : ℕ → Bool)
     (judged : (taken choice : List ℕ) → is_allowed (at taken) choice ≡ list_all (λ c. has c && has_parent_in p taken choice c) choice) where
-  taken_more : (done taken choice : List ℕ) (place : ℕ) → place < length p.courses → AllByRecursion (λ k. k < length p.courses) done → lists done place ≡ false
+  taken_more : (done taken choice : List ℕ) (place : ℕ) → place < length p.courses → AllByRecursion (λ k. k < length p.courses) done → is_listed place done ≡ false
       → IsTaken p has done taken → IsAllowed (IsChoice p place) (at taken) choice → IsTaken p has (done ++ place ∷ []) (taken ++ choice)
   taken_more done taken choice place within before new h one =
       let tests : list_all (λ c. has c && has_parent_in p taken choice c) choice ≡ true = sym (judged taken choice) ∙ one.allowed in
@@ -124,7 +125,7 @@ module _ (p : Parts) (valid : IsValid p) (at : List ℕ → Situation) (has : �
       let last : takes p (taken ++ choice) place ≡ true = here ∙ own ∙ is.takes in
       record {
         below = all-append (λ c. c < length p.classes) taken choice h.below is.below;
-        of = all-append (λ c. option_map_or (lists (done ++ place ∷ [])) (course_of p c) false ≡ true) taken choice (of_more p done place taken h.of) (of_last p done place choice is.of);
+        of = all-append (λ c. option_map_or (λ course. is_listed course (done ++ place ∷ [])) (course_of p c) false ≡ true) taken choice (of_more p done place taken h.of) (of_last p done place choice is.of);
         takes = list_all-append (takes p (taken ++ choice)) done (place ∷ []) ∙ both (list_all (takes p (taken ++ choice)) done) (takes p (taken ++ choice) place && true)
             (takes_more p valid taken choice place is.of done before new h.takes) (both (takes p (taken ++ choice) place) true last refl);
         once = once_more p done place taken choice h.of new is.of h.once is.once;
@@ -147,7 +148,7 @@ module _ (p : Parts) (valid : IsValid p) (at : List ℕ → Situation) (has : �
       step None is one go e = absurd (none-some list (sym (e ∙ none_stays at (map (choices_at p) rest))))
       step (Some choice) is one go e = go choice one e
 
-all_new : (rest : List ℕ) → AllByRecursion (λ j. lists [] j ≡ false) rest
+all_new : (rest : List ℕ) → AllByRecursion (λ j. is_listed j [] ≡ false) rest
 all_new [] = tt
 all_new (j ∷ rest) = (refl, all_new rest)
 
@@ -164,7 +165,7 @@ all_seats p now student (c ∷ list) h =
 is_enrolment_is : (p : Parts) (part : StudentPart) (has : ℕ → Bool) (list : List ℕ) → IsTaken p has part.courses list → is_enrolment_of p part list ≡ true
 unfolding is_enrolment_of is_of_courses
 is_enrolment_is p part has list h =
-    rw (h.once, all_of (λ c. option_map_or (lists part.courses) (course_of p c) false) list h.of, h.takes, h.parents) refl
+    rw (h.once, all_of (λ c. option_map_or (λ course. is_listed course part.courses) (course_of p c) false) list h.of, h.takes, h.parents) refl
 
 pub found_valid : (p : Parts) (s : Snapshot) (student : ℕ) (part : StudentPart) (list : List ℕ) → IsValid p → slice_get p.students student ≡ Some part → IsValidStudent p part → classes_found p s student ≡ Some list
     → IsFoundFor p s.lists student list

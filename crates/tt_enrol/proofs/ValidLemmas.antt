@@ -1,12 +1,13 @@
 -- What is found for a student is a valid enrolment, and each of its classes has a seat.
 use Rattle.std.proofs.Common.{◌≡◌, ℕ, ◌+◌, ◌-◌, ◌<◌, ◌≤◌, Bool, true, false, List, [], ◌∷◌, ◌++◌, Option, Some, None, length, get_or, drop, arith, refl, sym, ap, ◌∙◌}
-use Rattle.std.specs.Prelude.{◌&&◌, ◌||◌, ◌==◌, not}
+use Rattle.std.specs.Prelude.{◌&&◌, ◌||◌, not, nat_eq}
 use Rattle.std.specs.List.{list_all, AllByRecursion}
 use Rattle.std.specs.Option.{option_map_or}
 use Rattle.std.proofs.lemmas.Bool.{and_parts}
 use Rattle.std.proofs.lemmas.Bool.Decides.{nat_tests}
 use Rattle.std.proofs.lemmas.List.Folds.{list_any-append}
 use Rattle.std.proofs.lemmas.Option.{slice_get-get_or}
+use Rattle.tt_base.specs.Lists.{is_listed}
 use Rattle.tt_problem.specs.declared.parts.Span.{Span}
 use Rattle.tt_problem.specs.declared.parts.Parts.{Parts}
 use Rattle.tt_problem.specs.Spans.{is_in, CoversFrom}
@@ -14,7 +15,7 @@ use Rattle.tt_problem.specs.Places.{course_of}
 use Rattle.tt_problem.specs.Valid.{IsValid}
 use Rattle.tt_problem.specs.Seats.{spans_at}
 use Rattle.tt_problem.proofs.SpanLemmas.{course_within}
-use Rattle.tt_struct.specs.Enrolments.{lists, has_no_repeat, count_in, takes_one, takes_course, takes, has_parent}
+use Rattle.tt_struct.specs.Enrolments.{has_no_repeat, count_in, takes_one, takes_course, takes, has_parent}
 use Rattle.tt_enrol.specs.Choices.{choices_of_course, choices_at}
 use Rattle.tt_enrol.proofs.CourseLemmas.{covers-cut}
 use Rattle.tt_enrol.proofs.CountLemmas.{CountSame, count_of-append, count_of-none, not_listed, takes_one-same}
@@ -67,7 +68,7 @@ are_choices p place valid within =
 
 -- a class is of one of some courses
 abbrev pub is_of : Parts → List ℕ → ℕ → Bool
-is_of p done c = option_map_or (lists done) (course_of p c) false
+is_of p done c = option_map_or (λ course. is_listed course done) (course_of p c) false
 
 -- What is known of the classes taken, once some courses are done.
 pub record IsTaken (p : Parts) (has : ℕ → Bool) (done taken : List ℕ) : Type 0 where
@@ -86,7 +87,7 @@ both : (x y : Bool) → x ≡ true → y ≡ true → (x && y) ≡ true
 both x y h k = rw (h, k) refl
 
 -- as many classes of the subparts of a course, where the others are of other courses
-same_spans : (p : Parts) (a b more : List ℕ) (place : ℕ) → ((t : Span) → count_in a t ≡ count_in b t + count_in more t) → ((c : ℕ) → course_of p c ≡ Some place → lists more c ≡ false)
+same_spans : (p : Parts) (a b more : List ℕ) (place : ℕ) → ((t : Span) → count_in a t ≡ count_in b t + count_in more t) → ((c : ℕ) → course_of p c ≡ Some place → is_listed c more ≡ false)
     → (spans : List Span) → AllByRecursion (AreOfCourse p place) spans → CountSame a b spans
 same_spans p a b more place sum apart [] h = tt
 same_spans p a b more place sum apart (t ∷ spans) h =
@@ -97,89 +98,89 @@ same_spans p a b more place sum apart (t ∷ spans) h =
     listed_first true y e = absurd (cc e)
     listed_first false y e = e
 
-    own : (d : ℕ) (rest : List ℕ) → lists (d ∷ rest) d ≡ true
-    own d rest = here d (lists rest d)
+    own : (d : ℕ) (rest : List ℕ) → is_listed d (d ∷ rest) ≡ true
+    own d rest = here d (is_listed d rest)
       where
-        here : (d : ℕ) (b : Bool) → ((d == d) || b) ≡ true
+        here : (d : ℕ) (b : Bool) → (nat_eq d d || b) ≡ true
         here d b = grind (arith, nat_tests)
 
-    test : (d : ℕ) (rest : List ℕ) (b : Bool) → is_in d t ≡ b → (course_of p d ≡ Some place → lists (d ∷ rest) d ≡ false) → is_in d t ≡ false
+    test : (d : ℕ) (rest : List ℕ) (b : Bool) → is_in d t ≡ b → (course_of p d ≡ Some place → is_listed d (d ∷ rest) ≡ false) → is_in d t ≡ false
     test d rest false e h2 = e
     test d rest true e h2 = let no : true ≡ false = sym (own d rest) ∙ h2 (h.0 d e) in cc no
 
-    outside : (list : List ℕ) → ((c : ℕ) → course_of p c ≡ Some place → lists list c ≡ false) → AllByRecursion (λ c. is_in c t ≡ false) list
+    outside : (list : List ℕ) → ((c : ℕ) → course_of p c ≡ Some place → is_listed c list ≡ false) → AllByRecursion (λ c. is_in c t ≡ false) list
     outside [] not = tt
-    outside (d ∷ rest) not = (test d rest (is_in d t) refl (not d), outside rest (λ c of. listed_first (d == c) (lists rest c) (not c of)))
+    outside (d ∷ rest) not = (test d rest (is_in d t) refl (not d), outside rest (λ c of. listed_first (nat_eq c d) (is_listed c rest) (not c of)))
 
-same_configs : (p : Parts) (a b more : List ℕ) (place : ℕ) → ((t : Span) → count_in a t ≡ count_in b t + count_in more t) → ((c : ℕ) → course_of p c ≡ Some place → lists more c ≡ false)
+same_configs : (p : Parts) (a b more : List ℕ) (place : ℕ) → ((t : Span) → count_in a t ≡ count_in b t + count_in more t) → ((c : ℕ) → course_of p c ≡ Some place → is_listed c more ≡ false)
     → (configs : List Span) → AllByRecursion (λ g. AllByRecursion (AreOfCourse p place) (spans_at p.subparts g)) configs → AllByRecursion (λ g. CountSame a b (spans_at p.subparts g)) configs
 same_configs p a b more place sum apart [] h = tt
 same_configs p a b more place sum apart (g ∷ configs) h = (same_spans p a b more place sum apart (spans_at p.subparts g) h.0, same_configs p a b more place sum apart configs h.1)
 
-pub same_takes : (p : Parts) (valid : IsValid p) (a b more : List ℕ) (place : ℕ) → place < length p.courses → ((t : Span) → count_in a t ≡ count_in b t + count_in more t) → ((c : ℕ) → course_of p c ≡ Some place → lists more c ≡ false)
+pub same_takes : (p : Parts) (valid : IsValid p) (a b more : List ℕ) (place : ℕ) → place < length p.courses → ((t : Span) → count_in a t ≡ count_in b t + count_in more t) → ((c : ℕ) → course_of p c ≡ Some place → is_listed c more ≡ false)
     → takes_one p a (spans_at p.configs (get_or p.courses place no_course).configs) ≡ takes_one p b (spans_at p.configs (get_or p.courses place no_course).configs)
 same_takes p valid a b more place within sum apart =
     let configs = spans_at p.configs (get_or p.courses place no_course).configs in
     takes_one-same p a b configs (same_configs p a b more place sum apart configs (of_course p valid place within))
 
 -- a class of no course done is not in a list whose classes are of these
-pub listed_of : (p : Parts) (done : List ℕ) (taken : List ℕ) (place : ℕ) → AllByRecursion (λ c. is_of p done c ≡ true) taken → lists done place ≡ false → (c : ℕ) → course_of p c ≡ Some place → lists taken c ≡ false
+pub listed_of : (p : Parts) (done : List ℕ) (taken : List ℕ) (place : ℕ) → AllByRecursion (λ c. is_of p done c ≡ true) taken → is_listed place done ≡ false → (c : ℕ) → course_of p c ≡ Some place → is_listed c taken ≡ false
 listed_of p done taken place h new c of = not_listed taken c (all-weaken (λ d. is_of p done d ≡ true) (λ d. d ≡ c → ⊥) apart taken h)
   where
     apart : (d : ℕ) → is_of p done d ≡ true → d ≡ c → ⊥
     apart d is same =
-        let no : true ≡ false = sym is ∙ ap (λ (o : Option ℕ). option_map_or (lists done) o false) (ap (course_of p) same ∙ of) ∙ new in
+        let no : true ≡ false = sym is ∙ ap (λ (o : Option ℕ). option_map_or (λ course. is_listed course done) o false) (ap (course_of p) same ∙ of) ∙ new in
         cc no
 
-listed_last : (done : List ℕ) (k : ℕ) → lists (done ++ k ∷ []) k ≡ true
-listed_last done k = list_any-append (λ (other : ℕ). other == k) done (k ∷ []) ∙ last (lists done k) k
+listed_last : (done : List ℕ) (k : ℕ) → is_listed k (done ++ k ∷ []) ≡ true
+listed_last done k = list_any-append (nat_eq k) done (k ∷ []) ∙ last (is_listed k done) k
   where
-    last : (b : Bool) (k : ℕ) → (b || ((k == k) || false)) ≡ true
+    last : (b : Bool) (k : ℕ) → (b || (nat_eq k k || false)) ≡ true
     last b k = grind (arith, nat_tests)
 
 pub of_last : (p : Parts) (done : List ℕ) (k : ℕ) (choice : List ℕ) → AllOfCourse p k choice → AllByRecursion (λ c. is_of p (done ++ k ∷ []) c ≡ true) choice
 of_last p done k [] h = tt
-of_last p done k (c ∷ choice) h = (ap (λ (o : Option ℕ). option_map_or (lists (done ++ k ∷ [])) o false) h.0 ∙ listed_last done k, of_last p done k choice h.1)
+of_last p done k (c ∷ choice) h = (ap (λ (o : Option ℕ). option_map_or (λ course. is_listed course (done ++ k ∷ [])) o false) h.0 ∙ listed_last done k, of_last p done k choice h.1)
 
 -- the courses done keep what they have, where classes of another course come
-pub takes_more : (p : Parts) (valid : IsValid p) (taken choice : List ℕ) (place : ℕ) → AllOfCourse p place choice → (done : List ℕ) → AllByRecursion (λ k. k < length p.courses) done → lists done place ≡ false
+pub takes_more : (p : Parts) (valid : IsValid p) (taken choice : List ℕ) (place : ℕ) → AllOfCourse p place choice → (done : List ℕ) → AllByRecursion (λ k. k < length p.courses) done → is_listed place done ≡ false
     → list_all (takes p taken) done ≡ true → list_all (takes p (taken ++ choice)) done ≡ true
 takes_more p valid taken choice place of [] within new h = refl
 takes_more p valid taken choice place of (k ∷ done) within new h =
     let parts = and_parts (takes p taken k) (list_all (takes p taken) done) h in
     let here = takes_at p taken k within.0 in
     let there = takes_at p (taken ++ choice) k within.0 in
-    let same = same_takes p valid (taken ++ choice) taken choice k within.0 (λ t. count_of-append taken choice t) (listed_of p (place ∷ []) choice k (of_last p [] place choice of) (differs k place (lists done place) new)) in
+    let same = same_takes p valid (taken ++ choice) taken choice k within.0 (λ t. count_of-append taken choice t) (listed_of p (place ∷ []) choice k (of_last p [] place choice of) (differs k place (is_listed place done) new)) in
     both (takes p (taken ++ choice) k) (list_all (takes p (taken ++ choice)) done) (there ∙ same ∙ sym here ∙ parts.0)
-    (takes_more p valid taken choice place of done within.1 (rest (k == place) (lists done place) new) parts.1)
+    (takes_more p valid taken choice place of done within.1 (rest (nat_eq place k) (is_listed place done) new) parts.1)
   where
-    differs : (k place : ℕ) (b : Bool) → ((k == place) || b) ≡ false → ((place == k) || false) ≡ false
+    differs : (k place : ℕ) (b : Bool) → (nat_eq place k || b) ≡ false → (nat_eq k place || false) ≡ false
     differs k place b e = grind (arith, nat_tests)
 
     rest : (x y : Bool) → (x || y) ≡ false → y ≡ false
     rest true y e = absurd (cc e)
     rest false y e = e
 
-listed_more : (done : List ℕ) (k c : ℕ) → lists done c ≡ true → lists (done ++ k ∷ []) c ≡ true
-listed_more done k c h = list_any-append (λ (other : ℕ). other == c) done (k ∷ []) ∙ rw h refl
+listed_more : (done : List ℕ) (k c : ℕ) → is_listed c done ≡ true → is_listed c (done ++ k ∷ []) ≡ true
+listed_more done k c h = list_any-append (nat_eq c) done (k ∷ []) ∙ rw h refl
 
 pub of_more : (p : Parts) (done : List ℕ) (k : ℕ) (taken : List ℕ) → AllByRecursion (λ c. is_of p done c ≡ true) taken → AllByRecursion (λ c. is_of p (done ++ k ∷ []) c ≡ true) taken
 of_more p done k [] h = tt
 of_more p done k (c ∷ taken) h = (more (course_of p c) h.0, of_more p done k taken h.1)
   where
-    more : (o : Option ℕ) → option_map_or (lists done) o false ≡ true → option_map_or (lists (done ++ k ∷ [])) o false ≡ true
+    more : (o : Option ℕ) → option_map_or (λ course. is_listed course done) o false ≡ true → option_map_or (λ course. is_listed course (done ++ k ∷ [])) o false ≡ true
     more None e = e
     more (Some j) e = listed_more done k j e
 
 -- no class stands twice where the two lists have none twice and none in common
-pub once_more : (p : Parts) (done : List ℕ) (place : ℕ) (taken choice : List ℕ) → AllByRecursion (λ c. is_of p done c ≡ true) taken → lists done place ≡ false → AllOfCourse p place choice
+pub once_more : (p : Parts) (done : List ℕ) (place : ℕ) (taken choice : List ℕ) → AllByRecursion (λ c. is_of p done c ≡ true) taken → is_listed place done ≡ false → AllOfCourse p place choice
     → has_no_repeat taken ≡ true → has_no_repeat choice ≡ true → has_no_repeat (taken ++ choice) ≡ true
 once_more p done place [] choice h new of once other = other
 once_more p done place (c ∷ taken) choice h new of once other =
-    let parts = and_parts (not (lists taken c)) (has_no_repeat taken) once in
-    let none : lists choice c ≡ false = not_listed choice c (all-weaken (λ d. course_of p d ≡ Some place) (λ d. d ≡ c → ⊥) apart choice of) in
-    let joined : lists (taken ++ choice) c ≡ (lists taken c || lists choice c) = list_any-append (λ (d : ℕ). d == c) taken choice in
-    both (not (lists (taken ++ choice) c)) (has_no_repeat (taken ++ choice)) (ap not (joined ∙ ap (λ (b : Bool). lists taken c || b) none) ∙ or_none (lists taken c) parts.0)
+    let parts = and_parts (not (is_listed c taken)) (has_no_repeat taken) once in
+    let none : is_listed c choice ≡ false = not_listed choice c (all-weaken (λ d. course_of p d ≡ Some place) (λ d. d ≡ c → ⊥) apart choice of) in
+    let joined : is_listed c (taken ++ choice) ≡ (is_listed c taken || is_listed c choice) = list_any-append (nat_eq c) taken choice in
+    both (not (is_listed c (taken ++ choice))) (has_no_repeat (taken ++ choice)) (ap not (joined ∙ ap (λ (b : Bool). is_listed c taken || b) none) ∙ or_none (is_listed c taken) parts.0)
     (once_more p done place taken choice h.1 new of parts.1 other)
   where
     or_none : (b : Bool) → not b ≡ true → not (b || false) ≡ true
@@ -188,5 +189,5 @@ once_more p done place (c ∷ taken) choice h new of once other =
 
     apart : (d : ℕ) → course_of p d ≡ Some place → d ≡ c → ⊥
     apart d is same =
-        let no : true ≡ false = sym h.0 ∙ ap (λ (o : Option ℕ). option_map_or (lists done) o false) (ap (course_of p) (sym same) ∙ is) ∙ new in
+        let no : true ≡ false = sym h.0 ∙ ap (λ (o : Option ℕ). option_map_or (λ course. is_listed course done) o false) (ap (course_of p) (sym same) ∙ is) ∙ new in
         cc no

@@ -2,13 +2,13 @@
 use Rattle.std.proofs.Common.{◌≡◌, ℕ, suc, zero, ◌+◌, ◌-◌, ◌<◌, ◌≤◌, ◌⊎◌, inl, inr, Bool, true, false, List, [], ◌∷◌, ◌++◌, Option, Some, None, length, get_or, drop, map, arith, refl, sym, ap, ◌∙◌, append_assoc}
 use Rattle.std.specs.List.{list_all, range_with_len, AllByRecursion}
 use Rattle.std.specs.Option.{option_map_or}
-use Rattle.std.specs.Prelude.{◌&&◌, ◌||◌, ◌==◌, not, nat_lt}
+use Rattle.std.specs.Prelude.{◌&&◌, ◌||◌, not, nat_eq, nat_lt}
 use Rattle.std.proofs.lemmas.Bool.Decides.{nat_tests}
 use Rattle.std.proofs.lemmas.List.{drop_all}
 use Rattle.std.proofs.lemmas.List.Folds.{list_all-append, list_any-append}
 use Rattle.std.proofs.lemmas.List.Sums.{fold-append}
+use Rattle.tt_base.specs.Lists.{is_listed}
 use Rattle.tt_problem.specs.declared.parts.Span.{Span}
-use Rattle.tt_struct.specs.Enrolments.{lists}
 use Rattle.tt_enrol.specs.Choices.{choices_of, each_before}
 use Rattle.tt_enrol.specs.Least.{Situation, has_parent, is_allowed, pairs_with_taken, pairs_added}
 use Rattle.tt_enrol.specs.Passed.{is_fewer, better, passed}
@@ -42,11 +42,11 @@ no-and true b h = absurd (cc h)
 no-and false b h = refl
 
 -- a class before n is none of those after it
-not_after : (n p : ℕ) (choice : List ℕ) → p < n → AreAfter n choice → lists choice p ≡ false
+not_after : (n p : ℕ) (choice : List ℕ) → p < n → AreAfter n choice → is_listed p choice ≡ false
 not_after n p [] lt h = refl
-not_after n p (c ∷ choice) lt h = other p n c (lists choice p) lt h.0 (not_after n p choice lt h.1)
+not_after n p (c ∷ choice) lt h = other p n c (is_listed p choice) lt h.0 (not_after n p choice lt h.1)
   where
-    other : (p n c : ℕ) (b : Bool) → p < n → n < c → b ≡ false → ((c == p) || b) ≡ false
+    other : (p n c : ℕ) (b : Bool) → p < n → n < c → b ≡ false → (nat_eq p c || b) ≡ false
     other p n c b lt less e = grind (arith, nat_tests)
 
 record AllThree (before in_front is_taken : Bool) : Type 0 where
@@ -61,20 +61,20 @@ all_three true true c h = cc h
 all_three false b c h = cc h
 
 no_parent : (taken front choice : List ℕ) (n : ℕ) (parent : Option ℕ) → AreAfter n choice
-    → option_map_or (λ p. nat_lt p n && (not (lists front p) && not (lists taken p))) parent false ≡ true
-    → option_map_or (λ p. lists (front ++ n ∷ choice) p || lists taken p) parent true ≡ false
+    → option_map_or (λ p. nat_lt p n && (not (is_listed p front) && not (is_listed p taken))) parent false ≡ true
+    → option_map_or (λ p. is_listed p (front ++ n ∷ choice) || is_listed p taken) parent true ≡ false
 no_parent taken front choice n None after h = cc h
 no_parent taken front choice n (Some p) after h =
-    let three = all_three (nat_lt p n) (lists front p) (lists taken p) h in
+    let three = all_three (nat_lt p n) (is_listed p front) (is_listed p taken) h in
     let lt : p < n = less p n three.is_before in
-    let none : lists (front ++ n ∷ choice) p ≡ false =
-    list_any-append (λ (other : ℕ). other == p) front (n ∷ choice) ∙ apart p n (lists front p) (lists choice p) lt three.not_front (not_after n p choice lt after) in
+    let none : is_listed p (front ++ n ∷ choice) ≡ false =
+    list_any-append (nat_eq p) front (n ∷ choice) ∙ apart p n (is_listed p front) (is_listed p choice) lt three.not_front (not_after n p choice lt after) in
     rw (none, three.not_taken) refl
   where
     less : (p n : ℕ) → nat_lt p n ≡ true → p < n
     less p n e = grind (arith, nat_tests)
 
-    apart : (p n : ℕ) (a b : Bool) → p < n → a ≡ false → b ≡ false → (a || ((n == p) || b)) ≡ false
+    apart : (p n : ℕ) (a b : Bool) → p < n → a ≡ false → b ≡ false → (a || (nat_eq p n || b)) ≡ false
     apart p n a b lt e f = grind (arith, nat_tests)
 
 may_not : (a b : Bool) → (a && not b) ≡ false → (a ≡ false) ⊎ (b ≡ true)

@@ -2,8 +2,8 @@
 use Rattle.std.specs.Prelude.{◌≡◌, ℕ, ◌≤◌, Bool, true, false, List, [], ◌∷◌, Option, Some, None, length, take, if◌then◌else◌}
 use Rattle.std.specs.Prelude.{nat_lt, ◌&&◌, not, ◌++◌, ◌+◌}
 use Rattle.std.specs.Option.{option_map_or}
+use Rattle.tt_base.specs.Lists.{is_listed}
 use Rattle.tt_enrol.specs.declared.course.Found.{Found}
-use Rattle.tt_struct.specs.Enrolments.{lists}
 use Rattle.tt_enrol.specs.Least.{Situation, pairs_added}
 
 -- the choice at the front of the buffer, if one is found
@@ -29,7 +29,7 @@ has_fewer (Some found) pairs = nat_lt pairs found.pairs
 -- the parent of a class stands before it, and is neither in the front nor already taken: as the classes of a choice ascend, no
 -- choice that begins with the front and the class has it
 abbrev pub is_orphan : Situation → List ℕ → ℕ → Bool
-is_orphan s front class = option_map_or (λ p. nat_lt p class && (not (lists front p) && not (lists s.taken p))) (s.parent_of class) false
+is_orphan s front class = option_map_or (λ p. nat_lt p class && (not (is_listed p front) && not (is_listed p s.taken))) (s.parent_of class) false
 
 -- the class may stand next after the front
 abbrev pub may_follow : Situation → List ℕ → ℕ → Bool

@@ -3,8 +3,7 @@ use Rattle.std.specs.Prelude.{ℕ, ◌+◌, Bool, true, ◌||◌, ◌&&◌, List
 use Rattle.std.specs.List.{list_all}
 use Rattle.std.specs.Option.{option_map_or}
 use Rattle.tt_base.specs.Among.{pairs_among}
-use Rattle.tt_base.specs.Lists.{comes_before, least}
-use Rattle.tt_struct.specs.Enrolments.{lists}
+use Rattle.tt_base.specs.Lists.{comes_before, is_listed, least}
 
 -- What a choice is judged by: which classes have a seat for the student, the parent of a class, which pairs of classes
 -- conflict, and the classes that he has already taken.
@@ -16,7 +15,7 @@ pub record Situation : Type 0 where
 
 -- the class has no parent, or its parent is in the choice or already taken
 abbrev pub has_parent : Situation → List ℕ → ℕ → Bool
-has_parent s choice c = option_map_or (λ p. lists choice p || lists s.taken p) (s.parent_of c) true
+has_parent s choice c = option_map_or (λ p. is_listed p choice || is_listed p s.taken) (s.parent_of c) true
 
 -- each class of the choice has a seat, and its parent, where it has one, is in the choice or already taken
 abbrev pub is_allowed : Situation → List ℕ → Bool

@@ -1,5 +1,5 @@
 ghost use Rattle.std.specs.Prelude.{◌≡◌, ◌+◌, ◌<◌, ◌≤◌, [], None, Some, IfOk, IsSome, OnOk, OnErr, cond, false, length};
-ghost use Rattle.tt_state.specs.History.{IsWithinStep, desk_of, earlier, stepped, moved_to, with_taken};
+ghost use Rattle.tt_state.specs.History.{IsWithinStep, desk_of, earlier, stepped};
 ghost use Rattle.tt_state.specs.Snapshots.{in_order, list_in, with_list};
 ghost use Rattle.tt_enrol.specs.Enrolled.{enrolled, lacks_classes, all_enrolled, with_student};
 ghost use Rattle.tt_enrol.specs.Ready.{HasRoom, IsKnown};
@@ -7,7 +7,7 @@ ghost use Rattle.tt_enrol.specs.Steps.{IsFoundFor, with_counts};
 
 use crate::enrolling::{Buffers, Known, find};
 use std::alloc::{AllocError, Global};
-use tt_state::{Refusal, State};
+use tt_state::State;
 
 /// How many students got an enrolment, and how many were left as they were.
 #[derive(Clone, Copy, Debug, PartialEq, Eq)]
@@ -43,10 +43,7 @@ fn seat(state: &mut State, student: u32, classes: &[u32]) -> Result<(), AllocErr
 {
     match state.section_step(student, classes) {
         Ok(()) => Ok(()),
-        Err(refusal) => match refusal {
-            Refusal::Memory => Err(AllocError),
-            _ => unreachable!(),
-        },
+        Err(refusal) => Err(refusal.want_of_memory()),
     }
 }
 
@@ -171,7 +168,8 @@ pub fn enrol_all(alloc: Global, state: &mut State) -> Result<Enrolled, AllocErro
     ensures desk { OnOk result (desk_of state.new ≡ stepped (desk_of state.old) (all_enrolled state.old.problem state.old.present).snapshot) }
     ensures enrolled { IfOk result (λ n. n.enrolled ≡ (all_enrolled state.old.problem state.old.present).enrolled) }
     ensures left { IfOk result (λ n. n.left ≡ (all_enrolled state.old.problem state.old.present).left) }
-    ensures err { OnErr result (with_taken state.new [] ≡ with_taken state.old []) }
+    ensures taken { OnOk result (state.new.taken ≡ state.old.taken) }
+    ensures err { OnErr result (state.new ≡ state.old) }
 {
     let mut known = Known::new(alloc, state.problem(), state.score(), None)?;
     let mut buffers = Buffers::new(alloc, state.problem())?;

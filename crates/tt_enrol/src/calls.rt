@@ -41,6 +41,7 @@ pub fn enrol(alloc: Global, state: &mut State, student: u32) -> Result<(), Refus
     ensures desk { OnOk result (desk_of state.new ≡ stepped (desk_of state.old) state.new.present) }
     ensures enrolled { OnOk result (enrolled state.old.problem state.old.present student ≡ Some state.new.present) }
     ensures trail { OnOk result (trail state.new ≡ state.new.present ∷ []) }
+    ensures taken { OnOk result (state.new.taken ≡ state.old.taken) }
     ensures err { OnErr result (state.new ≡ state.old) }
 
     ensures bad_section { result ≡ Err Refusal.BadSection → enrolled state.old.problem state.old.present student ≡ None }

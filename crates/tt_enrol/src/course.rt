@@ -29,6 +29,7 @@ fn is_fewer(found: Option<Found>, pairs: u64) -> bool
 }
 
 /// Whether the parent of a class stands before it, and is neither in the front nor already taken.
+#[tactic(auto, using(tt_base::proofs::ListLemmas::listed_turned))]
 fn is_orphan(standing: &Standing, taken: &[u32], front: &[u32], class: u32) -> bool
     ensures { result ≡ is_orphan (situation_in standing.now taken.now) front.now class }
 {

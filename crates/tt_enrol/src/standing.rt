@@ -103,6 +103,7 @@ impl<'a> Standing<'a> {
     }
 
     /// Whether the parent of a class, where it has one, is in a choice or already taken.
+    #[tactic(auto, using(tt_base::proofs::ListLemmas::listed_turned))]
     fn has_parent(&self, taken: &[u32], choice: &[u32], class: u32) -> bool
         ensures { result ≡ has_parent (situation_in self.now taken.now) choice.now class }
     {

@@ -1,11 +1,11 @@
 -- Clashes while classes come and go.
 use Rattle.std.proofs.Common.{◌≡◌, ◌∙◌, ℕ, ◌+◌, ◌-◌, ◌*◌, ◌<◌, ◌≤◌, ◌^◌, Bool, cond, List, [], ◌∷◌, Option, Some, None, length, count_by, refl, sym, ap, zero, suc, arith}
-use Rattle.std.specs.Prelude.{slice_set, replicate, ◌==◌}
-use Rattle.std.proofs.lemmas.Bool.Decides.{nat_tests}
+use Rattle.std.specs.Prelude.{slice_set, replicate}
 use Rattle.std.specs.Option.{option_map_or}
 use Rattle.std.proofs.lemmas.List.Sums.{sum_by-cons, sum_by-set, count_by-le-length}
 use Rattle.std.proofs.lemmas.List.{length-replicate, length-set}
 use Rattle.tt_base.proofs.AmongLemmas.{twice-pairs}
+use Rattle.tt_base.proofs.ListLemmas.{equal_turned}
 use Rattle.tt_bits.specs.declared.times.Spot.{Spot}
 use Rattle.tt_bits.specs.Pairs.{is_one_room}
 use Rattle.tt_bits.specs.Spots.{spot_at, IsEmptyAt, placed}
@@ -14,11 +14,8 @@ use Rattle.tt_bits.proofs.SpotLemmas.{set_back, set_empty, emptied, full_within,
 use Rattle.tt_occupancy.specs.Kept.{AreCounted}
 use Rattle.tt_occupancy.specs.Clashes.{clash, clash_pairs, clash_count, room_cells, cells_taken}
 
-eq-turned : (a b : ℕ) → (a == b) ≡ (b == a)
-eq-turned a b = grind (arith, nat_tests)
-
 is_one_room-sym : (a b : Option ℕ) → is_one_room a b ≡ is_one_room b a
-is_one_room-sym (Some a) (Some b) = eq-turned a b
+is_one_room-sym (Some a) (Some b) = equal_turned a b
 is_one_room-sym (Some a) None = refl
 is_one_room-sym None (Some b) = refl
 is_one_room-sym None None = refl

@@ -132,10 +132,13 @@ impl Measure for PairGroup {
     }
 }
 
-/// Where another member stands in the list of a rule's members.
-#[derive(Clone, Copy, Debug)]
-enum Listed {
+/// Where another member stands in the list of a rule's members. By ITC 2019, the first spot of a
+/// pair is that of the member listed earlier.
+#[derive(Clone, Copy, Debug, PartialEq, Eq)]
+pub enum Listed {
+    /// Its spot is the first of the pair.
     Before,
+    /// Its spot is the second of the pair.
     After,
 }
 
@@ -162,8 +165,9 @@ fn violated_by(
     violated
 }
 
-/// Whether another member, listed before or after, is placed and breaks the rule with the spot.
-fn is_violated_by(
+/// Whether another member, listed before or after, is placed and breaks the rule with the spot: its
+/// spot comes first in the pair where it is listed before.
+pub fn is_violated_by(
     kind: PairKind,
     travel: &Travel,
     spot: &Spot,

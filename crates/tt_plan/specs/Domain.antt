@@ -1,6 +1,6 @@
 -- The values of a class, and what they stand for.
-use Rattle.std.specs.Prelude.{ℕ, ◌+◌, ◌<◌, ◌≤◌, List, [], ◌∷◌, Option, IfSome, length, slice_get, map, max, option_and_then}
-use Rattle.std.specs.List.{flat_map, range_with_len}
+use Rattle.std.specs.Prelude.{ℕ, ◌<◌, ◌≤◌, List, [], Option, IfSome, length, slice_get, map, max, option_and_then}
+use Rattle.std.specs.List.{enumerate_from, flat_map, range_with_len}
 use Rattle.std.specs.Option.{option_map, option_map_or}
 use Rattle.tt_bits.specs.declared.times.Spot.{Spot}
 use Rattle.tt_bits.specs.declared.times.Value.{Value}
@@ -63,8 +63,7 @@ pub record IsSpotOf (p : Parts) (class : ℕ) (x : Spot) : Type 0 where
 
 -- the spots of a plan of which the first class is at this place
 abbrev pub spots_from : Parts → ℕ → List (Option Value) → List (Option Spot)
-spots_from p class [] = []
-spots_from p class (v ∷ plan) = option_and_then (spot_at_value p class) v ∷ spots_from p (class + 1) plan
+spots_from p first plan = map (λ v. option_and_then (spot_at_value p v.0) v.1) (enumerate_from first plan)
 
 -- the spot of each class or none
 abbrev pub spots_of : Parts → List (Option Value) → List (Option Spot)

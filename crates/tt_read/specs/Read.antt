@@ -8,18 +8,23 @@ use Rattle.tt_problem.specs.Valid.{IsValid, IsValidTerm, AreValidWeights, IsVali
 use Rattle.tt_fields.specs.List.{items_of}
 use Rattle.tt_tree.specs.Whole.{HasClasses}
 use Rattle.tt_read.specs.declared.passes as passes
-use Rattle.tt_read.specs.Tables.{Shape}
+use Rattle.tt_read.specs.Tables.{RoomList, CourseList, Shape}
+
+-- the list of rooms, and the ids in it
+abbrev pub room_list_read : passes.RoomList.RoomList → RoomList
+room_list_read l = record { items = items_of l.items; ids = l.ids.keys }
+
+-- the list of courses, and the ids of courses and of classes in it
+abbrev pub course_list_read : passes.CourseList.CourseList → CourseList
+course_list_read l = record { items = items_of l.items; ids = l.ids.keys; class_ids = l.class_ids.keys }
 
 -- what the first pass of the code has found
 abbrev pub shape_read : passes.Shape.Shape → Shape
 shape_read s = record {
-  term = s.head.term;
-  weights = s.head.weights;
-  rooms = items_of s.rooms.items;
-  room_ids = s.rooms.ids.keys;
-  courses = items_of s.courses.items;
-  course_ids = s.courses.ids.keys;
-  class_ids = s.courses.class_ids.keys;
+  term = s.term;
+  weights = s.weights;
+  rooms = room_list_read s.rooms;
+  courses = course_list_read s.courses;
   distributions = items_of s.distributions;
   students = items_of s.students;
 }
@@ -27,8 +32,8 @@ shape_read s = record {
 -- the term and the weights are valid, the lists are within their limits, and each item has an id; the
 -- courses have as many classes as there are ids of classes, whatever ids are known
 pub record IsShape (s : passes.Shape.Shape) : Type 0 where
-  pub term : IsValidTerm s.head.term.nr_days s.head.term.nr_weeks
-  pub weights : AreValidWeights s.head.weights
+  pub term : IsValidTerm s.term.nr_days s.term.nr_weeks
+  pub weights : AreValidWeights s.weights
   pub few_rooms : length s.rooms.items.values.now ≤ most_rooms
   pub rooms : length s.rooms.ids.keys ≡ length s.rooms.items.values.now
   pub few_courses : length s.courses.items.values.now ≤ 20000

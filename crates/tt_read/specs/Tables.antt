@@ -41,15 +41,44 @@ weights_of o = do
 abbrev pub unknown : Term → Context
 unknown term = record { nr_days = term.nr_days; nr_weeks = term.nr_weeks; rooms = None; classes = None }
 
--- what the first pass finds: the lists of the whole value, and the ids in them
+-- a list of rooms, and the ids in it
+pub record RoomList : Type 0 where
+  pub items : List Part
+  pub ids : List ℕ
+
+-- the rooms, with nothing looked up
+unfoldable pub room_list_of : Term → Part → Result RoomList Fault
+room_list_of term o = do
+  items ← or_else [] (a_list 0 most_rooms) (codes "rooms") o
+  rooms ← rooms_in (unknown term) items
+  Ok (record { items = items; ids = room_ids rooms.rooms })
+
+-- a list of courses, and the ids of courses and of classes in it
+pub record CourseList : Type 0 where
+  pub items : List Part
+  pub ids : List ℕ
+  pub class_ids : List ℕ
+
+-- the courses, with nothing looked up
+unfoldable pub course_list_of : Term → Part → Result CourseList Fault
+course_list_of term o = do
+  items ← required (a_list 0 20000) (codes "courses") o
+  tree ← courses_in (unknown term) items
+  Ok (record { items = items; ids = course_ids tree.courses; class_ids = class_ids tree.configs.subparts.classes })
+
+-- a list that may be absent, of at most this many items, in which `read` finds no fault
+unfoldable pub checked_list : {A : Type 0} → ℕ → (List Part → Result A Fault) → List ℕ → Part → Result (List Part) Fault
+checked_list most read key o = do
+  items ← or_else [] (a_list 0 most) key o
+  found ← read items
+  Ok items
+
+-- what the first pass finds
 pub record Shape : Type 0 where
   pub term : Term
   pub weights : Weights
-  pub rooms : List Part
-  pub room_ids : List ℕ
-  pub courses : List Part
-  pub course_ids : List ℕ
-  pub class_ids : List ℕ
+  pub rooms : RoomList
+  pub courses : CourseList
   pub distributions : List Part
   pub students : List Part
 
@@ -60,31 +89,17 @@ shape_of p = do
   term ← term_of o
   optimization ← required an_object (codes "optimization") o
   weights ← weights_of optimization
-  room_items ← or_else [] (a_list 0 most_rooms) (codes "rooms") o
-  rooms ← rooms_in (unknown term) room_items
-  course_items ← required (a_list 0 20000) (codes "courses") o
-  tree ← courses_in (unknown term) course_items
-  rule_items ← or_else [] (a_list 0 20000) (codes "distributions") o
-  rules ← rules_of None rule_items
-  student_items ← or_else [] (a_list 0 100000) (codes "students") o
-  students ← students_of None student_items
-  Ok (record {
-    term = term;
-    weights = weights;
-    rooms = room_items;
-    room_ids = room_ids rooms.rooms;
-    courses = course_items;
-    course_ids = course_ids tree.courses;
-    class_ids = class_ids tree.configs.subparts.classes;
-    distributions = rule_items;
-    students = student_items;
-  })
+  rooms ← room_list_of term o
+  courses ← course_list_of term o
+  distributions ← checked_list 20000 (rules_of None) (codes "distributions") o
+  students ← checked_list 100000 (students_of None) (codes "students") o
+  Ok (record { term = term; weights = weights; rooms = rooms; courses = courses; distributions = distributions; students = students })
 
 -- ---- the second pass
 
 -- the ids among which rooms and classes are looked up
 abbrev pub known : Shape → Context
-known s = record { nr_days = s.term.nr_days; nr_weeks = s.term.nr_weeks; rooms = Some s.room_ids; classes = Some s.class_ids }
+known s = record { nr_days = s.term.nr_days; nr_weeks = s.term.nr_weeks; rooms = Some s.rooms.ids; classes = Some s.courses.class_ids }
 
 -- the parts of a problem
 abbrev pub parts_with : Shape → Rooms → Tree → List Rule → List StudentPart → Parts
@@ -105,10 +120,10 @@ parts_with s rooms tree rules students = record {
 -- the same lists again, each reference looked up
 unfoldable pub linked_of : Shape → Result Parts Fault
 linked_of s = do
-  rooms ← rooms_in (known s) s.rooms
-  tree ← courses_in (known s) s.courses
-  rules ← rules_of (Some s.class_ids) s.distributions
-  students ← students_of (Some s.course_ids) s.students
+  rooms ← rooms_in (known s) s.rooms.items
+  tree ← courses_in (known s) s.courses.items
+  rules ← rules_of (Some s.courses.class_ids) s.distributions
+  students ← students_of (Some s.courses.ids) s.students
   Ok (parts_with s rooms tree rules students)
 
 -- ---- the third pass

@@ -1,4 +1,4 @@
-ghost use Rattle.std.specs.Prelude.{◌≡◌, ◌≤◌, length, Some, IfOk};
+ghost use Rattle.std.specs.Prelude.{◌≡◌, ◌≤◌, length, None, Some, IfOk, codes};
 ghost use Rattle.tt_travel.specs.Table.{most_rooms};
 ghost use Rattle.tt_problem.specs.Valid.{AreValidWeights, IsValidTerm};
 ghost use Rattle.tt_fields.specs.Answer.{Reads, Gives, part_of};
@@ -6,9 +6,9 @@ ghost use Rattle.tt_fields.specs.List.{items_of, known_of, IsFew};
 ghost use Rattle.tt_tree.specs.Context.{context_of, IsContext};
 ghost use Rattle.tt_tree.specs.Read.{rooms_read, tree_read};
 ghost use Rattle.tt_tree.specs.Whole.{HasClasses};
-ghost use Rattle.tt_read.specs.Lists.{head_of, head_read, room_list_of, room_list_read, course_list_of, course_list_read, rule_list_of, student_list_of, shape_by_lists};
-ghost use Rattle.tt_read.specs.Read.{shape_read, IsShape, IsLinked};
-ghost use Rattle.tt_read.specs.Tables.{term_of, weights_of, unknown as unknown_of, known as known_of_shape, shape_of, parts_with as parts_of_all, linked_of};
+ghost use Rattle.tt_lists.specs.Tables.{rules_of, students_of};
+ghost use Rattle.tt_read.specs.Read.{room_list_read, course_list_read, shape_read, IsShape, IsLinked};
+ghost use Rattle.tt_read.specs.Tables.{term_of, weights_of, unknown as unknown_of, room_list_of, course_list_of, checked_list, shape_of, known as known_of_shape, parts_with as parts_of_all, linked_of};
 
 use crate::term::Term;
 use indexmap::IndexSet;
@@ -66,26 +66,6 @@ fn unknown(term: Term) -> Context<'static>
     }
 }
 
-/// What stands before the lists of the whole value.
-#[derive(Clone, Copy)]
-pub struct Head {
-    pub term: Term,
-    pub weights: Weights,
-}
-
-/// The head of the whole value.
-#[tactic(auto, unfolding(crate::specs::Lists::head_of))]
-fn read_head(object: &Part<'_>) -> Result<Head, FileFault>
-    ensures reads { Gives head_read result (head_of (part_of object.now)) }
-    ensures term { IfOk result (λ head. IsValidTerm head.term.nr_days head.term.nr_weeks) }
-    ensures weights { IfOk result (λ head. AreValidWeights head.weights) }
-{
-    let term = read_term(object)?;
-    let optimization = required_object(object, "optimization")?;
-    let weights = read_weights(&optimization)?;
-    Ok(Head { term, weights })
-}
-
 /// The list of rooms, and the ids in it.
 #[derive(Drop)]
 pub struct RoomList<'a> {
@@ -94,7 +74,7 @@ pub struct RoomList<'a> {
 }
 
 /// The rooms, with no reference looked up.
-#[tactic(auto, using(crate::proofs::Linked::ids_count), unfolding(crate::specs::Lists::room_list_of))]
+#[tactic(auto, using(crate::proofs::Linked::ids_count), unfolding(crate::specs::Tables::room_list_of))]
 fn read_room_list<'a>(
     alloc: Global,
     term: Term,
@@ -120,7 +100,7 @@ pub struct CourseList<'a> {
 }
 
 /// The courses, with no reference looked up.
-#[tactic(auto, using(crate::proofs::Linked::ids_count), unfolding(crate::specs::Lists::course_list_of))]
+#[tactic(auto, using(crate::proofs::Linked::ids_count), unfolding(crate::specs::Tables::course_list_of))]
 fn read_course_list<'a>(
     alloc: Global,
     term: Term,
@@ -147,9 +127,9 @@ fn read_course_list<'a>(
 }
 
 /// The list of distributions, read with no reference looked up.
-#[tactic(auto, unfolding(crate::specs::Lists::rule_list_of))]
+#[tactic(auto, unfolding(crate::specs::Tables::checked_list))]
 fn read_rule_list<'a>(alloc: Global, object: &'a Part<'a>) -> Result<Items<'a>, FileFault>
-    ensures reads { Gives items_of result (rule_list_of (part_of object.now)) }
+    ensures reads { Gives items_of result (checked_list 20000 (rules_of None) (codes "distributions") (part_of object.now)) }
     ensures few { IfOk result (λ items. length items.values.now ≤ 20000) }
 {
     let items = list_or_none(object, "distributions", 20_000)?;
@@ -158,9 +138,9 @@ fn read_rule_list<'a>(alloc: Global, object: &'a Part<'a>) -> Result<Items<'a>, 
 }
 
 /// The list of students, read with no reference looked up.
-#[tactic(auto, unfolding(crate::specs::Lists::student_list_of))]
+#[tactic(auto, unfolding(crate::specs::Tables::checked_list))]
 fn read_student_list<'a>(alloc: Global, object: &'a Part<'a>) -> Result<Items<'a>, FileFault>
-    ensures reads { Gives items_of result (student_list_of (part_of object.now)) }
+    ensures reads { Gives items_of result (checked_list 100000 (students_of None) (codes "students") (part_of object.now)) }
     ensures few { IfOk result (λ items. length items.values.now ≤ 100000) }
 {
     let items = list_or_none(object, "students", 100_000)?;
@@ -168,44 +148,39 @@ fn read_student_list<'a>(alloc: Global, object: &'a Part<'a>) -> Result<Items<'a
     Ok(items)
 }
 
-/// What the first pass finds: the lists of the whole value, and the ids in them.
+/// What the first pass finds.
 #[derive(Drop)]
 pub struct Shape<'a> {
-    pub head: Head,
+    pub term: Term,
+    pub weights: Weights,
     pub rooms: RoomList<'a>,
     pub courses: CourseList<'a>,
     pub distributions: Items<'a>,
     pub students: Items<'a>,
 }
 
-/// The shape of an object.
-#[tactic(auto, unfolding(crate::specs::Lists::shape_by_lists))]
-fn read_shape<'a>(alloc: Global, object: &'a Part<'a>) -> Result<Shape<'a>, FileFault>
-    ensures reads { Gives shape_read result (shape_by_lists (part_of object.now)) }
-    ensures valid { IfOk result IsShape }
-{
-    let head = read_head(object)?;
-    let rooms = read_room_list(alloc, head.term, object)?;
-    let courses = read_course_list(alloc, head.term, object)?;
-    let distributions = read_rule_list(alloc, object)?;
-    let students = read_student_list(alloc, object)?;
-    Ok(Shape {
-        head,
-        rooms,
-        courses,
-        distributions,
-        students,
-    })
-}
-
-/// The first pass: the shape of all.
-#[tactic(auto, using(crate::proofs::ShapeLemmas::shape_is_by_lists))]
+/// The first pass: the whole value, with no reference looked up.
+#[tactic(auto, unfolding(crate::specs::Tables::shape_of))]
 pub fn first_pass<'a>(alloc: Global, object: &'a Part<'a>) -> Result<Shape<'a>, FileFault>
     ensures reads { Gives shape_read result (shape_of (part_of object.now)) }
     ensures valid { IfOk result IsShape }
 {
     as_object(object)?;
-    read_shape(alloc, object)
+    let term = read_term(object)?;
+    let optimization = required_object(object, "optimization")?;
+    let weights = read_weights(&optimization)?;
+    let rooms = read_room_list(alloc, term, object)?;
+    let courses = read_course_list(alloc, term, object)?;
+    let distributions = read_rule_list(alloc, object)?;
+    let students = read_student_list(alloc, object)?;
+    Ok(Shape {
+        term,
+        weights,
+        rooms,
+        courses,
+        distributions,
+        students,
+    })
 }
 
 /// What the second pass reads with: the ids of the first.
@@ -215,8 +190,8 @@ fn known<'a>(shape: &'a Shape<'_>) -> Context<'a>
     ensures valid { IsContext result }
 {
     Context {
-        nr_days: shape.head.term.nr_days,
-        nr_weeks: shape.head.term.nr_weeks,
+        nr_days: shape.term.nr_days,
+        nr_weeks: shape.term.nr_weeks,
         rooms: Known::among(&shape.rooms.ids),
         classes: Known::among(&shape.courses.class_ids),
     }
@@ -247,9 +222,9 @@ fn parts_with(
     } = subparts;
     let Classes { classes, .. } = classes;
     Parts {
-        nr_days: shape.head.term.nr_days,
-        nr_weeks: shape.head.term.nr_weeks,
-        weights: shape.head.weights,
+        nr_days: shape.term.nr_days,
+        nr_weeks: shape.term.nr_weeks,
+        weights: shape.weights,
         courses: Row::from_vec(courses),
         configs: Row::from_vec(configs),
         subparts: Row::from_vec(subparts),

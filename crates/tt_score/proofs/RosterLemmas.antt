@@ -1,6 +1,6 @@
 -- The roster of a score, and the students who have a course and no class.
 use Rattle.std.proofs.Common.{◌≡◌, ◌∙◌, ℕ, ◌+◌, ◌-◌, ◌*◌, ◌<◌, ◌≤◌, ◌^◌, Bool, true, false, cond, List, [], ◌∷◌, Option, Some, length, get_or, take, replicate, count_by, zero, suc, refl, ap, arith}
-use Rattle.std.specs.Prelude.{slice_set, slice_get, not, ◌==◌, ◌&&◌}
+use Rattle.std.specs.Prelude.{slice_set, slice_get, not, ◌==◌, ◌&&◌, zip}
 use Rattle.std.specs.Option.{option_map_or}
 use Rattle.std.proofs.lemmas.List.Sums.{sum_by-cons, sum_by_more}
 use Rattle.std.proofs.lemmas.Option.{get_or_from_slice_get, slice_get_within, slice_get-get_or}
@@ -25,6 +25,10 @@ use Rattle.tt_score.specs.Unsectioned.{is_unsectioned, unsectioned_count}
 abbrev pub one_if : StudentPart → List ℕ → ℕ
 one_if s list = cond (is_unsectioned s list) 1 0
 
+-- a student more
+unsectioned-next : (s : StudentPart) (students : List StudentPart) (list : List ℕ) (seats : List (List ℕ)) → unsectioned_count (s ∷ students) (list ∷ seats) ≡ one_if s list + unsectioned_count students seats
+unsectioned-next s students list seats = sum_by-cons (λ c. one_if c.0 c.1) (s, list) (zip students seats)
+
 -- the count, where the list of a student becomes another
 pub unsectioned-set : (students : List StudentPart) (seats : List (List ℕ)) (i : ℕ) (s : StudentPart) (list : List ℕ) → slice_get students i ≡ Some s → length seats ≡ length students
     → unsectioned_count students (slice_set seats i list) + one_if s (list_of seats i) ≡ unsectioned_count students seats + one_if s list
@@ -34,8 +38,9 @@ unsectioned-set (x ∷ students) (l ∷ seats) zero s list is same =
     let e : x ≡ s = cc is in
     let old = ap (λ y. one_if y l) e in
     let new = ap (λ y. one_if y list) e in
-    omega (arith, old, new)
-unsectioned-set (x ∷ students) (l ∷ seats) (suc i) s list is same = omega (arith, unsectioned-set students seats i s list is (omega arith))
+    omega (arith, old, new, unsectioned-next x students l seats, unsectioned-next x students list seats)
+unsectioned-set (x ∷ students) (l ∷ seats) (suc i) s list is same =
+    omega (arith, unsectioned-set students seats i s list is (omega arith), unsectioned-next x students l seats, unsectioned-next x students l (slice_set seats i list))
 
 pub unsectioned-part : (students : List StudentPart) (seats : List (List ℕ)) (i : ℕ) (s : StudentPart) → slice_get students i ≡ Some s → length seats ≡ length students → one_if s (list_of seats i) ≤ unsectioned_count students seats
 unsectioned-part [] seats i s is same = absurd (cc is)
@@ -43,8 +48,8 @@ unsectioned-part (x ∷ students) [] i s is same = absurd (omega arith)
 unsectioned-part (x ∷ students) (l ∷ seats) zero s is same =
     let e : x ≡ s = cc is in
     let old = ap (λ y. one_if y l) e in
-    omega (arith, old)
-unsectioned-part (x ∷ students) (l ∷ seats) (suc i) s is same = omega (arith, unsectioned-part students seats i s is (omega arith))
+    omega (arith, old, unsectioned-next x students l seats)
+unsectioned-part (x ∷ students) (l ∷ seats) (suc i) s is same = omega (arith, unsectioned-part students seats i s is (omega arith), unsectioned-next x students l seats)
 
 one_le : (b : Bool) → cond b 1 0 ≤ 1
 one_le true = omega arith
@@ -53,7 +58,7 @@ one_le false = omega arith
 pub few_unsectioned : (students : List StudentPart) (seats : List (List ℕ)) → unsectioned_count students seats ≤ length students
 few_unsectioned [] seats = omega arith
 few_unsectioned (s ∷ students) [] = omega arith
-few_unsectioned (s ∷ students) (list ∷ seats) = omega (arith, few_unsectioned students seats, one_le (is_unsectioned s list))
+few_unsectioned (s ∷ students) (list ∷ seats) = omega (arith, few_unsectioned students seats, one_le (is_unsectioned s list), unsectioned-next s students list seats)
 
 abbrev pub has_course : StudentPart → Bool
 has_course s = not (length s.courses == 0)
@@ -67,7 +72,7 @@ pub unsectioned-empty : (students : List StudentPart) → unsectioned_count stud
 unsectioned-empty [] = refl
 unsectioned-empty (s ∷ students) =
     let first = ap {B = ℕ} (λ (b : Bool). cond b 1 0) (and_yes (has_course s)) in
-    omega (arith, first, unsectioned-empty students, sum_by-cons (λ x. cond (has_course x) 1 0) s students)
+    omega (arith, first, unsectioned-empty students, unsectioned-next s students [] (replicate (length students) []), sum_by-cons (λ x. cond (has_course x) 1 0) s students)
 
 -- one student more in a walk
 pub courses_more : (students : List StudentPart) (i : ℕ) (s : StudentPart) → slice_get students i ≡ Some s → count_by has_course (take (i + 1) students) ≡ count_by has_course (take i students) + cond (has_course s) 1 0

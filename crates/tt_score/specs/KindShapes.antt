@@ -1,10 +1,10 @@
 -- The kind of a rule as numbers. Proofs alone need it.
-use Rattle.std.proofs.Common.{◌≡◌, ℕ, ◌-◌, List, length, refl}
-use Rattle.std.specs.Prelude.{◌==◌, slice_index, if◌then◌else◌}
-use Rattle.tt_bits.specs.declared.pairs.PairKind.{PairKind}
-use Rattle.tt_bits.specs.declared.pairs.PairKind.TheVariants.{SameStart, SameTime, DifferentTime, SameDays, DifferentDays, SameWeeks, DifferentWeeks, Overlap, NotOverlap, SameRoom, DifferentRoom, SameAttendees, Precedence, WorkDay, MinGap}
+use Rattle.std.proofs.Common.{◌≡◌, ℕ, ◌-◌, List, length, refl, ap}
+use Rattle.std.specs.Prelude.{◌==◌, nat_lt, slice_index, if◌then◌else◌}
+use Rattle.std.proofs.lemmas.Bool.{lt-ltb}
 use Rattle.tt_measure.specs.Limits.{most_weeks}
-use Rattle.tt_pair.specs.PairShapes.{pair_shape, kind_of}
+use Rattle.tt_pair.specs.PairShapes.{kind_number, pair_shape, kind_of}
+use Rattle.tt_pair.proofs.ShapeLemmas.{kind_number-few, kind_of-pair_shape}
 use Rattle.tt_load.specs.Shapes.{days_shape, load_shape}
 use Rattle.tt_blocks.specs.declared.rules.CellRule.TheVariants.{Breaks, Block}
 use Rattle.tt_blocks.specs.CellShapes.{cell_shape}
@@ -22,38 +22,20 @@ kind_shape (MaxBlock most gap) weeks members = cell_shape (Block most gap) membe
 -- the kind that a shape names
 unfoldable pub shape_kind : List ℕ → DistKind
 shape_kind sh =
-    if slice_index sh 0 == 15 then MaxDays (slice_index sh 1)
+    if nat_lt (slice_index sh 0) 15 then Pair (kind_of sh)
+    else if slice_index sh 0 == 15 then MaxDays (slice_index sh 1)
     else if slice_index sh 0 == 16 then MaxDayLoad (slice_index sh 1)
     else if slice_index sh 0 == 17 then MaxBreaks (slice_index sh 1) (slice_index sh 2)
-    else if slice_index sh 0 == 18 then MaxBlock (slice_index sh 1) (slice_index sh 2)
-    else Pair (kind_of sh)
+    else MaxBlock (slice_index sh 1) (slice_index sh 2)
 
 -- the weeks that a shape names
 unfoldable pub shape_weeks : List ℕ → ℕ
 shape_weeks sh = slice_index sh (length sh - 1)
 
-shape_kind-pair : (kind : PairKind) (members : ℕ) → shape_kind (pair_shape kind members) ≡ Pair kind
-unfolding shape_kind kind_of
-shape_kind-pair SameStart members = refl
-shape_kind-pair SameTime members = refl
-shape_kind-pair DifferentTime members = refl
-shape_kind-pair SameDays members = refl
-shape_kind-pair DifferentDays members = refl
-shape_kind-pair SameWeeks members = refl
-shape_kind-pair DifferentWeeks members = refl
-shape_kind-pair Overlap members = refl
-shape_kind-pair NotOverlap members = refl
-shape_kind-pair SameRoom members = refl
-shape_kind-pair DifferentRoom members = refl
-shape_kind-pair SameAttendees members = refl
-shape_kind-pair Precedence members = refl
-shape_kind-pair (WorkDay span) members = refl
-shape_kind-pair (MinGap gap) members = refl
-
 -- a shape names its kind
 pub shape_kind-of : (kind : DistKind) (weeks members : ℕ) → shape_kind (kind_shape kind weeks members) ≡ kind
 unfolding shape_kind
-shape_kind-of (Pair kind) weeks members = shape_kind-pair kind members
+shape_kind-of (Pair kind) weeks members = rw (lt-ltb (kind_number kind) 15 (kind_number-few kind)) (ap Pair (kind_of-pair_shape kind members))
 shape_kind-of (MaxDays most) weeks members = refl
 shape_kind-of (MaxDayLoad most) weeks members = refl
 shape_kind-of (MaxBreaks breaks gap) weeks members = refl

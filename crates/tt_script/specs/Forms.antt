@@ -1,5 +1,6 @@
 -- The forms of a line, and the command of each.
 use Rattle.std.specs.Prelude.{ℕ, IsTrue, IsSome, List, [], ◌∷◌, Option, None, Some, option_map, if◌then◌else◌, codes, bytes_eq}
+use Rattle.std.specs.Option.{option_zip}
 use Rattle.tt_text.specs.Decimal.{decimal_of, at_most}
 use Rattle.tt_script.specs.declared.command.Command.{Command}
 use Rattle.tt_script.specs.declared.command.Command.TheVariants.{Assign, Unassign, Force, Section, Drop, Enrol, EnrolAll, Search, Repair, Recall, Undo, Publish, Totals, Explain, Why, Stats, Quit}
@@ -12,15 +13,10 @@ use Rattle.tt_script.specs.declared.reading.Turns.{Turns}
 abbrev pub id_of : List ℕ → Option ℕ
 id_of word = at_most 4294967295 (decimal_of word)
 
--- one more id before others; none where one of them is missing
-abbrev pub with_id : Option ℕ → Option (List ℕ) → Option (List ℕ)
-with_id (Some id) (Some ids) = Some (id ∷ ids)
-with_id _ _ = None
-
 -- an id for each word
 abbrev pub ids_of : List (List ℕ) → Option (List ℕ)
 ids_of [] = Some []
-ids_of (word ∷ words) = with_id (id_of word) (ids_of words)
+ids_of (word ∷ words) = option_map (λ b. b.0 ∷ b.1) (option_zip (id_of word) (ids_of words))
 
 -- a room: its id, or '-' for none
 abbrev pub room_of : List ℕ → Option (Option ℕ)
@@ -36,22 +32,14 @@ seed_of word = at_most 18446744073709551615 (decimal_of word)
 
 -- ---- what follows the word of a command
 
-abbrev pub choice_with : Option ℕ → Option ℕ → Option (Option ℕ) → Option Choice
-choice_with (Some class) (Some time) (Some room) = Some (record { class = class; time = time; room = room })
-choice_with _ _ _ = None
-
 -- `C T R`: a class, the number of a time, and a room
 abbrev pub choice_of : List (List ℕ) → Option Choice
-choice_of (class ∷ time ∷ room ∷ []) = choice_with (id_of class) (id_of time) (room_of room)
+choice_of (class ∷ time ∷ room ∷ []) = option_map (λ v. record { class = v.0; time = v.1.0; room = v.1.1 }) (option_zip (id_of class) (option_zip (id_of time) (room_of room)))
 choice_of words = None
-
-abbrev pub turns_with : Option ℕ → Option ℕ → Option Turns
-turns_with (Some count) (Some seed) = Some (record { count = count; seed = seed })
-turns_with _ _ = None
 
 -- `N SEED`: a number of turns, and the seed
 abbrev pub turns_of : List (List ℕ) → Option Turns
-turns_of (count ∷ seed ∷ []) = turns_with (count_of count) (seed_of seed)
+turns_of (count ∷ seed ∷ []) = option_map (λ t. record { count = t.0; seed = t.1 }) (option_zip (count_of count) (seed_of seed))
 turns_of words = None
 
 -- `C` or `S`: one id
@@ -64,14 +52,10 @@ abbrev pub enrol_of : List (List ℕ) → Option Command
 enrol_of (word ∷ []) = if bytes_eq word (codes "all") then Some EnrolAll else option_map Enrol (id_of word)
 enrol_of words = None
 
-abbrev pub section_with : Option ℕ → Option (List ℕ) → Option Command
-section_with (Some student) (Some classes) = Some (Section student classes)
-section_with _ _ = None
-
 -- `S C1 C2 ..`: a student, and then any number of classes
 abbrev pub section_of : List (List ℕ) → Option Command
 section_of [] = None
-section_of (student ∷ classes) = section_with (id_of student) (ids_of classes)
+section_of (student ∷ classes) = option_map (λ s. Section s.0 s.1) (option_zip (id_of student) (ids_of classes))
 
 -- nothing
 abbrev pub alone : Command → List (List ℕ) → Option Command

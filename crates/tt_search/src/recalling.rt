@@ -3,11 +3,10 @@ ghost use Rattle.tt_state.specs.Snapshots.{with_list};
 ghost use Rattle.tt_plan.specs.Domain.{IsOfDomain};
 ghost use Rattle.tt_roster.specs.Lists.{list_of};
 ghost use Rattle.tt_solution.specs.Timetable.{IsTimetableOf};
-ghost use Rattle.tt_state.specs.History.{IsWithinStep, desk_of, earlier, stepped, with_taken};
+ghost use Rattle.tt_state.specs.History.{IsWithinStep, desk_of, earlier, stepped};
 ghost use Rattle.tt_search.specs.Recalled.{may_return, recalled, recalled_lists, recalled_plan, recalled_value, with_return};
 ghost use Rattle.tt_search.specs.Changed.{with_lists, with_plan};
 
-use crate::steps::want_of_memory;
 use std::alloc::AllocError;
 use tt_bits::Value;
 use tt_plan::{domain_size, value_at};
@@ -19,11 +18,12 @@ use tt_state::{Refusal, State};
 /// domain with the published days, start, weeks and room; a class that has no such value or isn't
 /// published becomes unplaced. All students lose their lists, and then each in order gets the
 /// published one, where it is a valid enrolment and each class has a seat. The statistics stay. Where
-/// memory is wanting, only the conflict set found last may differ.
+/// memory is wanting, the state stays.
 pub fn recall(state: &mut State, published: &Published) -> Result<(), AllocError>
     requires { IsTimetableOf state.old.problem published.now }
     ensures desk { OnOk result (desk_of state.new ≡ stepped (desk_of state.old) (recalled state.old.problem published.now state.old.present)) }
-    ensures err { OnErr result (with_taken state.new [] ≡ with_taken state.old []) }
+    ensures taken { OnOk result (state.new.taken ≡ state.old.taken) }
+    ensures err { OnErr result (state.new ≡ state.old) }
 {
     state.begin()?;
     match bring_back(state, published) {
@@ -108,7 +108,7 @@ fn empty_list(state: &mut State, student: u32) -> Result<(), AllocError>
     }
     match state.section_step(student, &[]) {
         Ok(()) => Ok(()),
-        Err(refusal) => Err(want_of_memory(refusal)),
+        Err(refusal) => Err(refusal.want_of_memory()),
     }
 }
 
@@ -154,6 +154,6 @@ fn seat(state: &mut State, published: &Published, student: u32) -> Result<(), Al
         Ok(()) => Ok(()),
         Err(Refusal::BadSection) => Ok(()),
         Err(Refusal::NoSeat { .. }) => Ok(()),
-        Err(refusal) => Err(want_of_memory(refusal)),
+        Err(refusal) => Err(refusal.want_of_memory()),
     }
 }

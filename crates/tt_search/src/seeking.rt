@@ -13,7 +13,6 @@ ghost use Rattle.tt_search.specs.UnderWay.{IsUnderWay};
 
 use crate::moving::MovedClasses;
 use crate::price::{Rank, rank_now};
-use crate::steps::want_of_memory;
 use crate::turn::{Move, hopeful_classes, next_move};
 use rand_core::Rng;
 use rand_pcg::Lcg64Xsh32;
@@ -65,11 +64,11 @@ fn make(state: &mut State, next: Move) -> Result<(), AllocError>
     ensures desk { OnOk result (desk_of state.new ≡ moved_to (desk_of state.old) (after_move state.old.problem state.old.present next)) }
     ensures trail { OnOk result (trail state.new ≡ trail state.old ++ state.new.present ∷ []) }
     ensures taken { OnOk result (state.new.taken ≡ conflicts_of state.old.problem state.old.present next.class next.value) }
-    ensures step { IsWithinStep state.old state.new }
+    ensures step { IsWithinStep (with_taken state.old []) (with_taken state.new []) }
 {
     match state.force_step(next.class, next.value) {
         Ok(()) => Ok(()),
-        Err(refusal) => Err(want_of_memory(refusal)),
+        Err(refusal) => Err(refusal.want_of_memory()),
     }
 }
 
@@ -88,7 +87,7 @@ fn walk(
     requires moved { AreMoved state.old.problem (option_copied published) state.old.present.plan moved.old [] }
     requires step { 0 < length (earlier state.old) }
     requires trail { trail state.old ≡ state.old.present ∷ [] }
-    ensures step { IsWithinStep state.old state.new }
+    ensures step { IsWithinStep (with_taken state.old []) (with_taken state.new []) }
     ensures way { IfOk result (λ walked. let aim = option_copied published.entry in let start = state.old in IsUnderWay (full_rank start.problem aim) (trail state.new) [] walked.best walked.made (full_end start.problem aim turns seed start.present) (turns_of start.problem aim turns seed start.present)) }
 {
     let mut words = Lcg64Xsh32::new(seed, 1);

@@ -21,7 +21,8 @@ use Rattle.tt_problem.specs.declared.parts.Parts.{Parts}
 use Rattle.tt_problem.specs.Valid.{IsValid, class_ids, student_ids}
 use Rattle.tt_problem.proofs.IdLemmas.{is_new}
 use Rattle.tt_base.specs.Lists.{is_listed}
-use Rattle.tt_roster.specs.Lists.{having_from, students_of}
+use Rattle.tt_pool.specs.Places.{places_where}
+use Rattle.tt_roster.specs.Lists.{students_of}
 use Rattle.tt_solution.proofs.TextLemmas.{all_having, classes_from}
 use Rattle.tt_solution.specs.declared.meeting.Meeting.{Meeting}
 use Rattle.tt_roster.specs.Lists.{Ascends}
@@ -222,7 +223,7 @@ finds_known p valid = record {
   student = λ s lt. position_here (student_ids p) s valid.student_ids (omega (arith, length-map p.students (λ (x : StudentPart). x.id)));
 }
 
-having_few : (class from : ℕ) (seats : List (List ℕ)) → length (having_from class from seats) ≤ length seats
+having_few : (class from : ℕ) (seats : List (List ℕ)) → length (places_where (is_listed class) from seats) ≤ length seats
 having_few class from [] = omega arith
 having_few class from (list ∷ seats) =
     let rest = having_few class (from + 1) seats in

@@ -14,7 +14,8 @@ use Rattle.tt_problem.specs.declared.parts.StudentPart.{StudentPart}
 use Rattle.tt_problem.specs.declared.parts.Parts.{Parts}
 use Rattle.tt_problem.specs.Valid.{class_ids, student_ids}
 use Rattle.tt_base.specs.Lists.{is_listed}
-use Rattle.tt_roster.specs.Lists.{having_from, students_of}
+use Rattle.tt_pool.specs.Places.{places_where}
+use Rattle.tt_roster.specs.Lists.{students_of}
 use Rattle.tt_roster.specs.Rostered.{Rostered}
 use Rattle.tt_roster.specs.Kept.{IsRosterOf}
 use Rattle.tt_solution.specs.declared.meeting.Meeting.{Meeting}
@@ -31,7 +32,7 @@ class_id_at p class c lt is = sym (get_or-map (λ (x : ClassPart). x.id) p.class
 
 -- ---- the students of a class
 
-pub all_having : (P : ℕ → Type 0) (class from n : ℕ) (seats : List (List ℕ)) → from + length seats ≡ n → ((s : ℕ) → s < n → P s) → AllByRecursion P (having_from class from seats)
+pub all_having : (P : ℕ → Type 0) (class from n : ℕ) (seats : List (List ℕ)) → from + length seats ≡ n → ((s : ℕ) → s < n → P s) → AllByRecursion P (places_where (is_listed class) from seats)
 all_having P class from n [] is h = tt
 all_having P class from n (list ∷ seats) is h =
     let rest = all_having P class (from + 1) n seats (omega arith) h in

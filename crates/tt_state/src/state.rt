@@ -10,7 +10,7 @@ ghost use Rattle.tt_state.specs.Snapshots.{in_order, list_in, opening_snapshot, 
 ghost use Rattle.tt_state.specs.Sound.{ArePositive, AreSound, IsSound, is_ready, no_faults};
 ghost use Rattle.tt_state.specs.Kept.{counts_of};
 ghost use Rattle.tt_state.specs.Past.{HasPastOf, MayBegin, begun};
-ghost use Rattle.tt_state.specs.History.{before_step, desk_of, earlier, left_by, point_count, seated_by, stepped, moved_to, trail};
+ghost use Rattle.tt_state.specs.History.{IsWithinStep, before_step, desk_of, earlier, left_by, point_count, seated_by, stepped, moved_to, trail};
 
 mod forcing;
 
@@ -53,6 +53,18 @@ impl From<AllocError> for Refusal {
 
     fn from(_e: AllocError) -> Refusal {
         Refusal::Memory
+    }
+}
+
+impl Refusal {
+    /// Want of memory, where the refusal can be nothing else.
+    pub fn want_of_memory(self) -> AllocError
+        requires { self ≡ Refusal.Memory }
+    {
+        match self {
+            Refusal::Memory => AllocError,
+            _ => unreachable!(),
+        }
     }
 }
 
@@ -155,6 +167,7 @@ impl State {
         ensures desk { OnOk result (desk_of self.new ≡ stepped (desk_of self.old) self.old.present) }
         ensures trail { OnOk result (trail self.new ≡ self.new.present ∷ []) }
         ensures entries { OnOk result (self.new.entries ≡ Entry.Mark (point_count self.old.entries) ∷ self.old.entries) }
+        ensures taken { OnOk result (self.new.taken ≡ self.old.taken) }
         ensures err { OnErr result (self.new ≡ self.old) }
     {
         self.journal.mark(self.points)?;
@@ -188,6 +201,7 @@ impl State {
         ensures desk { OnOk result (desk_of self.new ≡ stepped (desk_of self.old) (with_value self.old.present class (Some value))) }
         ensures trail { OnOk result (trail self.new ≡ self.new.present ∷ []) }
         ensures entries { OnOk result (self.new.entries ≡ Entry.Placed class (value_in self.old.present class) ∷ Entry.Mark (point_count self.old.entries) ∷ self.old.entries) }
+        ensures taken { OnOk result (self.new.taken ≡ self.old.taken) }
         ensures err { OnErr result (self.new ≡ self.old) }
     {
         self.set_class(Beginning::Step, class, Some(value))
@@ -200,6 +214,7 @@ impl State {
         ensures desk { OnOk result (desk_of self.new ≡ stepped (desk_of self.old) (with_value self.old.present class None)) }
         ensures trail { OnOk result (trail self.new ≡ self.new.present ∷ []) }
         ensures entries { OnOk result (self.new.entries ≡ Entry.Placed class (value_in self.old.present class) ∷ Entry.Mark (point_count self.old.entries) ∷ self.old.entries) }
+        ensures taken { OnOk result (self.new.taken ≡ self.old.taken) }
         ensures err { OnErr result (self.new ≡ self.old) }
 
         ensures not_placed { (result ≡ Err Refusal.NotPlaced) ↔ (value_in self.old.present class ≡ None) }
@@ -212,12 +227,13 @@ impl State {
     }
 
     /// Gives a class a value or none, in the last step.
-    #[tactic(auto, using(crate::proofs::PastLemmas::moved_desk, crate::proofs::PastLemmas::moved_trail, crate::proofs::StepLemmas::step_is))]
+    #[tactic(auto, using(crate::proofs::PastLemmas::moved_desk, crate::proofs::PastLemmas::moved_trail, crate::proofs::PastLemmas::moved_within, crate::proofs::StepLemmas::step_is))]
     pub fn place_step(&mut self, class: u32, value: Option<Value>) -> Result<(), AllocError>
         requires may { MayHave self.old.problem class value }
         requires step { 0 < length (earlier self.old) }
         ensures desk { OnOk result (desk_of self.new ≡ moved_to (desk_of self.old) (with_value self.old.present class value)) }
         ensures trail { OnOk result (trail self.new ≡ trail self.old ++ self.new.present ∷ []) }
+        ensures step { OnOk result (IsWithinStep self.old self.new) }
         ensures entries { OnOk result (self.new.entries ≡ Entry.Placed class (value_in self.old.present class) ∷ Entry.Point ∷ self.old.entries) }
         ensures err { OnErr result (self.new ≡ self.old) }
     {
@@ -263,6 +279,7 @@ impl State {
         ensures desk { OnOk result (desk_of self.new ≡ stepped (desk_of self.old) (with_list self.old.present student (in_order classes.now))) }
         ensures trail { OnOk result (trail self.new ≡ self.new.present ∷ []) }
         ensures entries { OnOk result (self.new.entries ≡ seated_by student (in_order classes.now) (left_by student (list_in self.old.present student) (Entry.Mark (point_count self.old.entries) ∷ self.old.entries))) }
+        ensures taken { OnOk result (self.new.taken ≡ self.old.taken) }
         ensures err { OnErr result (self.new ≡ self.old) }
 
         ensures bad_section { (result ≡ Err Refusal.BadSection) ↔ (is_enrolment self.old.problem student classes.now ≡ false) }
@@ -284,6 +301,7 @@ impl State {
         ensures desk { OnOk result (desk_of self.new ≡ stepped (desk_of self.old) (with_list self.old.present student [])) }
         ensures trail { OnOk result (trail self.new ≡ self.new.present ∷ []) }
         ensures entries { OnOk result (self.new.entries ≡ left_by student (list_in self.old.present student) (Entry.Mark (point_count self.old.entries) ∷ self.old.entries)) }
+        ensures taken { OnOk result (self.new.taken ≡ self.old.taken) }
         ensures err { OnErr result (self.new ≡ self.old) }
 
         ensures not_sectioned { (result ≡ Err Refusal.NotSectioned) ↔ (list_in self.old.present student ≡ []) }
@@ -297,13 +315,14 @@ impl State {
 
     /// Gives a student the classes of a list in place of those that the student has, in the last
     /// step; an empty list empties the student's own. The list is refused as by `section`.
-    #[tactic(auto, using(crate::proofs::PastLemmas::moved_desk, crate::proofs::PastLemmas::moved_trail, crate::proofs::StepLemmas::step_is))]
+    #[tactic(auto, using(crate::proofs::PastLemmas::moved_desk, crate::proofs::PastLemmas::moved_trail, crate::proofs::PastLemmas::moved_within, crate::proofs::StepLemmas::step_is))]
     pub fn section_step(&mut self, student: u32, classes: &[u32]) -> Result<(), Refusal>
         requires student { student < length self.old.problem.students }
         requires classes { All (λ class. class < length self.old.problem.classes) classes.now }
         requires step { 0 < length (earlier self.old) }
         ensures desk { OnOk result (desk_of self.new ≡ moved_to (desk_of self.old) (with_list self.old.present student (in_order classes.now))) }
         ensures trail { OnOk result (trail self.new ≡ trail self.old ++ self.new.present ∷ []) }
+        ensures step { OnOk result (IsWithinStep self.old self.new) }
         ensures entries { OnOk result (self.new.entries ≡ seated_by student (in_order classes.now) (left_by student (list_in self.old.present student) (Entry.Point ∷ self.old.entries))) }
         ensures err { OnErr result (self.new ≡ self.old) }
 
@@ -324,6 +343,7 @@ impl State {
         ensures back { OnOk result (earlier self.old ≡ self.new.present ∷ earlier self.new) }
         ensures problem { self.new.problem ≡ self.old.problem }
         ensures entries { self.new.entries ≡ before_step self.old.entries }
+        ensures taken { OnOk result (self.new.taken ≡ self.old.taken) }
         ensures err { OnErr result (self.new ≡ self.old) }
 
         ensures nothing { (result ≡ Err Refusal.NothingToUndo) ↔ (earlier self.old ≡ []) }
@@ -343,6 +363,7 @@ impl State {
         ensures back { earlier self.old ≡ self.new.present ∷ earlier self.new }
         ensures problem { self.new.problem ≡ self.old.problem }
         ensures entries { self.new.entries ≡ before_step self.old.entries }
+        ensures taken { self.new.taken ≡ self.old.taken }
     {
         self.roll_back(0);
         back_once(
@@ -367,11 +388,9 @@ impl State {
     #[tactic(auto, using(crate::proofs::TrailLemmas::moment_is))]
     pub fn roll_back(&mut self, to: u64)
         requires { to < length (trail self.old) }
-        ensures problem { self.new.problem ≡ self.old.problem }
         ensures present { slice_get (trail self.old) to ≡ Some self.new.present }
-        ensures earlier { earlier self.new ≡ earlier self.old }
         ensures trail { trail self.new ≡ take (to + 1) (trail self.old) }
-        ensures entries { before_step self.new.entries ≡ before_step self.old.entries }
+        ensures step { IsWithinStep self.old self.new }
     {
         back_to_moment(
             &self.problem,

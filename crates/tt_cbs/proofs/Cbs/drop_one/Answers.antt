@@ -1,5 +1,4 @@
-use Rattle.std.proofs.Common.{◌≡◌, ◌<◌, ◌-◌, ◌∙◌, arith, sym}
-use Rattle.std.specs.Result.{IsOk}
+use Rattle.std.proofs.Common.{◌<◌, ◌-◌, arith}
 use Rattle.tt_cbs.proofs.KeyLemmas.{last_gone, one_less, kept_is_ok, on_ok, put_positive, drop_positive}
 use Rattle.tt_cbs.proofs.Cbs.drop_one.Goals as goal
 

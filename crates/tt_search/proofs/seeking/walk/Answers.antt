@@ -2,7 +2,7 @@ use Rattle.std.proofs.Common.{length, ◌≡◌, ◌<◌, ◌≤◌, ◌-◌, �
 use Rattle.std.specs.Option.{option_copied}
 use Rattle.rand_core.specs.Steps.{stream_of, steps_u32}
 use Rattle.rand_pcg.specs.Pcg.{pcg32}
-use Rattle.tt_state.specs.History.{IsWithinStep, trail}
+use Rattle.tt_state.specs.History.{IsWithinStep, earlier, trail, with_taken}
 use Rattle.tt_search.specs.Turns.{turn_of}
 use Rattle.tt_search.specs.Searched.{onward, words_of}
 use Rattle.tt_search.specs.Full.{full_rank, full_end}
@@ -20,7 +20,7 @@ loop-made-init c =
     let whole : c.args.turns - 0 ≡ c.args.turns = omega arith in
     let words = words_from c.args.seed c.new-words.result c.new-words.ensures in
     record {
-      step = within_same start;
+      step = within_same (with_taken start []);
       moved = c.requires.moved;
       way = rw (whole, words) (start_way (full_rank start.problem aim) start.present (trail start) (onward start.problem aim c.args.turns (words_of c.args.seed) start.present) c.moment-best.result c.requires.trail (c.moment-best.ensures.rank aim (moved_is start.problem aim start.present c.args.moved.now c.requires.belongs c.requires.moved)) c.moment-best.ensures.mark);
     }
@@ -33,8 +33,8 @@ make-requires-clause-open c = rw c.next_move.ensures.problem c.in-Some.ensures.o
 
 pub make-requires-clause-step : goal.make-requires-clause-step
 make-requires-clause-step c =
-    let still = within_still c.loop-made.state c.next_move.new.state c.next_move.ensures.problem c.next_move.ensures.present c.next_move.ensures.entries in
-    rw (still.earlier ∙ c.loop-made.invariant.step.earlier) c.requires.step
+    let same : earlier c.next_move.new.state ≡ earlier c.args.state.now = rw (c.next_move.ensures.present, c.next_move.ensures.entries) c.loop-made.invariant.step.earlier in
+    rw same c.requires.step
 
 pub loop-made-preserved : goal.loop-made-preserved
 loop-made-preserved c =
@@ -46,8 +46,8 @@ loop-made-preserved c =
     let same_problem = c.next_move.ensures.problem in
     let same_present = c.next_move.ensures.present in
     let same_entries = c.next_move.ensures.entries in
-    let step : IsWithinStep start after =
-    within_next start before after c.loop-made.invariant.step (within_next before moved after (within_still before moved same_problem same_present same_entries) c.in_ok-make.ensures.step) in
+    let step : IsWithinStep (with_taken start []) (with_taken after []) =
+    within_next _ _ _ c.loop-made.invariant.step (within_next _ _ _ (within_still (with_taken before []) (with_taken moved []) same_problem same_present same_entries refl) c.in_ok-make.ensures.step) in
     let problem : after.problem ≡ start.problem = step.problem in
     let present = ap (λ d. d.present) c.in_ok-make.ensures.desk in
     let turn : turn_of start.problem aim c.next_u32.result before.present ≡ Some after.present =
@@ -80,12 +80,12 @@ follow-requires-clause-late c =
 
 pub returns-in_default-clause-step : goal.returns-in_default-clause-step
 returns-in_default-clause-step c =
-    within_next _ _ _ c.loop-made.invariant.step (within_still c.loop-made.state c.next_move.new.state c.next_move.ensures.problem c.next_move.ensures.present c.next_move.ensures.entries)
+    within_next _ _ _ c.loop-made.invariant.step (within_still (with_taken c.loop-made.state []) (with_taken c.next_move.new.state []) c.next_move.ensures.problem c.next_move.ensures.present c.next_move.ensures.entries refl)
 
 pub returns-in_err-make-clause-step : goal.returns-in_err-make-clause-step
 returns-in_err-make-clause-step c =
     within_next _ _ _ c.loop-made.invariant.step
-    (within_next _ _ _ (within_still c.loop-made.state c.next_move.new.state c.next_move.ensures.problem c.next_move.ensures.present c.next_move.ensures.entries) c.in_err-make.ensures.step)
+    (within_next _ _ _ (within_still (with_taken c.loop-made.state []) (with_taken c.next_move.new.state []) c.next_move.ensures.problem c.next_move.ensures.present c.next_move.ensures.entries refl) c.in_err-make.ensures.step)
 
 pub returns-in_default-clause-way : goal.returns-in_default-clause-way
 returns-in_default-clause-way c =

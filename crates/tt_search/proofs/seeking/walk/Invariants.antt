@@ -2,7 +2,7 @@ use Rattle.std.proofs.Common.{◌-◌, []}
 use Rattle.std.specs.Option.{option_copied}
 use Rattle.rand_core.specs.Steps.{stream_of, steps_u32}
 use Rattle.rand_pcg.specs.Pcg.{pcg32}
-use Rattle.tt_state.specs.History.{IsWithinStep, trail}
+use Rattle.tt_state.specs.History.{IsWithinStep, trail, with_taken}
 use Rattle.tt_search.specs.Searched.{onward, turns_of}
 use Rattle.tt_search.specs.Full.{full_rank, full_end}
 use Rattle.tt_search.specs.MovedNow.{AreMoved}
@@ -14,7 +14,7 @@ invariant-loop-made l =
     let start = l.fn.state in
     let aim = option_copied l.published in
     record {
-      step : IsWithinStep start l.state;
+      step : IsWithinStep (with_taken start []) (with_taken l.state []);
       moved : AreMoved start.problem aim l.state.present.plan l.moved [];
       way : IsUnderWay (full_rank start.problem aim) (trail l.state) (onward start.problem aim (l.turns - l.made) (stream_of (steps_u32 pcg32) l.words) l.state.present) l.best l.made (full_end start.problem aim l.turns l.seed start.present) (turns_of start.problem aim l.turns l.seed start.present);
     }

@@ -1,5 +1,5 @@
 use Rattle.std.proofs.Common.{◌∙◌, refl, ap, Err}
-use Rattle.tt_enrol.proofs.EnrolLemmas.{handed_on}
+use Rattle.tt_base.proofs.ResultLemmas.{handed_on}
 use Rattle.tt_top.proofs.FileRunLemmas.{serves_text, serves_told, script_failed}
 use Rattle.tt_top.proofs.file_run.serve_script.Goals as goal
 

@@ -1,7 +1,7 @@
 use Rattle.std.proofs.Common.{None}
 use Rattle.tt_make.specs.Text.{make_text}
 use Rattle.tt_top.specs.Transcript.{opened, demo_script}
-use Rattle.tt_enrol.proofs.EnrolLemmas.{handed_on}
+use Rattle.tt_base.proofs.ResultLemmas.{handed_on}
 use Rattle.tt_top.proofs.FileRunLemmas.{served_cause, cause_after}
 use Rattle.tt_top.proofs.PlainRunLemmas.{made_failed, made_faulty, made_served}
 use Rattle.tt_top.proofs.plain_run.demo.Goals as goal
