@@ -1,5 +1,5 @@
 -- The words on sets, as what code computes on their numbers.
-use Rattle.std.proofs.Common.{◌≡◌, refl, sym, ap, arith, lit≤, ℕ, zero, suc, ◌+◌, ◌/◌, ◌%◌, ◌<◌, ◌≤◌, ◌^◌, zero-add, add-one, pow-suc, Bool, true, false, not, ◌&&◌, ◌||◌, cond, List, [], ◌∷◌, get_or, inl, inr}
+use Rattle.std.proofs.Common.{◌≡◌, refl, sym, ap, arith, lit≤, ℕ, zero, suc, ◌+◌, ◌/◌, ◌%◌, ◌<◌, ◌≤◌, ◌^◌, zero-add, add-one, pow-suc, Bool, true, false, not, ◌&&◌, ◌||◌, cond, List, get_or, inl, inr}
 use Rattle.std.specs.Prelude.{count_by, ◌==◌, nat_lt, bit_and}
 use Rattle.std.specs.Int.{bit_at, trailing_zeros, w8, w128, Width}
 use Rattle.std.specs.Int.Count.{ones, ones_step}
@@ -14,6 +14,7 @@ use Rattle.std.proofs.lemmas.List.Sums.{count_by-le-length, position_or_len_is, 
 use Rattle.std.proofs.lemmas.Nat.{and_le_l}
 use Rattle.std.proofs.lemmas.Nat.Bits.{same_from_bits_below, bit_at_and, bit_at-trailing_zeros, bit_at-zero, bit_at-lt, shr_and_one, bit_at_above, bit_at_lowest, bit_at-suc}
 use Rattle.tt_base.specs.Sets.{count, places, has, share, within, first}
+use Rattle.tt_base.proofs.ListLemmas.{any_agree}
 
 -- a place that passes shows that some place does
 any_below : (p : ℕ → Bool) (n i : ℕ) → i < n → p i ≡ true → list_any p (range_with_len 0 n) ≡ true
@@ -68,10 +69,6 @@ share_word a b ha hb = same_from_decides {P = 0 < bit_and a b} _ _ (forth, back)
         let x : bit_at a i ≡ 1 = omega (arith, z.1, e, bit_at-lt a i) in
         let y : bit_at b i ≡ 1 = omega (arith, z.1, e, bit_at-lt b i) in
         any_place (λ i. has a i && has b i) i z.0 (rw (x, y) refl)
-
-any_agree : (p q : ℕ → Bool) → ((i : ℕ) → p i ≡ q i) → (xs : List ℕ) → list_any p xs ≡ list_any q xs
-any_agree p q same [] = refl
-any_agree p q same (x ∷ xs) = rw (same x, any_agree p q same xs) refl
 
 pub and_turned : (a b : Bool) → (a && b) ≡ (b && a)
 and_turned true true = refl

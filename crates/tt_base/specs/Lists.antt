@@ -16,3 +16,11 @@ comes_before xs ys = is_lt (slice_cmp nat_cmp xs ys)
 abbrev pub least : {A : Type 0} → (A → A → Bool) → List A → Option A
 least less [] = None
 least less (x ∷ xs) = Some (best_of less x xs)
+
+-- x comes before y by its numbers
+abbrev pub is_less : {A : Type 0} → (A → List ℕ) → A → A → Bool
+is_less numbers x y = comes_before (numbers x) (numbers y)
+
+-- the first of a list that is least by its numbers, and none where the list is empty
+abbrev pub first_least : {A : Type 0} → (A → List ℕ) → List A → Option A
+first_least numbers xs = least (is_less numbers) xs

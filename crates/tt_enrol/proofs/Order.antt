@@ -11,8 +11,8 @@ use Rattle.std.proofs.lemmas.List.MinMax.{ranks_by}
 use Rattle.tt_problem.specs.declared.parts.Span.{Span}
 use Rattle.tt_problem.specs.Spans.{CoversFrom}
 use Rattle.tt_enrol.specs.Choices.{each_before, choices_of}
-use Rattle.tt_base.specs.Lists.{comes_before, least}
-use Rattle.tt_enrol.specs.Least.{Situation, is_allowed, pairs_added, is_less, least_choice}
+use Rattle.tt_base.specs.Lists.{comes_before, is_less, least}
+use Rattle.tt_enrol.specs.Least.{Situation, is_allowed, pairs_added, choice_numbers, least_choice}
 use Rattle.tt_enrol.specs.Passed.{is_fewer, better, passed}
 
 -- each list comes before all later ones
@@ -34,10 +34,10 @@ first_decides m n o h = decides (nat_lt m n) (m == n)
     decides false false = refl
 
 -- the walk's step is the step to the lesser
-one_step : (s : Situation) (b c : List ℕ) → is_allowed s c ≡ true → comes_before b c ≡ true → better s (Some b) c ≡ Some (cond (is_less s c b) c b)
+one_step : (s : Situation) (b c : List ℕ) → is_allowed s c ≡ true → comes_before b c ≡ true → better s (Some b) c ≡ Some (cond (is_less (choice_numbers s) c b) c b)
 one_step s b c ok before =
     let behind : comes_before c b ≡ false = (ranks_by nat_list_cmp_total (λ (choice : List ℕ). choice)).one_way b c before in
-    steps (nat_lt (pairs_added s c) (pairs_added s b)) (is_allowed s c) (is_less s c b) ok (first_decides (pairs_added s c) (pairs_added s b) (slice_cmp nat_cmp c b) behind)
+    steps (nat_lt (pairs_added s c) (pairs_added s b)) (is_allowed s c) (is_less (choice_numbers s) c b) ok (first_decides (pairs_added s c) (pairs_added s b) (slice_cmp nat_cmp c b) behind)
   where
     steps : (fewer allowed less : Bool) → allowed ≡ true → less ≡ fewer → cond (fewer && allowed) (Some c) (Some b) ≡ Some (cond less c b)
     steps true allowed less ok e = rw (ok, e) refl
@@ -57,8 +57,8 @@ left false allowed best c h = refl
 
 -- the least of a list, where something may have been found before it
 abbrev least_from : Situation → Option (List ℕ) → List (List ℕ) → Option (List ℕ)
-least_from s None choices = least (is_less s) choices
-least_from s (Some b) choices = Some (best_of (is_less s) b choices)
+least_from s None choices = least (is_less (choice_numbers s)) choices
+least_from s (Some b) choices = Some (best_of (is_less (choice_numbers s)) b choices)
 
 module _ (s : Situation) (c : List ℕ) (cs : List (List ℕ)) (head : AllByRecursion (λ y. comes_before c y ≡ true) cs)
     (rest : (b : Option (List ℕ)) → ComesBefore b cs → passed s b cs ≡ least_from s b (filter (is_allowed s) cs)) where
@@ -68,7 +68,7 @@ module _ (s : Situation) (c : List ℕ) (cs : List (List ℕ)) (head : AllByRecu
       let first : better s None c ≡ Some c = rw ok refl in
       ap (λ (b : Option (List ℕ)). passed s b cs) first ∙ rest (Some c) head
   one_more true (Some b) ok before =
-      ap (λ (z : Option (List ℕ)). passed s z cs) (one_step s b c ok before.0) ∙ rest (Some (cond (is_less s c b) c b)) (one_of (is_less s c b) b c cs before.1 head)
+      ap (λ (z : Option (List ℕ)). passed s z cs) (one_step s b c ok before.0) ∙ rest (Some (cond (is_less (choice_numbers s) c b) c b)) (one_of (is_less (choice_numbers s) c b) b c cs before.1 head)
   one_more false best ok before =
       ap (λ (z : Option (List ℕ)). passed s z cs) (left (is_fewer s c best) (is_allowed s c) best c ok) ∙ rest best (comes_later best c cs before)
 

@@ -7,7 +7,7 @@ use Rattle.std.proofs.lemmas.Iterator.Adapters.{position_from-zero}
 use Rattle.tt_problem.specs.declared.parts.Span.{Span}
 use Rattle.tt_problem.specs.declared.parts.CoursePart.{CoursePart}
 use Rattle.tt_problem.specs.declared.parts.Parts.{Parts}
-use Rattle.tt_problem.specs.Spans.{is_in, span_of, CoversFrom, Covers}
+use Rattle.tt_problem.specs.Spans.{is_in, span_with, CoversFrom, Covers}
 use Rattle.tt_problem.specs.Places.{subpart_of, course_of}
 use Rattle.tt_problem.specs.Valid.{IsValid, course_spans}
 use Rattle.tt_problem.specs.Seats.{spans_at}
@@ -38,8 +38,8 @@ span_from (s ∷ spans) first after start (suc i) place d h lt inside =
     outside le = grind (arith, nat_tests)
 
 -- the span that has a place
-pub span_of-at : (spans : List Span) (count i place : ℕ) (d : Span) → Covers spans count → i < length spans → is_in place (get_or spans i d) ≡ true → span_of spans place ≡ Some i
-span_of-at spans count i place d h lt inside =
+pub span_with-at : (spans : List Span) (count i place : ℕ) (d : Span) → Covers spans count → i < length spans → is_in place (get_or spans i d) ≡ true → span_with spans place ≡ Some i
+span_with-at spans count i place d h lt inside =
     let same : 0 + i ≡ i = omega arith in
     position_from-zero (is_in place) spans ∙ span_from spans 0 count 0 i place d h lt inside ∙ ap Some same
 
@@ -67,12 +67,12 @@ module _ (p : Parts) (valid : IsValid p) (place : ℕ) (within : place < length 
   class_of : (c i j : ℕ) → i < length p.subparts → j < length p.configs → is_in c (get_or p.subparts i no_span) ≡ true → is_in i (get_or p.configs j no_span) ≡ true → is_in j (get_or p.courses place no_course).configs ≡ true
       → course_of p c ≡ Some place
   class_of c i j below less in_subpart in_config in_course =
-      let sub : subpart_of p c ≡ Some i = span_of-at p.subparts (length p.classes) i c no_span valid.subparts below in_subpart in
-      let conf : span_of p.configs i ≡ Some j = span_of-at p.configs (length p.subparts) j i no_span valid.configs less in_config in
+      let sub : subpart_of p c ≡ Some i = span_with-at p.subparts (length p.classes) i c no_span valid.subparts below in_subpart in
+      let conf : span_with p.configs i ≡ Some j = span_with-at p.configs (length p.subparts) j i no_span valid.configs less in_config in
       let there : get_or (course_spans p) place no_span ≡ (get_or p.courses place no_course).configs = get_or-map (λ (x : CoursePart). x.configs) p.courses place no_course no_span within in
       let inside : is_in j (get_or (course_spans p) place no_span) ≡ true = rw there in_course in
       let few : place < length (course_spans p) = omega (arith, length-map p.courses (λ (x : CoursePart). x.configs)) in
-      let cour : span_of (course_spans p) j ≡ Some place = span_of-at (course_spans p) (length p.configs) place j no_span valid.courses few inside in
+      let cour : span_with (course_spans p) j ≡ Some place = span_with-at (course_spans p) (length p.configs) place j no_span valid.courses few inside in
       rw (sub, conf) cour
 
   config_at : (j : ℕ) → j < length p.configs → is_in j (get_or p.courses place no_course).configs ≡ true → AllByRecursion (AreOfCourse p place) (spans_at p.subparts (get_or p.configs j no_span))

@@ -3,7 +3,7 @@ use Rattle.std.specs.Prelude.{ℕ, ◌+◌, Bool, true, ◌||◌, ◌&&◌, List
 use Rattle.std.specs.List.{list_all}
 use Rattle.std.specs.Option.{option_map_or}
 use Rattle.tt_base.specs.Among.{pairs_among}
-use Rattle.tt_base.specs.Lists.{comes_before, is_listed, least}
+use Rattle.tt_base.specs.Lists.{is_listed, first_least}
 
 -- What a choice is judged by: which classes have a seat for the student, the parent of a class, which pairs of classes
 -- conflict, and the classes that he has already taken.
@@ -29,10 +29,10 @@ pairs_with_taken s choice = sum_by (λ c. count_by (s.conflicts c) s.taken) choi
 abbrev pub pairs_added : Situation → List ℕ → ℕ
 pairs_added s choice = pairs_with_taken s choice + pairs_among s.conflicts choice
 
--- the first choice is less than the second: it adds fewer pairs, or as many, and its list comes before
-abbrev pub is_less : Situation → List ℕ → List ℕ → Bool
-is_less s a b = comes_before (pairs_added s a ∷ a) (pairs_added s b ∷ b)
+-- the numbers by which a choice is chosen: how many pairs it adds, and then its classes
+abbrev pub choice_numbers : Situation → List ℕ → List ℕ
+choice_numbers s choice = pairs_added s choice ∷ choice
 
 -- the least of the choices that are allowed, and none where none is
 abbrev pub least_choice : Situation → List (List ℕ) → Option (List ℕ)
-least_choice s choices = least (is_less s) (filter (is_allowed s) choices)
+least_choice s choices = first_least (choice_numbers s) (filter (is_allowed s) choices)

@@ -2,7 +2,7 @@ ghost use Rattle.std.specs.Prelude.{ℕ, ◌+◌, ◌≤◌, ◌^◌, List, leng
 ghost use Rattle.std.specs.List.{IsDistinct};
 ghost use Rattle.tt_fields.specs.Answer.{Gives, part_of};
 ghost use Rattle.tt_fields.specs.List.{items_of, known_of, IsAmong, IsFew};
-ghost use Rattle.tt_lists.specs.Tables.{member_of, members_of};
+ghost use Rattle.tt_lists.specs.Tables.{a_member, members_in};
 
 use indexmap::IndexSet;
 use std::alloc::Global;
@@ -20,13 +20,13 @@ impl NextTable<IndexSet<u32>> for ReferenceTable<'_> {
 
     ghost seen = { λ members. members.keys };
 
-    ghost reads = { λ t. member_of (known_of t.known) };
+    ghost reads = { λ t. a_member (known_of t.known) };
 
     ghost most = { λ t. 2 ^ 64 };
 
     ghost valid = { λ t place members. IsFew t.known × All (IsAmong t.known) members.keys × (length members.keys ≤ place) };
 
-    #[tactic(auto, unfolding(crate::specs::Tables::member_of))]
+    #[tactic(auto, unfolding(crate::specs::Tables::a_member))]
     fn read_next(
         &self,
         _alloc: Global,
@@ -47,7 +47,7 @@ pub fn distinct_places(
     items: &Items<'_>,
 ) -> Result<Row<u32>, FileFault>
     requires { IsFew known.now }
-    ensures reads { Gives (λ members. members) result (members_of (known_of known.now) (items_of items.now)) }
+    ensures reads { Gives (λ members. members) result (members_in (known_of known.now) (items_of items.now)) }
     ensures known { IfOk result (λ members. All (IsAmong known.now) members) }
     ensures distinct { IfOk result (λ members. IsDistinct nat_eq members) }
     ensures count { IfOk result (λ members. length members ≤ length items.now.values.now) }

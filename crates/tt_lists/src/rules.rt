@@ -2,7 +2,7 @@ ghost use Rattle.std.specs.Prelude.{◌≡◌, ◌≤◌, length, codes, All, If
 ghost use Rattle.tt_fields.specs.Answer.{Reads, Gives, part_of};
 ghost use Rattle.tt_fields.specs.Kinds.{required};
 ghost use Rattle.tt_fields.specs.List.{items_of, known_of, IsFew};
-ghost use Rattle.tt_lists.specs.Tables.{a_type, penalty_unless, rule_of, rules_of};
+ghost use Rattle.tt_lists.specs.Tables.{a_type, penalty_unless, a_rule, rules_in};
 ghost use Rattle.tt_lists.specs.Valid.{IsRuleAmong};
 
 use crate::members::distinct_places;
@@ -47,13 +47,13 @@ struct RuleTable<'a> {
 }
 
 impl ItemTable<Rule> for RuleTable<'_> {
-    ghost reads = { λ t. rule_of (known_of t.classes) };
+    ghost reads = { λ t. a_rule (known_of t.classes) };
 
     ghost valid = { λ t rule. IsRuleAmong t.classes rule };
 
     ghost ready = { λ t. IsFew t.classes };
 
-    #[tactic(auto, unfolding(crate::specs::Tables::rule_of))]
+    #[tactic(auto, unfolding(crate::specs::Tables::a_rule))]
     fn read_item(&self, alloc: Global, item: &Part<'_>) -> Result<Rule, FileFault> {
         as_object(item)?;
         let kind = read_kind(&*item)?;
@@ -78,7 +78,7 @@ pub fn read_rules(
     items: &Items<'_>,
 ) -> Result<Row<Rule>, FileFault>
     requires { IsFew known.now }
-    ensures reads { Gives (λ rules. rules) result (rules_of (known_of known.now) (items_of items.now)) }
+    ensures reads { Gives (λ rules. rules) result (rules_in (known_of known.now) (items_of items.now)) }
     ensures valid { IfOk result (λ rules. All (IsRuleAmong known.now) rules) }
     ensures count { IfOk result (λ rules. length rules ≡ length items.now.values.now) }
 {

@@ -9,6 +9,7 @@ use Rattle.tt_problem.specs.declared.parts.TimeChoice.{TimeChoice}
 use Rattle.tt_problem.specs.declared.parts.ClassPart.{ClassPart}
 use Rattle.tt_problem.specs.declared.parts.RoomChoice.{RoomChoice}
 use Rattle.tt_problem.specs.declared.parts.RoomPart.{RoomPart}
+use Rattle.tt_problem.specs.declared.parts.CoursePart.{CoursePart}
 use Rattle.tt_problem.specs.declared.parts.Rule.{Rule}
 use Rattle.tt_problem.specs.declared.parts.StudentPart.{StudentPart}
 use Rattle.tt_problem.specs.declared.parts.Parts.{Parts}
@@ -72,25 +73,25 @@ pub record IsValidClass (p : Parts) (c : ClassPart) : Type 0 where
   pub few_rooms : length c.rooms ≤ 1000
   pub rooms : All (IsValidChoice p) c.rooms
 
--- the ids of the courses, in order
-abbrev pub course_ids : Parts → List ℕ
-course_ids p = map (λ c. c.id) p.courses
+-- the ids of courses, in order
+abbrev pub course_ids : List CoursePart → List ℕ
+course_ids courses = map (λ c. c.id) courses
 
--- the ids of the rooms, in order
-abbrev pub room_ids : Parts → List ℕ
-room_ids p = map (λ r. r.id) p.rooms
+-- the ids of rooms, in order
+abbrev pub room_ids : List RoomPart → List ℕ
+room_ids rooms = map (λ r. r.id) rooms
 
--- the ids of the classes, in order
-abbrev pub class_ids : Parts → List ℕ
-class_ids p = map (λ c. c.id) p.classes
+-- the ids of classes, in order
+abbrev pub class_ids : List ClassPart → List ℕ
+class_ids classes = map (λ c. c.id) classes
 
 -- the configurations of each course, in order
 abbrev pub course_spans : Parts → List Span
 course_spans p = map (λ c. c.configs) p.courses
 
--- the ids of the students, in order
-abbrev pub student_ids : Parts → List ℕ
-student_ids p = map (λ s. s.id) p.students
+-- the ids of students, in order
+abbrev pub student_ids : List StudentPart → List ℕ
+student_ids students = map (λ s. s.id) students
 
 -- The parts make a problem.
 pub record IsValid (p : Parts) : Type 0 where
@@ -109,10 +110,10 @@ pub record IsValid (p : Parts) : Type 0 where
   pub rules : All (IsValidRule p) p.rules
   pub students : All (IsValidStudent p) p.students
   -- the ids of a kind differ
-  pub course_ids : IsDistinct nat_eq (course_ids p)
-  pub class_ids : IsDistinct nat_eq (class_ids p)
-  pub room_ids : IsDistinct nat_eq (room_ids p)
-  pub student_ids : IsDistinct nat_eq (student_ids p)
+  pub course_ids : IsDistinct nat_eq (course_ids p.courses)
+  pub class_ids : IsDistinct nat_eq (class_ids p.classes)
+  pub room_ids : IsDistinct nat_eq (room_ids p.rooms)
+  pub student_ids : IsDistinct nat_eq (student_ids p.students)
   -- the limits of size
   pub few_courses : length p.courses ≤ 20000
   pub few_classes : length p.classes ≤ 20000

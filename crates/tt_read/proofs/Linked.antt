@@ -24,7 +24,7 @@ use Rattle.tt_tree.specs.declared.courses as courses
 use Rattle.tt_tree.specs.Context.{Context, context_of}
 use Rattle.tt_tree.specs.Tables.{Rooms, Tree, rooms_in, courses_in}
 use Rattle.tt_tree.specs.Read.{rooms_read, tree_read, IsRooms, IsTree, IsClassAmong, IsChoiceAmong}
-use Rattle.tt_lists.specs.Tables.{rules_of, students_of}
+use Rattle.tt_lists.specs.Tables.{rules_in, students_in}
 use Rattle.tt_lists.specs.Valid.{IsRuleAmong, IsStudentAmong}
 use Rattle.tt_read.specs.declared.passes as passes
 use Rattle.tt_read.specs.Read.{shape_read, IsShape, IsLinked}
@@ -132,13 +132,13 @@ valid_within p h cells members links seats = h.valid cells members links seats
 
 -- a fault of the students is the fault of the pass, where the other lists have none
 pub students_fail : (s : Shape) (c : Context) (k : Option (List ℕ)) (r : Rooms) (t : Tree) (rules : List Rule) (e : FileFault)
-    → c ≡ known s → rooms_in c s.rooms.items ≡ Ok r → courses_in c s.courses.items ≡ Ok t → rules_of c.classes s.distributions ≡ Ok rules → k ≡ Some s.courses.ids
-    → Fails e (students_of k s.students) → Fails e (linked_of s)
+    → c ≡ known s → rooms_in c s.rooms.items ≡ Ok r → courses_in c s.courses.items ≡ Ok t → rules_in c.classes s.distributions ≡ Ok rules → k ≡ Some s.courses.ids
+    → Fails e (students_in k s.students) → Fails e (linked_of s)
 unfolding linked_of
 students_fail s c k r t rules faults.Memory same a b d is h = tt
 students_fail s c k r t rules (faults.Fault n path) same a b d is h =
     let a1 : rooms_in (known s) s.rooms.items ≡ Ok r = ap (λ (x : Context). rooms_in x s.rooms.items) (sym same) ∙ a in
     let b1 : courses_in (known s) s.courses.items ≡ Ok t = ap (λ (x : Context). courses_in x s.courses.items) (sym same) ∙ b in
-    let d1 : rules_of (Some s.courses.class_ids) s.distributions ≡ Ok rules = ap (λ (x : Context). rules_of x.classes s.distributions) (sym same) ∙ d in
-    let h1 : students_of (Some s.courses.ids) s.students ≡ Err (record { number = n; path = path }) = ap (λ (x : Option (List ℕ)). students_of x s.students) (sym is) ∙ h in
+    let d1 : rules_in (Some s.courses.class_ids) s.distributions ≡ Ok rules = ap (λ (x : Context). rules_in x.classes s.distributions) (sym same) ∙ d in
+    let h1 : students_in (Some s.courses.ids) s.students ≡ Err (record { number = n; path = path }) = ap (λ (x : Option (List ℕ)). students_in x s.students) (sym is) ∙ h in
     rw a1 (rw b1 (rw d1 (rw h1)))

@@ -1,21 +1,21 @@
 -- The problem file, one line for each key of the whole value, in the order in which they are read. It is
 -- read in three passes, and a later one only where the earlier ones found no fault: first the shape of all,
 -- with no reference looked up; then all of it again, with the ids of the first pass known; then the sums.
-use Rattle.std.specs.Prelude.{ℕ, List, [], Option, Some, None, Result, Ok, codes, nat_lt, if◌then◌else◌}
-use Rattle.serde_json.specs.Data.{Data}
+use Rattle.std.specs.Prelude.{ℕ, List, [], Some, None, Result, Ok, codes, nat_lt, if◌then◌else◌}
 use Rattle.tt_travel.specs.Table.{most_rooms}
 use Rattle.tt_problem.specs.declared.parts.Weights.{Weights}
 use Rattle.tt_problem.specs.declared.parts.Rule.{Rule}
 use Rattle.tt_problem.specs.declared.parts.StudentPart.{StudentPart}
 use Rattle.tt_problem.specs.declared.parts.Parts.{Parts}
+use Rattle.tt_problem.specs.Valid.{room_ids, course_ids, class_ids}
 use Rattle.tt_problem.specs.Sums.{cells_of, member_count, links_of, seats_of}
 use Rattle.tt_fields.specs.Path.{at}
 use Rattle.tt_fields.specs.Answer.{Part, Fault, fault, ◌>>=◌}
 use Rattle.tt_fields.specs.Kinds.{a_number, an_object, a_list, required, or_else}
 use Rattle.tt_tree.specs.Context.{Context}
-use Rattle.tt_tree.specs.Tables.{Rooms, Tree, rooms_in, courses_in, room_ids, course_ids, class_ids}
-use Rattle.tt_lists.specs.Tables.{rules_of, students_of}
-use Rattle.tt_fields.specs.Text.{json_of}
+use Rattle.tt_tree.specs.Tables.{Rooms, Tree, rooms_in, courses_in}
+use Rattle.tt_lists.specs.Tables.{rules_in, students_in}
+use Rattle.tt_fields.specs.Text.{read_as}
 use Rattle.tt_read.specs.declared.term.Term.{Term}
 
 -- the days of a week and the weeks of the term
@@ -91,8 +91,8 @@ shape_of p = do
   weights ← weights_of optimization
   rooms ← room_list_of term o
   courses ← course_list_of term o
-  distributions ← checked_list 20000 (rules_of None) (codes "distributions") o
-  students ← checked_list 100000 (students_of None) (codes "students") o
+  distributions ← checked_list 20000 (rules_in None) (codes "distributions") o
+  students ← checked_list 100000 (students_in None) (codes "students") o
   Ok (record { term = term; weights = weights; rooms = rooms; courses = courses; distributions = distributions; students = students })
 
 -- ---- the second pass
@@ -122,8 +122,8 @@ unfoldable pub linked_of : Shape → Result Parts Fault
 linked_of s = do
   rooms ← rooms_in (known s) s.rooms.items
   tree ← courses_in (known s) s.courses.items
-  rules ← rules_of (Some s.courses.class_ids) s.distributions
-  students ← students_of (Some s.courses.ids) s.students
+  rules ← rules_in (Some s.courses.class_ids) s.distributions
+  students ← students_in (Some s.courses.ids) s.students
   Ok (parts_with s rooms tree rules students)
 
 -- ---- the third pass
@@ -150,11 +150,6 @@ parts_of p = do
   parts ← linked_of shape
   summed p parts
 
--- bytes without a value have fault 30
-abbrev pub or_no_json : Option Data → Result Parts Fault
-or_no_json None = fault 30 []
-or_no_json (Some d) = parts_of (record { path = []; value = d })
-
 -- the problem that a file holds, or its first fault
 unfoldable pub problem_of : List ℕ → Result Parts Fault
-problem_of bytes = or_no_json (json_of bytes)
+problem_of bytes = read_as parts_of bytes

@@ -6,7 +6,7 @@ ghost use Rattle.tt_fields.specs.List.{items_of, known_of, IsFew};
 ghost use Rattle.tt_tree.specs.Context.{context_of, IsContext};
 ghost use Rattle.tt_tree.specs.Read.{rooms_read, tree_read};
 ghost use Rattle.tt_tree.specs.Whole.{HasClasses};
-ghost use Rattle.tt_lists.specs.Tables.{rules_of, students_of};
+ghost use Rattle.tt_lists.specs.Tables.{rules_in, students_in};
 ghost use Rattle.tt_read.specs.Read.{room_list_read, course_list_read, shape_read, IsShape, IsLinked};
 ghost use Rattle.tt_read.specs.Tables.{term_of, weights_of, unknown as unknown_of, room_list_of, course_list_of, checked_list, shape_of, known as known_of_shape, parts_with as parts_of_all, linked_of};
 
@@ -129,7 +129,7 @@ fn read_course_list<'a>(
 /// The list of distributions, read with no reference looked up.
 #[tactic(auto, unfolding(crate::specs::Tables::checked_list))]
 fn read_rule_list<'a>(alloc: Global, object: &'a Part<'a>) -> Result<Items<'a>, FileFault>
-    ensures reads { Gives items_of result (checked_list 20000 (rules_of None) (codes "distributions") (part_of object.now)) }
+    ensures reads { Gives items_of result (checked_list 20000 (rules_in None) (codes "distributions") (part_of object.now)) }
     ensures few { IfOk result (λ items. length items.values.now ≤ 20000) }
 {
     let items = list_or_none(object, "distributions", 20_000)?;
@@ -140,7 +140,7 @@ fn read_rule_list<'a>(alloc: Global, object: &'a Part<'a>) -> Result<Items<'a>, 
 /// The list of students, read with no reference looked up.
 #[tactic(auto, unfolding(crate::specs::Tables::checked_list))]
 fn read_student_list<'a>(alloc: Global, object: &'a Part<'a>) -> Result<Items<'a>, FileFault>
-    ensures reads { Gives items_of result (checked_list 100000 (students_of None) (codes "students") (part_of object.now)) }
+    ensures reads { Gives items_of result (checked_list 100000 (students_in None) (codes "students") (part_of object.now)) }
     ensures few { IfOk result (λ items. length items.values.now ≤ 100000) }
 {
     let items = list_or_none(object, "students", 100_000)?;

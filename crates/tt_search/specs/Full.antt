@@ -8,9 +8,9 @@ use Rattle.tt_solution.specs.Timetable.{Timetable}
 use Rattle.tt_solution.specs.Published.{moved_of}
 use Rattle.tt_state.specs.Snapshots.{Snapshot}
 use Rattle.tt_state.specs.Values.{total_with}
-use Rattle.tt_search.specs.Least.{first_least, is_less}
+use Rattle.tt_base.specs.Lists.{first_least, is_less}
 use Rattle.tt_search.specs.Turns.{weight_of, strays, open_values}
-use Rattle.tt_search.specs.Searched.{onward, words_of}
+use Rattle.tt_search.specs.Searched.{onward, random_words}
 
 -- 1 where a value strays from what is published; 0 where nothing is
 abbrev pub strays_in : Parts → Option Timetable → (class : ℕ) → Value → ℕ
@@ -37,4 +37,4 @@ full_rank p published s =
 
 -- where a search ends by these numbers
 unfoldable pub full_end : Parts → Option Timetable → (turns seed : ℕ) → Snapshot → Snapshot
-full_end p published turns seed s = best_of (is_less (full_rank p published)) s (onward p published turns (words_of seed) s)
+full_end p published turns seed s = best_of (is_less (full_rank p published)) s (onward p published turns (random_words seed) s)

@@ -5,7 +5,7 @@ use Rattle.std.specs.List.{best_of, filter, range_with_len}
 use Rattle.tt_plan.specs.Domain.{IsOfDomain}
 use Rattle.tt_bits.specs.declared.times.Value.{Value}
 use Rattle.tt_problem.specs.declared.parts.Parts.{Parts}
-use Rattle.tt_search.specs.Least.{first_least, is_less}
+use Rattle.tt_base.specs.Lists.{first_least, is_less}
 use Rattle.tt_search.specs.Turns.{has_open_value}
 use Rattle.tt_search.specs.declared.price.Price.{Price}
 use Rattle.tt_search.specs.declared.price.Rank.{Rank}

@@ -7,7 +7,7 @@ ghost use Rattle.tt_base.specs.Lists.{comes_before};
 ghost use Rattle.tt_search.specs.Least.{IsFirstLeast};
 ghost use Rattle.tt_search.specs.Full.{full_rank, full_end, moved_in};
 ghost use Rattle.tt_search.specs.MovedNow.{AreMoved};
-ghost use Rattle.tt_search.specs.Searched.{rank_of, way_of, search_end, turns_of, searched, repaired};
+ghost use Rattle.tt_search.specs.Searched.{rank_of, way_of, search_end, turns_made, searched, repaired};
 ghost use Rattle.tt_search.specs.Numbers.{hopeful, IsOpenValue, after_move, rank_numbers};
 ghost use Rattle.tt_search.specs.UnderWay.{IsUnderWay};
 
@@ -88,7 +88,7 @@ fn walk(
     requires step { 0 < length (earlier state.old) }
     requires trail { trail state.old ≡ state.old.present ∷ [] }
     ensures step { IsWithinStep (with_taken state.old []) (with_taken state.new []) }
-    ensures way { IfOk result (λ walked. let aim = option_copied published.entry in let start = state.old in IsUnderWay (full_rank start.problem aim) (trail state.new) [] walked.best walked.made (full_end start.problem aim turns seed start.present) (turns_of start.problem aim turns seed start.present)) }
+    ensures way { IfOk result (λ walked. let aim = option_copied published.entry in let start = state.old in IsUnderWay (full_rank start.problem aim) (trail state.new) [] walked.best walked.made (full_end start.problem aim turns seed start.present) (turns_made start.problem aim turns seed start.present)) }
 {
     let mut words = Lcg64Xsh32::new(seed, 1);
     let mut best = moment(state, moved.count);
@@ -116,7 +116,7 @@ fn seek(
     ensures problem { state.new.problem ≡ state.old.problem }
     ensures earlier { OnOk result (earlier state.new ≡ state.old.present ∷ earlier state.old) }
     ensures end { OnOk result (search_end state.old.problem (option_copied published.entry) turns seed state.old.present ≡ state.new.present) }
-    ensures made { IfOk result (λ made. made ≡ turns_of state.old.problem (option_copied published.entry) turns seed state.old.present) }
+    ensures made { IfOk result (λ made. made ≡ turns_made state.old.problem (option_copied published.entry) turns seed state.old.present) }
     ensures present { OnErr result (state.new.present ≡ state.old.present) }
     ensures entries { OnErr result (state.new.entries ≡ state.old.entries) }
 {

@@ -6,7 +6,7 @@ ghost use Rattle.tt_solution.specs.Timetable.{IsTimetableOf};
 ghost use Rattle.tt_state.specs.Snapshots.{value_in};
 ghost use Rattle.tt_state.specs.Values.{blocked_of, conflicts_of, total_with};
 ghost use Rattle.tt_state.specs.Forced.{forced};
-ghost use Rattle.tt_search.specs.Turns.{is_open, has_open_value, is_unplaced, candidates, drawn, toll_of, weight_of, choice_of, turn_of};
+ghost use Rattle.tt_search.specs.Turns.{is_open, has_open_value, is_unplaced, candidates, drawn, toll_of, weight_of, chosen_value, turn_of};
 ghost use Rattle.tt_search.specs.Full.{full_price, full_choice};
 ghost use Rattle.tt_search.specs.Numbers.{hopeful, price_numbers, least_after, IsOpenValue, IsPriced, after_move, offered};
 
@@ -211,7 +211,7 @@ fn choice(state: &mut State, published: Option<&Published>, class: u32) -> Optio
     ensures problem { state.new.problem ≡ state.old.problem }
     ensures present { state.new.present ≡ state.old.present }
     ensures entries { state.new.entries ≡ state.old.entries }
-    ensures choice { result ≡ choice_of state.old.problem (option_copied published.entry) state.old.present class }
+    ensures choice { result ≡ chosen_value state.old.problem (option_copied published.entry) state.old.present class }
     ensures open { IfSome result (IsOpenValue state.old.problem class) }
 {
     let mut best: Option<Offer> = None;

@@ -4,13 +4,12 @@
 use Rattle.std.specs.Prelude.{ℕ, List, [], ◌∷◌, ◌++◌, Bool, false, ◌==◌, Option, Some, None, Result, Ok, length, map, codes, nat_eq}
 use Rattle.std.specs.Option.{option_map, option_map_or}
 use Rattle.std.specs.List.{list_any, filter, find, range_with_len}
-use Rattle.serde_json.specs.Data.{Data}
 use Rattle.tt_bits.specs.Sets.{days_text, weeks_text}
 use Rattle.tt_problem.specs.declared.parts.Parts.{Parts}
 use Rattle.tt_problem.specs.Valid.{class_ids, student_ids}
-use Rattle.tt_fields.specs.Answer.{Part, Fault, fault, ◌>>=◌}
+use Rattle.tt_fields.specs.Answer.{Part, Fault, ◌>>=◌}
 use Rattle.tt_fields.specs.Kinds.{a_number, a_set, an_object, a_list, a_reference, place_of, required, or_else, optional, new_id, each, list_of}
-use Rattle.tt_fields.specs.Text.{json_of}
+use Rattle.tt_fields.specs.Text.{read_as}
 use Rattle.tt_solution.specs.declared.meeting.Meeting.{Meeting}
 use Rattle.tt_solution.specs.Timetable.{Timetable}
 
@@ -42,8 +41,8 @@ meeting_in c o = do
   Ok (record { days = days; weeks = weeks; start = start; room = room })
 
 -- a listed class, after those that have been read
-unfoldable pub entry_of : Context → Part → Listed → Result Listed Fault
-entry_of c p s = do
+unfoldable pub an_entry : Context → Part → Listed → Result Listed Fault
+an_entry c p s = do
   o ← an_object p
   id ← required (a_number 0 4294967295) (codes "id") o
   ids ← new_id id s.ids o
@@ -62,7 +61,7 @@ unfoldable pub listed_in : Context → Part → Result Listed Fault
 listed_in c p = do
   o ← an_object p
   items ← required (a_list 0 20000) (codes "classes") o
-  each (entry_of c) items no_entries
+  each (an_entry c) items no_entries
 
 -- ---- the timetable
 
@@ -97,7 +96,7 @@ unknown p = record { nr_days = p.nr_days; nr_weeks = p.nr_weeks; classes = None;
 
 -- classes and students are looked up by their ids
 abbrev pub known : Parts → Context
-known p = record { nr_days = p.nr_days; nr_weeks = p.nr_weeks; classes = Some (class_ids p); students = Some (student_ids p) }
+known p = record { nr_days = p.nr_days; nr_weeks = p.nr_weeks; classes = Some (class_ids p.classes); students = Some (student_ids p.students) }
 
 -- the timetable that the whole value has
 unfoldable pub timetable_in : Parts → Part → Result Timetable Fault
@@ -106,11 +105,6 @@ timetable_in p root = do
   listed ← listed_in (known p) root
   Ok (timetable_with p listed.entries)
 
--- bytes without a value have fault 30
-abbrev pub or_no_json : Parts → Option Data → Result Timetable Fault
-or_no_json p None = fault 30 []
-or_no_json p (Some d) = timetable_in p (record { path = []; value = d })
-
 -- the timetable that a published file holds, or its first fault
 unfoldable pub published_of : Parts → List ℕ → Result Timetable Fault
-published_of p bytes = or_no_json p (json_of bytes)
+published_of p bytes = read_as (timetable_in p) bytes

@@ -1,6 +1,7 @@
 -- Places of what is referred to.
 use Rattle.std.proofs.Common.{◌≡◌, ℕ, suc, ◌<◌, ◌≤◌, List, length, Option, Some, None, Result, Ok, Err, refl, sym, ap, ◌∙◌, arith}
 use Rattle.std.specs.Prelude.{IfOk, IfSome, option_map, codes}
+use Rattle.std.specs.Option.{option_map_or}
 use Rattle.std.proofs.lemmas.Result.{IfOk-at_ok}
 use Rattle.serde_json.specs.Data.{Items, no_items, item}
 use Rattle.serde_json.specs.Find.{as_object}
@@ -9,8 +10,8 @@ use Rattle.serde_json.specs.View.{items_view}
 use Rattle.serde_json.specs.declared.value.Value.{Value}
 use Rattle.tt_fields.specs.declared.kinds.Known.{Known}
 use Rattle.tt_fields.specs.Path.{at}
-use Rattle.tt_fields.specs.Answer.{Part, Fault, ◌>>=◌}
-use Rattle.tt_fields.specs.Kinds.{a_number, items_at, place_of, by_kind, a_reference, required, read_or_absent, value_at}
+use Rattle.tt_fields.specs.Answer.{Part, Fault, fault, ◌>>=◌}
+use Rattle.tt_fields.specs.Kinds.{a_number, items_at, place_of, a_reference, required, value_at}
 use Rattle.tt_fields.specs.List.{known_of, IsAmong}
 use Rattle.tt_fields.proofs.Walk.{items_count}
 use Rattle.tt_tree.specs.Context.{HasIds}
@@ -38,11 +39,11 @@ place_unknown p = after IsZero (a_number 0 4294967295 p) _ (λ x is. refl)
 
 required_unknown : (read : Part → Result ℕ Fault) → ((p : Part) → IfOk (read p) IsZero) → (key : List ℕ) (o : Part) → IfOk (required read key o) IsZero
 unfolding required
-required_unknown read h key o = elim (value_at key o) as (λ v. IfOk (read_or_absent read (at o.path key) v) IsZero) [ None ↦ tt | Some p ↦ h p ]
+required_unknown read h key o = elim (value_at key o) as (λ v. IfOk (option_map_or read v (fault 31 (at o.path key))) IsZero) [ None ↦ tt | Some p ↦ h p ]
 
 reference_unknown : (p : Part) → IfOk (a_reference None p) IsZero
 unfolding a_reference
-reference_unknown p = elim (as_object p.value) as (λ ms. IfOk (by_kind None p ms) IsZero) [ None ↦ place_unknown p | Some ms ↦ required_unknown (place_of None) place_unknown (codes "id") p ]
+reference_unknown p = elim (as_object p.value) as (λ ms. IfOk (option_map_or (λ members. required (place_of None) (codes "id") p) ms (place_of None p)) IsZero) [ None ↦ place_unknown p | Some ms ↦ required_unknown (place_of None) place_unknown (codes "id") p ]
 
 below_of : {I : Type 0} (keys : I → List ℕ) (ids : Option I) (n to : ℕ) → 0 < n → IfSome ids (λ x. length (keys x) ≤ n) → IfSome ids (λ x. to < length (keys x))
     → (option_map keys ids ≡ None → to ≡ 0) → to < n

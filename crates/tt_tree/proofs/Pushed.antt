@@ -11,7 +11,7 @@ use Rattle.tt_problem.specs.declared.parts.RoomPart.{RoomPart}
 use Rattle.tt_problem.specs.declared.parts.ClassPart.{ClassPart}
 use Rattle.tt_problem.specs.declared.parts.CoursePart.{CoursePart}
 use Rattle.tt_problem.specs.Spans.{CoversFrom, Covers}
-use Rattle.tt_problem.specs.Valid.{IsValidRoom}
+use Rattle.tt_problem.specs.Valid.{IsValidRoom, room_ids}
 use Rattle.tt_fields.specs.declared.answer.FileFault.{FileFault}
 use Rattle.tt_fields.specs.declared.answer.FileFault.TheVariants as faults
 use Rattle.tt_fields.specs.Answer.{Part, Fault, ◌>>=◌, Fails}
@@ -21,7 +21,7 @@ use Rattle.tt_tree.specs.declared.rooms as rooms
 use Rattle.tt_tree.specs.declared.courses as courses
 use Rattle.tt_tree.specs.Context.{Context}
 use Rattle.tt_tree.specs.Read.{IsTravelAmong, IsRooms, IsClassAmong, AreClasses, IsConfigs, IsTree}
-use Rattle.tt_tree.specs.Tables.{travel_of, closed_of, Rooms, room_of, room_ids, class_ids, course_ids}
+use Rattle.tt_tree.specs.Tables.{a_travel_entry, a_closed_time, Rooms, a_room}
 
 -- a fault of what is read first is the fault of both
 pub fails_on : {A B : Type 0} (e : FileFault) (read : Result A Fault) (f : A → Result B Fault) → Fails e read → Fails e (read >>= f)
@@ -45,19 +45,19 @@ closed_room id rooms travel closed = Ok (record { rooms = rooms ++ record { id =
 
 -- what is left of a room after its travel
 abbrev pub room_rest : Context → ℕ → List RoomPart → Table → Part → Result Rooms Fault
-room_rest c id rooms travel p = or_else [] (a_list 0 1000) (codes "unavailable") p >>= λ unavailable. list_of (closed_of c) unavailable >>= closed_room id rooms travel
+room_rest c id rooms travel p = or_else [] (a_list 0 1000) (codes "unavailable") p >>= λ unavailable. list_of (a_closed_time c) unavailable >>= closed_room id rooms travel
 
 pub room_is : (c : Context) (s : Rooms) (ids more : List ℕ) (from id : ℕ) (p : Part) (now : Table) (entries : List Part)
     → an_object p ≡ Ok p → required (a_number 0 4294967295) (codes "id") p ≡ Ok id → new_id id ids p ≡ Ok more
-    → or_else [] (a_list 0 4000) (codes "travel") p ≡ Ok entries → each (travel_of c from) entries s.travel ≡ Ok now
-    → ids ≡ room_ids s.rooms → length s.rooms ≡ from → room_of c p s ≡ room_rest c id s.rooms now p
-unfolding room_of
+    → or_else [] (a_list 0 4000) (codes "travel") p ≡ Ok entries → each (a_travel_entry c from) entries s.travel ≡ Ok now
+    → ids ≡ room_ids s.rooms → length s.rooms ≡ from → a_room c p s ≡ room_rest c id s.rooms now p
+unfolding a_room
 room_is c s ids more from id p now entries object number new travels read same count =
     then (an_object p) p _ _ object
     (then (required (a_number 0 4294967295) (codes "id") p) id _ _ number
     (then (new_id id (room_ids s.rooms) p) more _ _ (ap (λ (k : List ℕ). new_id id k p) (sym same) ∙ new)
     (then (or_else [] (a_list 0 4000) (codes "travel") p) entries _ _ travels
-    (then (each (travel_of c (length s.rooms)) entries s.travel) now _ _ (ap (λ (n : ℕ). each (travel_of c n) entries s.travel) count ∙ read)
+    (then (each (a_travel_entry c (length s.rooms)) entries s.travel) now _ _ (ap (λ (n : ℕ). each (a_travel_entry c n) entries s.travel) count ∙ read)
     refl))))
 
 pub rooms_push : (c : context.Context.Context) (count : ℕ) (s t : rooms.Rooms.Rooms) (r : RoomPart) → IsRooms c count s → t.rooms.items ≡ s.rooms.items ++ r ∷ []

@@ -1,6 +1,7 @@
 -- How many parts reading courses gives, whatever ids are known.
 use Rattle.std.proofs.Common.{◌≡◌, ℕ, ◌+◌, ◌-◌, List, [], ◌∷◌, length, Bool, true, false, cond, Option, Some, None, Result, Ok, Err, refl, ap, subst, ◌∙◌, sym, arith, length-append, codes}
 use Rattle.std.specs.Prelude.{IfOk, sum_by, nat_lt}
+use Rattle.std.specs.Option.{option_map_or}
 use Rattle.std.proofs.lemmas.List.{length-map}
 use Rattle.std.proofs.lemmas.List.Sums.{sum_by-cons}
 use Rattle.std.proofs.lemmas.Result.{IfOk-at_ok}
@@ -11,10 +12,11 @@ use Rattle.serde_json.specs.View.{items_view}
 use Rattle.serde_json.specs.declared.value.Value.{Value}
 use Rattle.tt_problem.specs.declared.parts.ClassPart.{ClassPart}
 use Rattle.tt_fields.specs.Path.{at, shown}
-use Rattle.tt_fields.specs.Answer.{Part, Fault, ◌>>=◌}
-use Rattle.tt_fields.specs.Kinds.{a_number, an_object, a_list, a_reference, optional, list_of, or_wrong, counted, items_at, required, read_or_absent, value_at, new_id, each}
+use Rattle.tt_fields.specs.Answer.{Part, Fault, fault, ◌>>=◌}
+use Rattle.tt_fields.specs.Kinds.{a_number, an_object, a_list, a_reference, optional, list_of, or_wrong, counted, items_at, required, value_at, new_id, each}
 use Rattle.tt_tree.specs.Context.{Context}
-use Rattle.tt_tree.specs.Tables.{span, no_limit, choice_of, rooms_of, class_of, class_ids, Subparts, subpart_of, Configs, config_of, course_of, course_ids, Tree, no_tree, courses_in}
+use Rattle.tt_problem.specs.Valid.{class_ids, course_ids}
+use Rattle.tt_tree.specs.Tables.{span, no_limit, a_time_choice, rooms_of, a_class, Subparts, a_subpart, Configs, a_config, a_course, Tree, no_tree, courses_in}
 use Rattle.tt_tree.specs.declared.courses as courses
 use Rattle.tt_tree.specs.Read.{subparts_read, configs_read}
 use Rattle.tt_tree.specs.Whole.{HasClasses}
@@ -63,7 +65,7 @@ unfolding required
 list_is most key p o ps is found =
     subst (λ (x : Part). Are (list_at key x) ps) (object_is p o is)
     (IfOk-at_ok (Are (list_at key o)) found
-    (elim (value_at key o) as (λ v. IfOk (read_or_absent (a_list 1 most) (at o.path key) v) (Are (value_items v))) [ None ↦ tt | Some q ↦ a_list_is most q ]))
+    (elim (value_at key o) as (λ v. IfOk (option_map_or (a_list 1 most) v (fault 31 (at o.path key))) (Are (value_items v))) [ None ↦ tt | Some q ↦ a_list_is most q ]))
 
 -- ---- one item after another
 
@@ -90,8 +92,8 @@ none p = 0
 abbrev AreClasses : ℕ → ℕ → List ClassPart → Type 0
 AreClasses n m classes = length classes ≡ n
 
-class_keeps : (c : Context) (n m : ℕ) (p : Part) (s : List ClassPart) → AreClasses n m s → IfOk (class_of c p s) (AreClasses (n + 1) (m + 0))
-unfolding class_of
+class_keeps : (c : Context) (n m : ℕ) (p : Part) (s : List ClassPart) → AreClasses n m s → IfOk (a_class c p s) (AreClasses (n + 1) (m + 0))
+unfolding a_class
 class_keeps c n m p s h =
     after (AreClasses (n + 1) (m + 0)) (an_object p) _ (λ o is.
     after (AreClasses (n + 1) (m + 0)) (required (a_number 0 4294967295) (codes "id") o) _ (λ id is.
@@ -100,12 +102,12 @@ class_keeps c n m p s h =
     after (AreClasses (n + 1) (m + 0)) (optional (a_reference c.classes) (codes "parent") o) _ (λ parent is.
     after (AreClasses (n + 1) (m + 0)) (rooms_of c o) _ (λ rooms is.
     after (AreClasses (n + 1) (m + 0)) (required (a_list 1 1000) (codes "times") o) _ (λ items is.
-    after (AreClasses (n + 1) (m + 0)) (list_of (choice_of c) items) _ (λ times is.
+    after (AreClasses (n + 1) (m + 0)) (list_of (a_time_choice c) items) _ (λ times is.
     omega (arith, length-append s (record { id = id; limit = limit; parent = parent; times = times; rooms = rooms } ∷ []), h)))))))))
 
-classes_are : (c : Context) (items : List Part) (s t : List ClassPart) → each (class_of c) items s ≡ Ok t → length t ≡ length s + length items
+classes_are : (c : Context) (items : List Part) (s t : List ClassPart) → each (a_class c) items s ≡ Ok t → length t ≡ length s + length items
 classes_are c items s t read = IfOk-at_ok (AreClasses (length s + length items) (0 + sum_by none items)) read
-    (each_keeps (class_of c) AreClasses none (class_keeps c) items (length s) 0 s refl)
+    (each_keeps (a_class c) AreClasses none (class_keeps c) items (length s) 0 s refl)
 
 -- ---- subparts of a configuration
 
@@ -117,12 +119,12 @@ record AreSubparts (n m : ℕ) (s : Subparts) : Type 0 where
   count : length s.spans ≡ n
   classes : length s.classes ≡ m
 
-subpart_keeps : (c : Context) (n m : ℕ) (p : Part) (s : Subparts) → AreSubparts n m s → IfOk (subpart_of c p s) (AreSubparts (n + 1) (m + classes_at p))
-unfolding subpart_of
+subpart_keeps : (c : Context) (n m : ℕ) (p : Part) (s : Subparts) → AreSubparts n m s → IfOk (a_subpart c p s) (AreSubparts (n + 1) (m + classes_at p))
+unfolding a_subpart
 subpart_keeps c n m p s h =
     after (AreSubparts (n + 1) (m + classes_at p)) (an_object p) _ (λ o is.
     after (AreSubparts (n + 1) (m + classes_at p)) (required (a_list 1 (20000 - length s.classes)) (codes "classes") o) _ (λ items found.
-    after (AreSubparts (n + 1) (m + classes_at p)) (each (class_of c) items s.classes) _ (λ classes read.
+    after (AreSubparts (n + 1) (m + classes_at p)) (each (a_class c) items s.classes) _ (λ classes read.
     let these : length items ≡ classes_at p = ap (λ (l : List Part). length l) (list_is (20000 - length s.classes) (codes "classes") p o items is found) in
     let more : length classes ≡ length s.classes + length items = classes_are c items s.classes classes read in
     record {
@@ -130,9 +132,9 @@ subpart_keeps c n m p s h =
       classes = omega (arith, more, these, h.classes);
     })))
 
-subparts_are : (c : Context) (items : List Part) (s t : Subparts) → each (subpart_of c) items s ≡ Ok t → AreSubparts (length s.spans + length items) (length s.classes + sum_by classes_at items) t
+subparts_are : (c : Context) (items : List Part) (s t : Subparts) → each (a_subpart c) items s ≡ Ok t → AreSubparts (length s.spans + length items) (length s.classes + sum_by classes_at items) t
 subparts_are c items s t read = IfOk-at_ok (AreSubparts (length s.spans + length items) (length s.classes + sum_by classes_at items)) read
-    (each_keeps (subpart_of c) AreSubparts classes_at (subpart_keeps c) items (length s.spans) (length s.classes) s (record { count = refl; classes = refl }))
+    (each_keeps (a_subpart c) AreSubparts classes_at (subpart_keeps c) items (length s.spans) (length s.classes) s (record { count = refl; classes = refl }))
 
 -- ---- configurations of a course
 
@@ -144,12 +146,12 @@ record AreConfigs (n m : ℕ) (s : Configs) : Type 0 where
   count : length s.spans ≡ n
   classes : length s.subparts.classes ≡ m
 
-config_keeps : (c : Context) (n m : ℕ) (p : Part) (s : Configs) → AreConfigs n m s → IfOk (config_of c p s) (AreConfigs (n + 1) (m + subparts_at p))
-unfolding config_of
+config_keeps : (c : Context) (n m : ℕ) (p : Part) (s : Configs) → AreConfigs n m s → IfOk (a_config c p s) (AreConfigs (n + 1) (m + subparts_at p))
+unfolding a_config
 config_keeps c n m p s h =
     after (AreConfigs (n + 1) (m + subparts_at p)) (an_object p) _ (λ o is.
     after (AreConfigs (n + 1) (m + subparts_at p)) (required (a_list 1 no_limit) (codes "subparts") o) _ (λ items found.
-    after (AreConfigs (n + 1) (m + subparts_at p)) (each (subpart_of c) items s.subparts) _ (λ subparts read.
+    after (AreConfigs (n + 1) (m + subparts_at p)) (each (a_subpart c) items s.subparts) _ (λ subparts read.
     let these : sum_by classes_at items ≡ subparts_at p = ap (sum_by classes_at) (list_is no_limit (codes "subparts") p o items is found) in
     let more : length subparts.classes ≡ length s.subparts.classes + sum_by classes_at items = (subparts_are c items s.subparts subparts read).classes in
     record {
@@ -157,9 +159,9 @@ config_keeps c n m p s h =
       classes = omega (arith, more, these, h.classes);
     })))
 
-configs_are : (c : Context) (items : List Part) (s t : Configs) → each (config_of c) items s ≡ Ok t → AreConfigs (length s.spans + length items) (length s.subparts.classes + sum_by subparts_at items) t
+configs_are : (c : Context) (items : List Part) (s t : Configs) → each (a_config c) items s ≡ Ok t → AreConfigs (length s.spans + length items) (length s.subparts.classes + sum_by subparts_at items) t
 configs_are c items s t read = IfOk-at_ok (AreConfigs (length s.spans + length items) (length s.subparts.classes + sum_by subparts_at items)) read
-    (each_keeps (config_of c) AreConfigs subparts_at (config_keeps c) items (length s.spans) (length s.subparts.classes) s (record { count = refl; classes = refl }))
+    (each_keeps (a_config c) AreConfigs subparts_at (config_keeps c) items (length s.spans) (length s.subparts.classes) s (record { count = refl; classes = refl }))
 
 -- ---- courses
 
@@ -171,14 +173,14 @@ record AreCourses (n m : ℕ) (t : Tree) : Type 0 where
   count : length t.courses ≡ n
   classes : length t.configs.subparts.classes ≡ m
 
-course_keeps : (c : Context) (n m : ℕ) (p : Part) (s : Tree) → AreCourses n m s → IfOk (course_of c p s) (AreCourses (n + 1) (m + configs_at p))
-unfolding course_of
+course_keeps : (c : Context) (n m : ℕ) (p : Part) (s : Tree) → AreCourses n m s → IfOk (a_course c p s) (AreCourses (n + 1) (m + configs_at p))
+unfolding a_course
 course_keeps c n m p s h =
     after (AreCourses (n + 1) (m + configs_at p)) (an_object p) _ (λ o is.
     after (AreCourses (n + 1) (m + configs_at p)) (required (a_number 0 4294967295) (codes "id") o) _ (λ id number.
     after (AreCourses (n + 1) (m + configs_at p)) (new_id id (course_ids s.courses) o) _ (λ more new.
     after (AreCourses (n + 1) (m + configs_at p)) (required (a_list 1 no_limit) (codes "configs") o) _ (λ items found.
-    after (AreCourses (n + 1) (m + configs_at p)) (each (config_of c) items s.configs) _ (λ configs read.
+    after (AreCourses (n + 1) (m + configs_at p)) (each (a_config c) items s.configs) _ (λ configs read.
     let these : sum_by subparts_at items ≡ configs_at p = ap (sum_by subparts_at) (list_is no_limit (codes "configs") p o items is found) in
     let grown : length configs.subparts.classes ≡ length s.configs.subparts.classes + sum_by subparts_at items = (configs_are c items s.configs configs read).classes in
     record {
@@ -189,22 +191,22 @@ course_keeps c n m p s h =
 courses_are : (c : Context) (items : List Part) (t : Tree) → courses_in c items ≡ Ok t → AreCourses (0 + length items) (0 + sum_by configs_at items) t
 unfolding courses_in
 courses_are c items t is = IfOk-at_ok (AreCourses (0 + length items) (0 + sum_by configs_at items)) is
-    (each_keeps (course_of c) AreCourses configs_at (course_keeps c) items 0 0 no_tree (record { count = refl; classes = refl }))
+    (each_keeps (a_course c) AreCourses configs_at (course_keeps c) items 0 0 no_tree (record { count = refl; classes = refl }))
 
 -- ---- what readers cite
 
 -- as many classes are read as there are items
-pub more_classes : (c : Context) (path : List ℕ) (vs : List Value) (s t : List ClassPart) → each (class_of c) (items_at path 0 (items_view vs)) s ≡ Ok t → length t ≡ length s + length vs
+pub more_classes : (c : Context) (path : List ℕ) (vs : List Value) (s t : List ClassPart) → each (a_class c) (items_at path 0 (items_view vs)) s ≡ Ok t → length t ≡ length s + length vs
 more_classes c path vs s t read = omega (arith, classes_are c (items_at path 0 (items_view vs)) s t read, items_length path 0 vs)
 
 -- as many subparts are read as there are items
 pub more_subparts : (c : Context) (path : List ℕ) (vs : List Value) (s t : courses.Subparts.Subparts)
-    → each (subpart_of c) (items_at path 0 (items_view vs)) (subparts_read s) ≡ Ok (subparts_read t) → length t.spans.items ≡ length s.spans.items + length vs
+    → each (a_subpart c) (items_at path 0 (items_view vs)) (subparts_read s) ≡ Ok (subparts_read t) → length t.spans.items ≡ length s.spans.items + length vs
 more_subparts c path vs s t read = omega (arith, (subparts_are c (items_at path 0 (items_view vs)) (subparts_read s) (subparts_read t) read).count, items_length path 0 vs)
 
 -- as many configurations are read as there are items
 pub more_configs : (c : Context) (path : List ℕ) (vs : List Value) (s t : courses.Configs.Configs)
-    → each (config_of c) (items_at path 0 (items_view vs)) (configs_read s) ≡ Ok (configs_read t) → length t.spans.items ≡ length s.spans.items + length vs
+    → each (a_config c) (items_at path 0 (items_view vs)) (configs_read s) ≡ Ok (configs_read t) → length t.spans.items ≡ length s.spans.items + length vs
 more_configs c path vs s t read = omega (arith, (configs_are c (items_at path 0 (items_view vs)) (configs_read s) (configs_read t) read).count, items_length path 0 vs)
 
 -- as many courses are read as there are items

@@ -6,7 +6,7 @@ ghost use Rattle.tt_fields.specs.Answer.{Reads, Gives, part_of};
 ghost use Rattle.tt_fields.specs.List.{items_of};
 ghost use Rattle.tt_tree.specs.Context.{context_of, IsContext};
 ghost use Rattle.tt_tree.specs.Read.{classes_read, subparts_read, configs_read, tree_read, IsChoiceAmong, IsClassAmong, AreClasses, IsSubparts, IsConfigs, IsTree};
-ghost use Rattle.tt_tree.specs.Tables.{room_choice_of, rooms_where, rooms_of, class_of, span, subpart_of, config_of, course_of, courses_in, Subparts as SubpartsSeen, Configs as ConfigsSeen, Tree as TreeSeen};
+ghost use Rattle.tt_tree.specs.Tables.{a_room_choice, rooms_where, rooms_of, a_class, span, a_subpart, a_config, a_course, courses_in, Subparts as SubpartsSeen, Configs as ConfigsSeen, Tree as TreeSeen};
 ghost use Rattle.tt_tree.specs.Whole.{HasClasses};
 
 use crate::context::Context;
@@ -49,10 +49,10 @@ pub struct Tree {
 }
 
 /// A room of a class, with its penalty. Faults: 31, 32 and 34.
-#[tactic(auto, unfolding(crate::specs::Tables::room_choice_of))]
+#[tactic(auto, unfolding(crate::specs::Tables::a_room_choice))]
 fn read_room_choice<'a>(context: &Context<'_>, item: &'a Part<'a>) -> Result<RoomChoice, Fault<'a>>
     requires { IsContext context.now }
-    ensures reads { Reads (λ choice. choice) result (room_choice_of (context_of context.now) (part_of item.now)) }
+    ensures reads { Reads (λ choice. choice) result (a_room_choice (context_of context.now) (part_of item.now)) }
     ensures valid { IfOk result (λ choice. IsChoiceAmong context.now.rooms choice) }
 {
     as_object(item)?;
@@ -63,7 +63,7 @@ fn read_room_choice<'a>(context: &Context<'_>, item: &'a Part<'a>) -> Result<Roo
 
 /// A room of a class.
 impl ItemTable<RoomChoice> for Context<'_> {
-    ghost reads = { λ c. room_choice_of (context_of c) };
+    ghost reads = { λ c. a_room_choice (context_of c) };
 
     ghost valid = { λ c room. IsChoiceAmong c.rooms room };
 
@@ -117,13 +117,13 @@ impl NextTable<Classes> for Context<'_> {
 
     ghost seen = { classes_read };
 
-    ghost reads = { λ c. class_of (context_of c) };
+    ghost reads = { λ c. a_class (context_of c) };
 
     ghost most = { λ c. 20000 };
 
     ghost valid = { λ c place s. IsContext c × AreClasses c s };
 
-    #[tactic(auto, using(crate::proofs::Pushed::classes_push), unfolding(crate::specs::Tables::class_of))]
+    #[tactic(auto, using(crate::proofs::Pushed::classes_push), unfolding(crate::specs::Tables::a_class))]
     fn read_next(
         &self,
         alloc: Global,
@@ -172,13 +172,13 @@ impl NextTable<Subparts> for Context<'_> {
 
     ghost seen = { subparts_read };
 
-    ghost reads = { λ c. subpart_of (context_of c) };
+    ghost reads = { λ c. a_subpart (context_of c) };
 
     ghost most = { λ c. 2 ^ 64 };
 
     ghost valid = { λ c place s. IsContext c × IsSubparts c s };
 
-    #[tactic(auto, using(crate::proofs::Whole::more_classes), unfolding(crate::specs::Tables::subpart_of))]
+    #[tactic(auto, using(crate::proofs::Whole::more_classes), unfolding(crate::specs::Tables::a_subpart))]
     fn read_next(
         &self,
         alloc: Global,
@@ -200,13 +200,13 @@ impl NextTable<Configs> for Context<'_> {
 
     ghost seen = { configs_read };
 
-    ghost reads = { λ c. config_of (context_of c) };
+    ghost reads = { λ c. a_config (context_of c) };
 
     ghost most = { λ c. 2 ^ 64 };
 
     ghost valid = { λ c place s. IsContext c × IsConfigs c s };
 
-    #[tactic(auto, using(crate::proofs::Whole::more_subparts), unfolding(crate::specs::Tables::config_of))]
+    #[tactic(auto, using(crate::proofs::Whole::more_subparts), unfolding(crate::specs::Tables::a_config))]
     fn read_next(
         &self,
         alloc: Global,
@@ -228,13 +228,13 @@ impl NextTable<Tree> for Context<'_> {
 
     ghost seen = { tree_read };
 
-    ghost reads = { λ c. course_of (context_of c) };
+    ghost reads = { λ c. a_course (context_of c) };
 
     ghost most = { λ c. 2 ^ 64 };
 
     ghost valid = { λ c place t. IsContext c × IsTree c t };
 
-    #[tactic(auto, using(crate::proofs::Whole::more_configs, crate::proofs::Pushed::tree_push), unfolding(crate::specs::Tables::course_of))]
+    #[tactic(auto, using(crate::proofs::Whole::more_configs, crate::proofs::Pushed::tree_push), unfolding(crate::specs::Tables::a_course))]
     fn read_next(
         &self,
         alloc: Global,

@@ -6,7 +6,7 @@ ghost use Rattle.tt_fields.specs.Answer.{Reads, Gives, part_of};
 ghost use Rattle.tt_fields.specs.List.{items_of};
 ghost use Rattle.tt_tree.specs.Context.{context_of, IsContext, HasIds};
 ghost use Rattle.tt_tree.specs.Read.{rooms_read, IsTravelAmong, IsRooms};
-ghost use Rattle.tt_tree.specs.Tables.{travel_of, room_of, rooms_in, Rooms as RoomsSeen};
+ghost use Rattle.tt_tree.specs.Tables.{a_travel_entry, a_room, rooms_in, Rooms as RoomsSeen};
 
 use crate::context::Context;
 use indexmap::IndexSet;
@@ -37,7 +37,7 @@ struct EntryTable<'a> {
 }
 
 /// Enters a travel that a room has. Faults: 31, 32 and 34.
-#[tactic(auto, unfolding(crate::specs::Tables::travel_of))]
+#[tactic(auto, unfolding(crate::specs::Tables::a_travel_entry))]
 fn enter_travel<'a>(
     entries: &EntryTable<'_>,
     item: &'a Part<'a>,
@@ -47,7 +47,7 @@ fn enter_travel<'a>(
     requires room { entries.now.from < entries.now.count }
     requires among { IsTravelAmong entries.now.context entries.now.count travel.old }
     ensures reads { Reads (λ _. travel.new) result
-        (travel_of (context_of entries.now.context) entries.now.from (part_of item.now) travel.old) }
+        (a_travel_entry (context_of entries.now.context) entries.now.from (part_of item.now) travel.old) }
     ensures among { OnOk result (IsTravelAmong entries.now.context entries.now.count travel.new) }
 {
     as_object(item)?;
@@ -62,7 +62,7 @@ impl NextTable<Travel> for EntryTable<'_> {
 
     ghost seen = { λ travel. travel };
 
-    ghost reads = { λ t. travel_of (context_of t.context) t.from };
+    ghost reads = { λ t. a_travel_entry (context_of t.context) t.from };
 
     ghost most = { λ t. 4000 };
 
@@ -91,13 +91,13 @@ impl NextTable<Rooms> for RoomTable<'_> {
 
     ghost seen = { rooms_read };
 
-    ghost reads = { λ t. room_of (context_of t.context) };
+    ghost reads = { λ t. a_room (context_of t.context) };
 
     ghost most = { λ t. t.count };
 
     ghost valid = { λ t place s. IsContext t.context × IsRooms t.context t.count s × (length s.rooms.items ≡ place) };
 
-    #[tactic(auto, using(crate::proofs::Pushed::rooms_push), unfolding(crate::specs::Tables::room_of))]
+    #[tactic(auto, using(crate::proofs::Pushed::rooms_push), unfolding(crate::specs::Tables::a_room))]
     fn read_next(
         &self,
         alloc: Global,

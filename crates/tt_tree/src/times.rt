@@ -2,7 +2,7 @@ ghost use Rattle.std.specs.Prelude.{IfOk};
 ghost use Rattle.tt_problem.specs.Valid.{IsTimeOf, IsValidTime};
 ghost use Rattle.tt_fields.specs.Answer.{Reads, part_of};
 ghost use Rattle.tt_tree.specs.Context.{context_of, IsContext};
-ghost use Rattle.tt_tree.specs.Tables.{length_after, time_in, choice_of, closed_of};
+ghost use Rattle.tt_tree.specs.Tables.{length_after, time_in, a_time_choice, a_closed_time};
 
 use crate::context::Context;
 use std::alloc::Global;
@@ -41,10 +41,10 @@ fn read_time<'a>(context: &Context<'_>, object: &'a Part<'a>) -> Result<Time, Fa
 }
 
 /// A time of a class, with its penalty. Faults: 31, 32, 35 and 36.
-#[tactic(auto, unfolding(crate::specs::Tables::choice_of))]
+#[tactic(auto, unfolding(crate::specs::Tables::a_time_choice))]
 fn read_time_choice<'a>(context: &Context<'_>, item: &'a Part<'a>) -> Result<TimeChoice, Fault<'a>>
     requires { IsContext context.now }
-    ensures reads { Reads (λ choice. choice) result (choice_of (context_of context.now) (part_of item.now)) }
+    ensures reads { Reads (λ choice. choice) result (a_time_choice (context_of context.now) (part_of item.now)) }
     ensures valid { IfOk result (λ choice. IsValidTime context.now.nr_days context.now.nr_weeks choice) }
 {
     as_object(item)?;
@@ -55,7 +55,7 @@ fn read_time_choice<'a>(context: &Context<'_>, item: &'a Part<'a>) -> Result<Tim
 
 /// A time of a class.
 impl ItemTable<TimeChoice> for Context<'_> {
-    ghost reads = { λ c. choice_of (context_of c) };
+    ghost reads = { λ c. a_time_choice (context_of c) };
 
     ghost valid = { λ c time. IsValidTime c.nr_days c.nr_weeks time };
 
@@ -67,10 +67,10 @@ impl ItemTable<TimeChoice> for Context<'_> {
 }
 
 /// An unavailable time of a room. Faults: 31, 32, 35 and 36.
-#[tactic(auto, unfolding(crate::specs::Tables::closed_of))]
+#[tactic(auto, unfolding(crate::specs::Tables::a_closed_time))]
 fn read_closed<'a>(context: &Context<'_>, item: &'a Part<'a>) -> Result<Time, Fault<'a>>
     requires { IsContext context.now }
-    ensures reads { Reads (λ t. t) result (closed_of (context_of context.now) (part_of item.now)) }
+    ensures reads { Reads (λ t. t) result (a_closed_time (context_of context.now) (part_of item.now)) }
     ensures within { IfOk result (λ t. IsTimeOf context.now.nr_days context.now.nr_weeks t) }
 {
     as_object(item)?;
@@ -79,7 +79,7 @@ fn read_closed<'a>(context: &Context<'_>, item: &'a Part<'a>) -> Result<Time, Fa
 
 /// An unavailable time of a room.
 impl ItemTable<Time> for Context<'_> {
-    ghost reads = { λ c. closed_of (context_of c) };
+    ghost reads = { λ c. a_closed_time (context_of c) };
 
     ghost valid = { λ c time. IsTimeOf c.nr_days c.nr_weeks time };
 

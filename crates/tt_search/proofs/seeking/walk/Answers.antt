@@ -4,7 +4,7 @@ use Rattle.rand_core.specs.Steps.{stream_of, steps_u32}
 use Rattle.rand_pcg.specs.Pcg.{pcg32}
 use Rattle.tt_state.specs.History.{IsWithinStep, earlier, trail, with_taken}
 use Rattle.tt_search.specs.Turns.{turn_of}
-use Rattle.tt_search.specs.Searched.{onward, words_of}
+use Rattle.tt_search.specs.Searched.{onward, random_words}
 use Rattle.tt_search.specs.Full.{full_rank, full_end}
 use Rattle.tt_search.specs.MovedNow.{AreMoved}
 use Rattle.tt_search.proofs.MovedLemmas.{moved_is, moved_forced}
@@ -22,7 +22,7 @@ loop-made-init c =
     record {
       step = within_same (with_taken start []);
       moved = c.requires.moved;
-      way = rw (whole, words) (start_way (full_rank start.problem aim) start.present (trail start) (onward start.problem aim c.args.turns (words_of c.args.seed) start.present) c.moment-best.result c.requires.trail (c.moment-best.ensures.rank aim (moved_is start.problem aim start.present c.args.moved.now c.requires.belongs c.requires.moved)) c.moment-best.ensures.mark);
+      way = rw (whole, words) (start_way (full_rank start.problem aim) start.present (trail start) (onward start.problem aim c.args.turns (random_words c.args.seed) start.present) c.moment-best.result c.requires.trail (c.moment-best.ensures.rank aim (moved_is start.problem aim start.present c.args.moved.now c.requires.belongs c.requires.moved)) c.moment-best.ensures.mark);
     }
 
 pub next_move-requires-clause-hopeful : goal.next_move-requires-clause-hopeful
