@@ -1,7 +1,7 @@
 ghost use Rattle.std.specs.Prelude.{◌≡◌, ℕ, ◌+◌, ◌<◌, ◌≤◌, [], Some, None, IfOk, IfSome, cond, length, option_and_then, slice_index, false, nat_eq};
 ghost use Rattle.std.specs.Option.{option_map_or};
 ghost use Rattle.tt_plan.specs.Domain.{IsOfDomain, spot_at_value, spots_of};
-ghost use Rattle.tt_score.specs.Kept.{IsPlanOf};
+ghost use Rattle.tt_score.specs.Plans.{IsPlanOf};
 ghost use Rattle.tt_roster.specs.Kept.{IsRosterOf};
 ghost use Rattle.tt_base.specs.Lists.{is_listed};
 ghost use Rattle.tt_roster.specs.Lists.{Ascends, list_of};

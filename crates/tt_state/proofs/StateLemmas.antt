@@ -9,7 +9,8 @@ use Rattle.tt_problem.specs.declared.parts.Parts.{Parts}
 use Rattle.tt_roster.specs.Lists.{Ascends, list_of}
 use Rattle.tt_roster.proofs.KeptLemmas.{list_is}
 use Rattle.tt_score.specs.declared.score.Score.{Score}
-use Rattle.tt_score.specs.Kept.{Fits, IsPlanOf, plan_of, seats_of}
+use Rattle.tt_score.specs.Fits.{Fits, plan_of, lists_of}
+use Rattle.tt_score.specs.Plans.{IsPlanOf}
 use Rattle.tt_score.proofs.BoundLemmas.{IsPlanOf-put, IsPlanOf-take}
 use Rattle.tt_cbs.specs.KeyOrder.{key_cmp}
 use Rattle.tt_cbs.specs.Counts.{count_at}
@@ -138,26 +139,26 @@ none_counted : (counts : FinMap key_cmp ℕ) (key : Key) → counts ≡ empty �
 none_counted counts key is some = let zero_is : count_at counts key ≡ 0 = ap (λ m. count_at m key) is ∙ count_empty key in absurd (omega arith)
 
 -- a state before its first step
-pub start_state : (p : Parts) (score : Score) (counts : FinMap key_cmp ℕ) (es : List Entry) → Fits p score → seats_of score ≡ replicate (length p.students) [] → counts ≡ empty → es ≡ [] → IsStateOf p score counts 0 es
+pub start_state : (p : Parts) (score : Score) (counts : FinMap key_cmp ℕ) (es : List Entry) → Fits p score → lists_of score ≡ replicate (length p.students) [] → counts ≡ empty → es ≡ [] → IsStateOf p score counts 0 es
 start_state p score counts es fits seats uncounted none = record {
   kept = record { fits = fits; entries = subst (LeadBack p (snapshot_of score counts)) (sym none) tt; counted = uncounted ∙ sym (ap counts_of none); points_is = sym (ap point_count none) };
   sound = record {
     plan = fits.kept.planned;
-    lists = lists_empty p (seats_of score) seats;
+    lists = lists_empty p (lists_of score) seats;
     statistics = record { value = λ key some. absurd (none_counted counts key uncounted some); other_value = λ key some. absurd (none_counted counts key uncounted some) };
   };
 }
 
 -- a class got another value or none, by an entry on those of a step
 pub placed_leads : (p : Parts) (before after : Score) (counts : FinMap key_cmp ℕ) (es fs : List Entry) (class : ℕ) (v : Option Value) → StandsOn p (snapshot_of before counts) es → MayHave p class v
-    → plan_of after ≡ slice_set (plan_of before) class v → seats_of after ≡ seats_of before → fs ≡ Placed class (slice_index_or (plan_of before) class None) ∷ es → LeadsTo p (snapshot_of before counts) es (snapshot_of after counts) fs
+    → plan_of after ≡ slice_set (plan_of before) class v → lists_of after ≡ lists_of before → fs ≡ Placed class (slice_index_or (plan_of before) class None) ∷ es → LeadsTo p (snapshot_of before counts) es (snapshot_of after counts) fs
 placed_leads p before after counts es fs class v on may plan lists is =
     let s = snapshot_of before counts in
     rw (same_snapshot (snapshot_of after counts) (with_value s class v) plan lists refl, is) (placed p s es class v on may)
 
 -- a student got a list in place of another, by entries on those of a step
 pub filled_leads : (p : Parts) (before after : Score) (counts : FinMap key_cmp ℕ) (es fs : List Entry) (student : ℕ) (classes : List ℕ) → StandsOn p (snapshot_of before counts) es → Fits p before → student < length p.students → MayGet p (snapshot_of before counts) student classes
-    → plan_of after ≡ plan_of before → seats_of after ≡ slice_set (seats_of before) student (in_order classes) → fs ≡ seated_by student (in_order classes) (left_by student (list_of (seats_of before) student) es) → LeadsTo p (snapshot_of before counts) es (snapshot_of after counts) fs
+    → plan_of after ≡ plan_of before → lists_of after ≡ slice_set (lists_of before) student (in_order classes) → fs ≡ seated_by student (in_order classes) (left_by student (list_of (lists_of before) student) es) → LeadsTo p (snapshot_of before counts) es (snapshot_of after counts) fs
 filled_leads p before after counts es fs student classes on fits within may plan lists is =
     let s = snapshot_of before counts in
     rw (same_snapshot (snapshot_of after counts) (with_list s student (in_order classes)) plan lists refl, is) (filled p s es student classes on (list_held p before counts student fits within) may)
@@ -167,7 +168,7 @@ pub state_after : (p : Parts) (after : Score) (counts : FinMap key_cmp ℕ) (poi
 state_after p after counts points s es fs fits leads points_is = state_by p after counts points s (snapshot_of after counts) es fs fs fits leads refl refl points_is
 
 -- a state whose score was asked, and has the plan and the lists that it had
-pub asked_state : (p : Parts) (before after : Score) (counts : FinMap key_cmp ℕ) (points : ℕ) (es : List Entry) → IsStateOf p before counts points es → Fits p after → plan_of after ≡ plan_of before → seats_of after ≡ seats_of before → IsStateOf p after counts points es
+pub asked_state : (p : Parts) (before after : Score) (counts : FinMap key_cmp ℕ) (points : ℕ) (es : List Entry) → IsStateOf p before counts points es → Fits p after → plan_of after ≡ plan_of before → lists_of after ≡ lists_of before → IsStateOf p after counts points es
 asked_state p before after counts points es of fits plan lists =
     let same : snapshot_of after counts ≡ snapshot_of before counts = same_snapshot (snapshot_of after counts) (snapshot_of before counts) plan lists refl in
     record {

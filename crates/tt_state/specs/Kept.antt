@@ -6,7 +6,7 @@ use Rattle.tt_problem.specs.Seats.{most_seats}
 use Rattle.tt_base.specs.Lists.{is_listed}
 use Rattle.tt_roster.specs.Lists.{list_of}
 use Rattle.tt_score.specs.declared.score.Score.{Score}
-use Rattle.tt_score.specs.Kept.{Fits, plan_of, seats_of}
+use Rattle.tt_score.specs.Fits.{Fits, plan_of, lists_of}
 use Rattle.tt_cbs.specs.KeyOrder.{key_cmp}
 use Rattle.tt_cbs.specs.Counts.{bumped}
 use Rattle.tt_journal.specs.declared.Entry.{Entry}
@@ -52,7 +52,7 @@ counts_of (entry ∷ es) = counts_of es
 
 -- the present snapshot
 abbrev pub snapshot_of : Score → FinMap key_cmp ℕ → Snapshot
-snapshot_of s counts = record { plan = plan_of s; lists = seats_of s; statistics = counts }
+snapshot_of s counts = record { plan = plan_of s; lists = lists_of s; statistics = counts }
 
 -- All that a state keeps is of one problem, and its entries lead back from its snapshot and raised its statistics.
 pub record IsKept (p : Parts) (s : Score) (counts : FinMap key_cmp ℕ) (points : ℕ) (es : List Entry) : Type 0 where

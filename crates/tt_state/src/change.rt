@@ -1,5 +1,5 @@
 ghost use Rattle.std.specs.Prelude.{◌≡◌, ◌+◌, ◌<◌, ◌≤◌, ◌^◌, ◌∷◌, None, length, slice_index_or, slice_set};
-ghost use Rattle.tt_score.specs.Kept.{Fits, plan_of, seats_of};
+ghost use Rattle.tt_score.specs.Fits.{Fits, plan_of, lists_of};
 ghost use Rattle.tt_roster.specs.Lists.{list_of, with_class, without_class};
 ghost use Rattle.tt_state.specs.History.{point_count};
 ghost use Rattle.tt_state.specs.Kept.{MayLeave, MaySeat};
@@ -52,7 +52,7 @@ fn clear(problem: &Problem, score: &mut Score, class: u32)
     requires fits { Fits problem.now score.old }
     requires within { class < length problem.now.classes }
     ensures plan { plan_of score.new ≡ slice_set (plan_of score.old) class None }
-    ensures lists { seats_of score.new ≡ seats_of score.old }
+    ensures lists { lists_of score.new ≡ lists_of score.old }
     ensures fits { Fits problem.now score.new }
 {
     if value_now(score, class).is_some() {
@@ -65,7 +65,7 @@ pub fn set_value(problem: &Problem, score: &mut Score, class: u32, to: Option<Va
     requires fits { Fits problem.now score.old }
     requires may { MayHave problem.now class to }
     ensures plan { plan_of score.new ≡ slice_set (plan_of score.old) class to }
-    ensures lists { seats_of score.new ≡ seats_of score.old }
+    ensures lists { lists_of score.new ≡ lists_of score.old }
     ensures fits { Fits problem.now score.new }
 {
     clear(problem, score, class);
@@ -77,9 +77,9 @@ pub fn set_value(problem: &Problem, score: &mut Score, class: u32, to: Option<Va
 /// Gives a student a class more.
 pub fn seat(problem: &Problem, score: &mut Score, student: u32, class: u32)
     requires fits { Fits problem.now score.old }
-    requires may { MaySeat problem.now (seats_of score.old) student class }
+    requires may { MaySeat problem.now (lists_of score.old) student class }
     ensures plan { plan_of score.new ≡ plan_of score.old }
-    ensures lists { seats_of score.new ≡ slice_set (seats_of score.old) student (with_class class (list_of (seats_of score.old) student)) }
+    ensures lists { lists_of score.new ≡ slice_set (lists_of score.old) student (with_class class (list_of (lists_of score.old) student)) }
     ensures fits { Fits problem.now score.new }
 {
     score.seat(problem, student, class);
@@ -88,9 +88,9 @@ pub fn seat(problem: &Problem, score: &mut Score, student: u32, class: u32)
 /// Takes a class from a student.
 pub fn leave(problem: &Problem, score: &mut Score, student: u32, class: u32)
     requires fits { Fits problem.now score.old }
-    requires may { MayLeave problem.now (seats_of score.old) student class }
+    requires may { MayLeave problem.now (lists_of score.old) student class }
     ensures plan { plan_of score.new ≡ plan_of score.old }
-    ensures lists { seats_of score.new ≡ slice_set (seats_of score.old) student (without_class class (list_of (seats_of score.old) student)) }
+    ensures lists { lists_of score.new ≡ slice_set (lists_of score.old) student (without_class class (list_of (lists_of score.old) student)) }
     ensures fits { Fits problem.now score.new }
 {
     score.leave(problem, student, class);
@@ -108,7 +108,7 @@ pub fn change(
     requires may { MayHave problem.now class to }
     requires spare { 1 ≤ journal.old.spare }
     ensures plan { plan_of score.new ≡ slice_set (plan_of score.old) class to }
-    ensures lists { seats_of score.new ≡ seats_of score.old }
+    ensures lists { lists_of score.new ≡ lists_of score.old }
     ensures fits { Fits problem.now score.new }
     ensures entries { journal.new.list ≡ Entry.Placed class (slice_index_or (plan_of score.old) class None) ∷ journal.old.list }
     ensures spare { journal.new.spare + 1 ≡ journal.old.spare }

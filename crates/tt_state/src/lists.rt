@@ -1,5 +1,5 @@
 ghost use Rattle.std.specs.Prelude.{◌≡◌, ◌+◌, ◌<◌, ◌≤◌, ◌∷◌, [], All, MatchOption, drop, length, slice_set, true};
-ghost use Rattle.tt_score.specs.Kept.{Fits, plan_of, seats_of};
+ghost use Rattle.tt_score.specs.Fits.{Fits, plan_of, lists_of};
 ghost use Rattle.tt_roster.specs.Lists.{list_of};
 ghost use Rattle.tt_struct.specs.Enrolments.{has_no_repeat};
 ghost use Rattle.tt_state.specs.Seats.{may_have};
@@ -15,7 +15,7 @@ use tt_score::Score;
 fn seat_count(problem: &Problem, score: &Score, student: u32) -> u32
     requires fits { Fits problem.now score.now }
     requires student { student < length problem.now.students }
-    ensures count { result ≡ length (list_of (seats_of score.now) student) }
+    ensures count { result ≡ length (list_of (lists_of score.now) student) }
     ensures few { result ≤ 20000 }
 {
     problem.validity();
@@ -28,18 +28,18 @@ fn seat_count(problem: &Problem, score: &Score, student: u32) -> u32
 
 /// The first class of a student.
 pub fn first_class(score: &Score, student: u32) -> Option<u32>
-    requires { student < length (seats_of score.now) }
-    ensures { MatchOption result (list_of (seats_of score.now) student ≡ []) (λ class. list_of (seats_of score.now) student ≡ class ∷ drop 1 (list_of (seats_of score.now) student)) }
+    requires { student < length (lists_of score.now) }
+    ensures { MatchOption result (list_of (lists_of score.now) student ≡ []) (λ class. list_of (lists_of score.now) student ≡ class ∷ drop 1 (list_of (lists_of score.now) student)) }
 {
     score.roster().classes(student).next()
 }
 
 /// Notes that a student leaves each class, from the front of the list.
 fn note_left(score: &Score, journal: &mut Journal, student: u32)
-    requires student { student < length (seats_of score.now) }
-    requires spare { length (list_of (seats_of score.now) student) ≤ journal.old.spare }
-    ensures entries { journal.new.list ≡ left_by student (list_of (seats_of score.now) student) journal.old.list }
-    ensures spare { journal.new.spare + length (list_of (seats_of score.now) student) ≡ journal.old.spare }
+    requires student { student < length (lists_of score.now) }
+    requires spare { length (list_of (lists_of score.now) student) ≤ journal.old.spare }
+    ensures entries { journal.new.list ≡ left_by student (list_of (lists_of score.now) student) journal.old.list }
+    ensures spare { journal.new.spare + length (list_of (lists_of score.now) student) ≡ journal.old.spare }
 {
     for class in score.roster().classes(student) {
         journal.push(Entry::Left { student, class });
@@ -48,9 +48,9 @@ fn note_left(score: &Score, journal: &mut Journal, student: u32)
 
 /// Notes that a student got a seat in each class, from the front of the list.
 fn note_seated(score: &Score, journal: &mut Journal, student: u32)
-    requires student { student < length (seats_of score.now) }
-    requires spare { length (list_of (seats_of score.now) student) ≤ journal.old.spare }
-    ensures entries { journal.new.list ≡ seated_by student (list_of (seats_of score.now) student) journal.old.list }
+    requires student { student < length (lists_of score.now) }
+    requires spare { length (list_of (lists_of score.now) student) ≤ journal.old.spare }
+    ensures entries { journal.new.list ≡ seated_by student (list_of (lists_of score.now) student) journal.old.list }
 {
     for class in score.roster().classes(student) {
         journal.push(Entry::Seated { student, class });
@@ -62,7 +62,7 @@ fn leave_all(problem: &Problem, score: &mut Score, student: u32)
     requires fits { Fits problem.now score.old }
     requires student { student < length problem.now.students }
     ensures plan { plan_of score.new ≡ plan_of score.old }
-    ensures lists { seats_of score.new ≡ slice_set (seats_of score.old) student [] }
+    ensures lists { lists_of score.new ≡ slice_set (lists_of score.old) student [] }
     ensures fits { Fits problem.now score.new }
 {
     while let Some(class) = first_class(score, student) {
@@ -77,9 +77,9 @@ fn seat_all(problem: &Problem, score: &mut Score, student: u32, classes: &[u32])
     requires classes { All (λ class. class < length problem.now.classes) classes.now }
     requires no_repeat { has_no_repeat classes.now ≡ true }
     requires few { length classes.now ≤ most_at problem.now student }
-    requires none { list_of (seats_of score.old) student ≡ [] }
+    requires none { list_of (lists_of score.old) student ≡ [] }
     ensures plan { plan_of score.new ≡ plan_of score.old }
-    ensures lists { seats_of score.new ≡ slice_set (seats_of score.old) student (in_order classes.now) }
+    ensures lists { lists_of score.new ≡ slice_set (lists_of score.old) student (in_order classes.now) }
     ensures fits { Fits problem.now score.new }
 {
     let mut place = classes.len();
@@ -95,7 +95,7 @@ pub fn entry_count(problem: &Problem, score: &Score, student: u32, classes: &[u3
     requires fits { Fits problem.now score.now }
     requires student { student < length problem.now.students }
     requires valid { may_have problem.now student classes.now ≡ true }
-    ensures { result ≡ length (list_of (seats_of score.now) student) + length classes.now + 1 }
+    ensures { result ≡ length (list_of (lists_of score.now) student) + length classes.now + 1 }
 {
     seat_count(problem, score, student) + classes.len() as u32 + 1
 }
@@ -113,11 +113,11 @@ pub fn replace_list(
     requires student { student < length problem.now.students }
     requires classes { All (λ class. class < length problem.now.classes) classes.now }
     requires valid { may_have problem.now student classes.now ≡ true }
-    requires spare { length (list_of (seats_of score.old) student) + length classes.now ≤ journal.old.spare }
+    requires spare { length (list_of (lists_of score.old) student) + length classes.now ≤ journal.old.spare }
     ensures plan { plan_of score.new ≡ plan_of score.old }
-    ensures lists { seats_of score.new ≡ slice_set (seats_of score.old) student (in_order classes.now) }
+    ensures lists { lists_of score.new ≡ slice_set (lists_of score.old) student (in_order classes.now) }
     ensures fits { Fits problem.now score.new }
-    ensures entries { journal.new.list ≡ seated_by student (in_order classes.now) (left_by student (list_of (seats_of score.old) student) journal.old.list) }
+    ensures entries { journal.new.list ≡ seated_by student (in_order classes.now) (left_by student (list_of (lists_of score.old) student) journal.old.list) }
 {
     note_left(score, journal, student);
     leave_all(problem, score, student);

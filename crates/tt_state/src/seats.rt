@@ -1,5 +1,5 @@
 ghost use Rattle.std.specs.Prelude.{◌≡◌, ◌<◌, All, Some, None, length, slice_get};
-ghost use Rattle.tt_score.specs.Kept.{Fits, seats_of};
+ghost use Rattle.tt_score.specs.Fits.{Fits, lists_of};
 ghost use Rattle.tt_base.specs.Lists.{is_listed};
 ghost use Rattle.tt_roster.specs.Lists.{list_of};
 ghost use Rattle.tt_state.specs.Seats.{first_without_seat, has_seat, others_with};
@@ -20,8 +20,8 @@ pub enum SectionFault {
 
 /// Whether a student has a class.
 fn has_class(score: &Score, student: u32, class: u32) -> bool
-    requires { student < length (seats_of score.now) }
-    ensures { result ≡ is_listed class (list_of (seats_of score.now) student) }
+    requires { student < length (lists_of score.now) }
+    ensures { result ≡ is_listed class (list_of (lists_of score.now) student) }
 {
     for other in score.roster().classes(student) {
         if class == other {
@@ -33,8 +33,8 @@ fn has_class(score: &Score, student: u32, class: u32) -> bool
 
 /// How many other students have a class.
 fn others_with(score: &Score, student: u32, class: u32) -> u32
-    requires { student < length (seats_of score.now) }
-    ensures { result ≡ others_with (seats_of score.now) student class }
+    requires { student < length (lists_of score.now) }
+    ensures { result ≡ others_with (lists_of score.now) student class }
 {
     let count = score.roster().count(class);
     if has_class(score, student, class) {
@@ -46,9 +46,9 @@ fn others_with(score: &Score, student: u32, class: u32) -> u32
 
 /// Whether a class has a seat for a student.
 fn has_seat(problem: &Problem, score: &Score, student: u32, class: u32) -> bool
-    requires student { student < length (seats_of score.now) }
+    requires student { student < length (lists_of score.now) }
     requires class { class < length problem.now.classes }
-    ensures { result ≡ has_seat problem.now (seats_of score.now) student class }
+    ensures { result ≡ has_seat problem.now (lists_of score.now) student class }
 {
     match problem.class(class).limit {
         None => true,
@@ -63,9 +63,9 @@ fn first_without_seat(
     student: u32,
     classes: &[u32],
 ) -> Option<u32>
-    requires student { student < length (seats_of score.now) }
+    requires student { student < length (lists_of score.now) }
     requires classes { All (λ class. class < length problem.now.classes) classes.now }
-    ensures { result ≡ first_without_seat problem.now (seats_of score.now) student classes.now }
+    ensures { result ≡ first_without_seat problem.now (lists_of score.now) student classes.now }
 {
     for class in classes {
         if !has_seat(problem, score, student, *class) {
@@ -85,7 +85,7 @@ pub fn section_fault(
     requires fits { Fits problem.now score.now }
     requires student { student < length problem.now.students }
     requires classes { All (λ class. class < length problem.now.classes) classes.now }
-    ensures { result ≡ section_fault_of problem.now (seats_of score.now) student classes.now }
+    ensures { result ≡ section_fault_of problem.now (lists_of score.now) student classes.now }
 {
     if !is_enrolment(problem, student, classes) {
         return Some(SectionFault::Invalid);
@@ -106,7 +106,7 @@ pub fn list_fault(
     requires fits { Fits problem.now score.now }
     requires student { student < length problem.now.students }
     requires classes { All (λ class. class < length problem.now.classes) classes.now }
-    ensures { result ≡ list_fault_of problem.now (seats_of score.now) student classes.now }
+    ensures { result ≡ list_fault_of problem.now (lists_of score.now) student classes.now }
 {
     if classes.is_empty() {
         return None;

@@ -1,6 +1,6 @@
 ghost use Rattle.std.specs.Prelude.{◌≡◌, All, ◌+◌, ◌<◌, ◌∷◌, ◌++◌, [], ℕ, None, Some, Err, ◌↔◌, IfOk, IfErr, OnOk, OnErr, false, true, length, replicate, slice_get, take};
 ghost use Rattle.tt_plan.specs.Domain.{IsOfDomain};
-ghost use Rattle.tt_score.specs.Kept.{Fits, plan_of, seats_of};
+ghost use Rattle.tt_score.specs.Fits.{Fits, plan_of, lists_of};
 ghost use Rattle.tt_score.specs.Totals.{totals_of};
 ghost use Rattle.tt_struct.specs.Enrolments.{is_enrolment};
 ghost use Rattle.tt_state.specs.Values.{MayHave};
@@ -123,7 +123,7 @@ impl Empty {
     /// Nothing placed, no student with a class, and a mark and a place for each class.
     fn new(alloc: Global, problem: &Problem) -> Result<Empty, AllocError>
         ensures plan { IfOk result (λ e. plan_of e.score ≡ replicate (length problem.now.classes) None) }
-        ensures seats { IfOk result (λ e. seats_of e.score ≡ replicate (length problem.now.students) []) }
+        ensures seats { IfOk result (λ e. lists_of e.score ≡ replicate (length problem.now.students) []) }
         ensures fits { IfOk result (λ e. Fits problem.now e.score) }
         ensures marks { IfOk result (λ e. e.marks.items ≡ replicate (length problem.now.classes) false) }
         ensures order { IfOk result (λ e. e.order.items ≡ replicate (length problem.now.classes) 0) }
@@ -446,7 +446,7 @@ impl State {
     /// The score of the present plan and lists.
     pub fn score(&self) -> &Score
         ensures plan { plan_of result.now ≡ self.now.present.plan }
-        ensures lists { seats_of result.now ≡ self.now.present.lists }
+        ensures lists { lists_of result.now ≡ self.now.present.lists }
         ensures fits { Fits self.now.problem result.now }
     {
         &self.score

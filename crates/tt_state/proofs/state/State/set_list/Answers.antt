@@ -1,7 +1,7 @@
 use Rattle.std.proofs.Common.{◌≡◌, ◌∙◌, ◌<◌, None, length, true, ap, sym, subst}
 use Rattle.std.specs.Prelude.{All}
 use Rattle.tt_roster.specs.Lists.{list_of}
-use Rattle.tt_score.specs.Kept.{seats_of}
+use Rattle.tt_score.specs.Fits.{lists_of}
 use Rattle.tt_state.specs.Snapshots.{in_order}
 use Rattle.tt_state.specs.Seats.{first_without_seat, may_have}
 use Rattle.tt_state.specs.History.{Held, point_count, left_by, seated_by}
@@ -24,7 +24,7 @@ leads c =
     let seats = subst (λ (h : Held). first_without_seat h.problem h.present.lists student classes ≡ None) back c.requires.seats in
     let begins = subst (λ (h : Held). MayBegin c.args.beginning h.entries) back c.requires.begins in
     let begun_is = c.begin_change.ensures.entries ∙ ap (begun c.args.beginning) c.reserve.ensures.list in
-    let noted = c.replace_list.ensures.entries ∙ ap (λ l. seated_by student (in_order classes) (left_by student (list_of (seats_of i.score) student) l)) begun_is in
+    let noted = c.replace_list.ensures.entries ∙ ap (λ l. seated_by student (in_order classes) (left_by student (list_of (lists_of i.score) student) l)) begun_is in
     filled_leads i.problem i.score c.replace_list.new.score i.statistics (begun c.args.beginning i.journal.list) c.replace_list.new.journal.list student classes
     (on_beginning c.args.beginning i.problem i.score i.statistics i.points i.journal.list c.self.invariant.0 begins) c.self.invariant.0.kept.fits within (record { all = all; valid = valid; seats = seats }) c.replace_list.ensures.plan c.replace_list.ensures.lists noted
 
