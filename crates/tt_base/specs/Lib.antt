@@ -2,3 +2,4 @@ pub mod Sets
 pub mod Facts
 pub mod Among
 pub mod Lists
+pub mod Limits

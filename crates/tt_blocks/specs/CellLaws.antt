@@ -4,7 +4,8 @@ use Rattle.std.specs.Prelude.{◌+ℤ◌, slice_set, replicate, nat_le, filter}
 use Rattle.std.proofs.lemmas.Bool.{cases_Bool}
 use Rattle.std.proofs.lemmas.List.Sums.{count_by-le-length}
 use Rattle.tt_bits.specs.declared.times.Spot.{Spot}
-use Rattle.tt_measure.specs.Limits.{most_members, most_weeks}
+use Rattle.tt_base.specs.Limits.{most_members}
+use Rattle.tt_measure.specs.Limits.{most_weeks}
 use Rattle.tt_bits.specs.Spots.{IsEmptyAt, placed}
 use Rattle.tt_measure.specs.Cells.{stands_in, cell_of, rise_in}
 use Rattle.tt_measure.specs.Blocks.{in_order, insert_by_start, is_head, blocks_after, is_too_long, blocks_of}
@@ -68,7 +69,7 @@ amount_over-most rule weeks h =
 
 -- so many members and weeks as a rule has make few
 pub few_amounts : (weeks n : ℕ) → weeks ≤ most_weeks → n ≤ most_members → n * weeks * 7 < 2 ^ 62
-few_amounts weeks n short few = let product : n * weeks ≤ 2000 * 128 = grind arith in omega arith
+few_amounts weeks n short few = let product : n * weeks ≤ most_members * most_weeks = grind arith in omega arith
 
 -- the greatest amount of a group by its shape
 pub small_by_shape : (rule : CellRule) (members weeks : ℕ) → members ≤ most_members → weeks ≤ most_weeks → members * weeks_of (cell_shape rule members weeks) * 7 < 2 ^ 62

@@ -2,7 +2,8 @@
 ghost use Rattle.std.specs.Prelude.{◌≡◌, ℕ, ◌+◌, ◌-◌, ◌*◌, ◌<◌, ◌≤◌, ◌^◌, pos, Some, None, IfOk, IfSome, length, replicate, slice_set, List, [], ◌∷◌, Option};
 ghost use Rattle.tt_travel.specs.Table.{Table};
 ghost use Rattle.tt_bits.specs.declared.times.Spot.{Spot};
-ghost use Rattle.tt_measure.specs.Limits.{most_members, most_weeks};
+ghost use Rattle.tt_base.specs.Limits.{most_members};
+ghost use Rattle.tt_measure.specs.Limits.{most_weeks, max_breaks_number, max_block_number};
 ghost use Rattle.tt_measure.specs.Blocks.{breaks_in, breaks_over, long_in, long_blocks};
 ghost use Rattle.tt_measure.specs.Cells.{rise_in, sum_in};
 ghost use Rattle.tt_blocks.specs.Amounts.{amount_in};
@@ -114,7 +115,7 @@ impl CellGroup<OnBreaks> {
         requires links { links < 2 ^ 32 - 1 }
         ensures held { IfOk result (λ g. ⟦<BreaksGroup as Measure>⟧.held g ≡ replicate members None) }
         ensures weeks { IfOk result (λ g. ⟦<BreaksGroup as Measure>⟧.weeks g ≡ weeks) }
-        ensures shape { IfOk result (λ g. ⟦<BreaksGroup as Measure>⟧.shape g ≡ 17 ∷ breaks ∷ gap ∷ members ∷ weeks ∷ []) }
+        ensures shape { IfOk result (λ g. ⟦<BreaksGroup as Measure>⟧.shape g ≡ max_breaks_number ∷ breaks ∷ gap ∷ members ∷ weeks ∷ []) }
         ensures spare { IfOk result (λ g. ⟦<BreaksGroup as Measure>⟧.spare g ≡ Some links) }
         // Its amounts are the breaks above those allowed.
         ensures sum { IfOk result (λ g. (t : Table) (h : List (Option Spot)) →
@@ -146,7 +147,7 @@ impl CellGroup<OnBlocks> {
         requires links { links < 2 ^ 32 - 1 }
         ensures held { IfOk result (λ g. ⟦<BlockGroup as Measure>⟧.held g ≡ replicate members None) }
         ensures weeks { IfOk result (λ g. ⟦<BlockGroup as Measure>⟧.weeks g ≡ weeks) }
-        ensures shape { IfOk result (λ g. ⟦<BlockGroup as Measure>⟧.shape g ≡ 18 ∷ most ∷ gap ∷ members ∷ weeks ∷ []) }
+        ensures shape { IfOk result (λ g. ⟦<BlockGroup as Measure>⟧.shape g ≡ max_block_number ∷ most ∷ gap ∷ members ∷ weeks ∷ []) }
         ensures spare { IfOk result (λ g. ⟦<BlockGroup as Measure>⟧.spare g ≡ Some links) }
         ensures sum { IfOk result (λ g. (t : Table) (h : List (Option Spot)) →
             ⟦<BlockGroup as Measure>⟧.sum (⟦<BlockGroup as Measure>⟧.shape g) t h ≡ long_blocks most gap weeks h) }

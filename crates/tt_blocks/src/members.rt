@@ -3,7 +3,8 @@ ghost use Rattle.std.specs.Prelude.{◌≡◌, ◌<◌, ◌≤◌, ◌+◌, ◌^
 ghost use Rattle.tt_bits.specs.Spots.{spot_at, IsEmptyAt};
 ghost use Rattle.tt_measure.specs.Cells.{seven_days, stands_in, cell_of, sum_in};
 ghost use Rattle.tt_blocks.specs.Amounts.{amount_in};
-ghost use Rattle.tt_measure.specs.Limits.{most_members, most_weeks};
+ghost use Rattle.tt_base.specs.Limits.{most_members};
+ghost use Rattle.tt_measure.specs.Limits.{most_weeks};
 ghost use Rattle.tt_blocks.specs.Order.{entries_of, place_in, others_in};
 ghost use Rattle.tt_blocks.specs.Counting.{counted_all};
 

@@ -2,6 +2,7 @@
 -- Places are looked up among the ids of classes and courses, where these are known.
 use Rattle.std.specs.Prelude.{ℕ, List, [], ◌∷◌, ◌++◌, Bool, true, false, Option, Result, Ok, codes, nat_eq, if◌then◌else◌}
 use Rattle.std.specs.List.{list_any}
+use Rattle.tt_base.specs.Limits.{most_members}
 use Rattle.tt_fields.specs.Answer.{Part, Fault, ◌>>=◌}
 use Rattle.tt_fields.specs.Kinds.{a_number, a_truth, a_text, an_object, a_list, a_reference, or_fault, required, or_else, new_id, each, list_of}
 use Rattle.tt_problem.specs.declared.parts.DistKind.{DistKind}
@@ -36,7 +37,7 @@ a_rule classes p = do
   kind ← required a_type (codes "type") o
   is_required ← or_else false a_truth (codes "required") o
   penalty ← penalty_unless is_required o
-  items ← required (a_list 0 2000) (codes "classes") o
+  items ← required (a_list 0 most_members) (codes "classes") o
   members ← members_in classes items
   Ok (record { kind = kind; required = is_required; penalty = penalty; members = members })
 

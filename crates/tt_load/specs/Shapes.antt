@@ -1,14 +1,14 @@
 -- Groups of rules on days and slots as numbers.
 use Rattle.std.specs.Prelude.{ℕ, List, [], ◌∷◌, slice_index}
-use Rattle.tt_measure.specs.Limits.{most_weeks}
+use Rattle.tt_measure.specs.Limits.{most_weeks, max_days_number, max_day_load_number}
 
 -- the kind among the nineteen, the most days, the number of members and the weeks
 abbrev pub days_shape : ℕ → ℕ → List ℕ
-days_shape most members = 15 ∷ most ∷ members ∷ most_weeks ∷ []
+days_shape most members = max_days_number ∷ most ∷ members ∷ most_weeks ∷ []
 
 -- the kind among the nineteen, the most slots, the number of members and the weeks
 abbrev pub load_shape : ℕ → ℕ → ℕ → List ℕ
-load_shape most members weeks = 16 ∷ most ∷ members ∷ weeks ∷ []
+load_shape most members weeks = max_day_load_number ∷ most ∷ members ∷ weeks ∷ []
 
 -- the most that a shape allows
 abbrev pub most_of : List ℕ → ℕ

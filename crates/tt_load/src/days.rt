@@ -2,7 +2,8 @@
 ghost use Rattle.std.specs.Prelude.{◌≡◌, ℕ, ◌-◌, ◌<◌, ◌≤◌, ◌+◌, slice_index, Some, None, IfOk, length, replicate, List, [], ◌∷◌, Option};
 ghost use Rattle.tt_travel.specs.Table.{Table};
 ghost use Rattle.tt_bits.specs.declared.times.Spot.{Spot};
-ghost use Rattle.tt_measure.specs.Limits.{most_members, most_weeks};
+ghost use Rattle.tt_base.specs.Limits.{most_members};
+ghost use Rattle.tt_measure.specs.Limits.{most_weeks, max_days_number};
 ghost use Rattle.tt_measure.specs.Cells.{days_over};
 ghost use Rattle.tt_measure.proofs.HeldLemmas.{AreBelow-all};
 ghost use Rattle.tt_load.specs.Rises.{days_rise};
@@ -39,7 +40,7 @@ impl DaysGroup {
         requires { members ≤ most_members }
         ensures held { IfOk result (λ g. ⟦<DaysGroup as Measure>⟧.held g ≡ replicate members None) }
         ensures weeks { IfOk result (λ g. ⟦<DaysGroup as Measure>⟧.weeks g ≡ most_weeks) }
-        ensures shape { IfOk result (λ g. ⟦<DaysGroup as Measure>⟧.shape g ≡ 15 ∷ most ∷ members ∷ most_weeks ∷ []) }
+        ensures shape { IfOk result (λ g. ⟦<DaysGroup as Measure>⟧.shape g ≡ max_days_number ∷ most ∷ members ∷ most_weeks ∷ []) }
         ensures spare { IfOk result (λ g. ⟦<DaysGroup as Measure>⟧.spare g ≡ None) }
         // Its amounts are the days above those allowed.
         ensures sum { IfOk result (λ g. (t : Table) (h : List (Option Spot)) →

@@ -2,7 +2,8 @@
 ghost use Rattle.std.specs.Prelude.{◌≡◌, ℕ, ◌+◌, ◌-◌, ◌*◌, ◌≤◌, ◌<◌, ◌^◌, ◌∷◌, [], pos, Some, None, IfOk, length, replicate, sum_by, slice_index, List, Option, if◌then◌else◌};
 ghost use Rattle.tt_bits.specs.declared.times.Spot.{Spot};
 ghost use Rattle.tt_travel.specs.Table.{Table};
-ghost use Rattle.tt_measure.specs.Limits.{most_members, most_weeks};
+ghost use Rattle.tt_base.specs.Limits.{most_members};
+ghost use Rattle.tt_measure.specs.Limits.{most_weeks, max_day_load_number};
 ghost use Rattle.tt_measure.specs.Cells.{seven_days, stands_in, over_cells_of, load_over};
 ghost use Rattle.tt_load.specs.Rises.{excess_rise, load_rise};
 ghost use Rattle.tt_load.specs.Kept.{load_at, slots_in};
@@ -42,7 +43,7 @@ impl LoadGroup {
         requires weeks { (1 ≤ weeks) × (weeks ≤ most_weeks) }
         ensures held { IfOk result (λ g. ⟦<LoadGroup as Measure>⟧.held g ≡ replicate members None) }
         ensures weeks { IfOk result (λ g. ⟦<LoadGroup as Measure>⟧.weeks g ≡ weeks) }
-        ensures shape { IfOk result (λ g. ⟦<LoadGroup as Measure>⟧.shape g ≡ 16 ∷ most ∷ members ∷ weeks ∷ []) }
+        ensures shape { IfOk result (λ g. ⟦<LoadGroup as Measure>⟧.shape g ≡ max_day_load_number ∷ most ∷ members ∷ weeks ∷ []) }
         ensures spare { IfOk result (λ g. ⟦<LoadGroup as Measure>⟧.spare g ≡ None) }
         // Its amounts are the slots above those allowed.
         ensures sum { IfOk result (λ g. (t : Table) (h : List (Option Spot)) →

@@ -6,7 +6,7 @@ use Rattle.tt_base.proofs.AmongLemmas.{twice-pairs}
 use Rattle.tt_bits.specs.declared.pairs.PairKind.{PairKind}
 use Rattle.tt_bits.specs.declared.times.Spot.{Spot}
 use Rattle.tt_travel.specs.Table.{Table}
-use Rattle.tt_measure.specs.Limits.{most_members}
+use Rattle.tt_base.specs.Limits.{most_members}
 use Rattle.tt_bits.specs.Spots.{IsEmptyAt, placed}
 use Rattle.tt_bits.proofs.SpotLemmas.{length-placed, count-placed-set}
 use Rattle.tt_pair.specs.ViolatedPairs.{is_violated, violated_pairs, violated_with}
@@ -39,4 +39,4 @@ violated_pairs-most kind t h = omega (arith, twice-pairs (is_violated kind t) (p
 
 -- so many members as a rule has make few pairs
 pub few_pairs : (n : ℕ) → n ≤ most_members → n * (n - 1) / 2 < 2 ^ 62
-few_pairs n few = let product : n * (n - 1) ≤ 2000 * 2000 = grind arith in omega arith
+few_pairs n few = let product : n * (n - 1) ≤ most_members * most_members = grind arith in omega arith

@@ -6,7 +6,8 @@ ghost use Rattle.std.specs.Prelude.{◌≡◌, ℕ, ◌+◌, ◌-◌, ◌*◌, �
 ghost use Rattle.std.specs.Option.{option_map_or};
 ghost use Rattle.tt_travel.specs.Table.{Table, IsRoomOf};
 ghost use Rattle.tt_bits.specs.declared.times.Spot.{Spot};
-ghost use Rattle.tt_measure.specs.Limits.{most_members, most_weeks};
+ghost use Rattle.tt_base.specs.Limits.{most_members};
+ghost use Rattle.tt_measure.specs.Limits.{most_weeks};
 ghost use Rattle.tt_bits.specs.Spots.{placed};
 ghost use Rattle.tt_measure.specs.Held.{AreRoomsOf};
 ghost use Rattle.tt_pair.specs.ViolatedPairs.{is_violated, violated_pairs, violated_with};

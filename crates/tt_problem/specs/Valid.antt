@@ -1,6 +1,7 @@
 -- Which parts make a problem.
 use Rattle.std.specs.Prelude.{◌≡◌, ℕ, ◌<◌, ◌≤◌, ◌^◌, List, length, All, IfSome, map, nat_eq}
 use Rattle.std.specs.List.{IsDistinct}
+use Rattle.tt_base.specs.Limits.{most_members}
 use Rattle.tt_bits.specs.declared.times.Time.{Time}
 use Rattle.tt_bits.specs.Sets.{day_set, week_set}
 use Rattle.tt_problem.specs.declared.parts.Weights.{Weights}
@@ -53,7 +54,7 @@ pub record IsValidChoice (p : Parts) (r : RoomChoice) : Type 0 where
 
 -- the rule has at most 2,000 members, each of them a class, and no class twice
 pub record IsValidRule (p : Parts) (r : Rule) : Type 0 where
-  pub few : length r.members ≤ 2000
+  pub few : length r.members ≤ most_members
   pub classes : All (λ class. class < length p.classes) r.members
   pub distinct : IsDistinct nat_eq r.members
   pub penalty : r.penalty ≤ 1000000

@@ -1,6 +1,7 @@
 //! Sums over the parts of a problem, for telling whether they are within its limits. None takes memory.
 
 ghost use Rattle.std.specs.Prelude.{◌≡◌, ◌≤◌, ◌<◌, All, length};
+ghost use Rattle.tt_base.specs.Limits.{most_members};
 ghost use Rattle.tt_problem.specs.Spans.{Covers, IsSpanWithin};
 ghost use Rattle.tt_problem.specs.Valid.{IsValidRule, IsValidStudent, course_spans};
 ghost use Rattle.tt_problem.specs.Seats.{most_of_course, most_subparts, most_seats};
@@ -43,7 +44,7 @@ pub fn cells_of(parts: &Parts) -> u32
 /// How many members all rules have together.
 pub fn member_count(parts: &Parts) -> u32
     requires few { length parts.now.rules ≤ 20000 }
-    requires short { All (λ r. length r.members ≤ 2000) parts.now.rules }
+    requires short { All (λ r. length r.members ≤ most_members) parts.now.rules }
     ensures { result ≡ member_count parts.now }
 {
     let mut count = 0;
@@ -76,7 +77,7 @@ pub fn cells_at(parts: &Parts, class: u32) -> u32
 /// The most cells that the members of a rule take together.
 #[tactic(auto, unfolding(crate::specs::Sums::links_of_rule))]
 pub fn links_of_rule(parts: &Parts, rule: &Rule) -> u32
-    requires short { length rule.now.members ≤ 2000 }
+    requires short { length rule.now.members ≤ most_members }
     requires classes { All (λ class. class < length parts.now.classes) rule.now.members }
     ensures links { result ≡ links_of_rule parts.now rule.now }
     ensures few { result ≤ 1792000 }

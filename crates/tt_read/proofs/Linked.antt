@@ -5,6 +5,7 @@ use Rattle.std.specs.List.{IsDistinct}
 use Rattle.std.proofs.lemmas.Option.{IfSome_then}
 use Rattle.std.proofs.lemmas.List.{length-map}
 use Rattle.std.proofs.lemmas.List.Elements.{All-weaker}
+use Rattle.tt_base.specs.Limits.{most_members}
 use Rattle.tt_problem.specs.declared.parts.RoomChoice.{RoomChoice}
 use Rattle.tt_problem.specs.declared.parts.ClassPart.{ClassPart}
 use Rattle.tt_problem.specs.declared.parts.Rule.{Rule}
@@ -91,7 +92,7 @@ linked s c k r t rules students shape same courses_known ok_rooms room_count ok_
       few_classes = ok_subparts.few_classes;
       few_rules = omega (arith, rule_count, shape.few_distributions);
       rules = rules_valid;
-      short = All-weaker (IsRuleAmong c.classes) (λ (x : Rule). length x.members ≤ 2000) (λ x h. h.few) rules ok_rules;
+      short = All-weaker (IsRuleAmong c.classes) (λ (x : Rule). length x.members ≤ most_members) (λ x h. h.few) rules ok_rules;
       courses = ok_tree.courses;
       configs = ok_configs.spans;
       few_subparts = ok_subparts.few;

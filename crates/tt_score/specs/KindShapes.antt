@@ -2,7 +2,7 @@
 use Rattle.std.proofs.Common.{◌≡◌, ℕ, ◌-◌, List, length, refl, ap}
 use Rattle.std.specs.Prelude.{◌==◌, nat_lt, slice_index, if◌then◌else◌}
 use Rattle.std.proofs.lemmas.Bool.{lt-ltb}
-use Rattle.tt_measure.specs.Limits.{most_weeks}
+use Rattle.tt_measure.specs.Limits.{most_weeks, max_days_number, max_day_load_number, max_breaks_number}
 use Rattle.tt_pair.specs.PairShapes.{kind_number, pair_shape, kind_of}
 use Rattle.tt_pair.proofs.ShapeLemmas.{kind_number-few, kind_of-pair_shape}
 use Rattle.tt_load.specs.Shapes.{days_shape, load_shape}
@@ -22,10 +22,10 @@ kind_shape (MaxBlock most gap) weeks members = cell_shape (Block most gap) membe
 -- the kind that a shape names
 unfoldable pub shape_kind : List ℕ → DistKind
 shape_kind sh =
-    if nat_lt (slice_index sh 0) 15 then Pair (kind_of sh)
-    else if slice_index sh 0 == 15 then MaxDays (slice_index sh 1)
-    else if slice_index sh 0 == 16 then MaxDayLoad (slice_index sh 1)
-    else if slice_index sh 0 == 17 then MaxBreaks (slice_index sh 1) (slice_index sh 2)
+    if nat_lt (slice_index sh 0) max_days_number then Pair (kind_of sh)
+    else if slice_index sh 0 == max_days_number then MaxDays (slice_index sh 1)
+    else if slice_index sh 0 == max_day_load_number then MaxDayLoad (slice_index sh 1)
+    else if slice_index sh 0 == max_breaks_number then MaxBreaks (slice_index sh 1) (slice_index sh 2)
     else MaxBlock (slice_index sh 1) (slice_index sh 2)
 
 -- the weeks that a shape names
@@ -35,7 +35,7 @@ shape_weeks sh = slice_index sh (length sh - 1)
 -- a shape names its kind
 pub shape_kind-of : (kind : DistKind) (weeks members : ℕ) → shape_kind (kind_shape kind weeks members) ≡ kind
 unfolding shape_kind
-shape_kind-of (Pair kind) weeks members = rw (lt-ltb (kind_number kind) 15 (kind_number-few kind)) (ap Pair (kind_of-pair_shape kind members))
+shape_kind-of (Pair kind) weeks members = rw (lt-ltb (kind_number kind) max_days_number (kind_number-few kind)) (ap Pair (kind_of-pair_shape kind members))
 shape_kind-of (MaxDays most) weeks members = refl
 shape_kind-of (MaxDayLoad most) weeks members = refl
 shape_kind-of (MaxBreaks breaks gap) weeks members = refl
