@@ -14,10 +14,10 @@ fn rules_in(alloc: Global, known: &Known<'_>, text: &str) -> Result<Row<Rule>, F
     requires { IsFew known.now }
 {
     let value = parsed(alloc, text)?;
-    rules_in(alloc, known, &whole(alloc, &value))
+    rules_at(alloc, known, &whole(alloc, &value))
 }
 
-fn rules_in(alloc: Global, known: &Known<'_>, whole: &Part<'_>) -> Result<Row<Rule>, FileFault>
+fn rules_at(alloc: Global, known: &Known<'_>, whole: &Part<'_>) -> Result<Row<Rule>, FileFault>
     requires { IsFew known.now }
 {
     let items = list(whole, "d", 0, 9)?;
@@ -115,10 +115,10 @@ fn students_in(alloc: Global, known: &Known<'_>, text: &str) -> Result<Row<Stude
     requires { IsFew known.now }
 {
     let value = parsed(alloc, text)?;
-    students_in(alloc, known, &whole(alloc, &value))
+    students_at(alloc, known, &whole(alloc, &value))
 }
 
-fn students_in(
+fn students_at(
     alloc: Global,
     known: &Known<'_>,
     whole: &Part<'_>,

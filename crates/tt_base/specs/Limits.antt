@@ -1,4 +1,4 @@
--- The limits that several crates share.
+-- A limit that several crates share.
 use Rattle.std.specs.Prelude.{ℕ}
 
 -- the most members that a distribution has

@@ -1,4 +1,4 @@
--- Numbers in lists, and the order of lists.
+-- Numbers in lists, the order of lists, and the least of a list.
 use Rattle.std.specs.Prelude.{ℕ, Bool, List, [], ◌∷◌, Option, Some, None, nat_eq}
 use Rattle.std.specs.Cmp.Lexicographic.{slice_cmp}
 use Rattle.std.specs.List.{best_of, list_any}
@@ -12,15 +12,11 @@ is_listed n list = list_any (nat_eq n) list
 abbrev pub comes_before : List ℕ → List ℕ → Bool
 comes_before xs ys = is_lt (slice_cmp nat_cmp xs ys)
 
--- the first of a list that nothing in it is less than, and none where the list is empty
-abbrev pub least : {A : Type 0} → (A → A → Bool) → List A → Option A
-least less [] = None
-least less (x ∷ xs) = Some (best_of less x xs)
-
 -- x comes before y by its numbers
 abbrev pub is_less : {A : Type 0} → (A → List ℕ) → A → A → Bool
 is_less numbers x y = comes_before (numbers x) (numbers y)
 
 -- the first of a list that is least by its numbers, and none where the list is empty
 abbrev pub first_least : {A : Type 0} → (A → List ℕ) → List A → Option A
-first_least numbers xs = least (is_less numbers) xs
+first_least numbers [] = None
+first_least numbers (x ∷ xs) = Some (best_of (is_less numbers) x xs)

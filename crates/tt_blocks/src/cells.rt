@@ -3,7 +3,8 @@ ghost use Rattle.std.specs.Prelude.{◌≡◌, ℕ, ◌+◌, ◌-◌, ◌*◌, �
 ghost use Rattle.tt_travel.specs.Table.{Table};
 ghost use Rattle.tt_bits.specs.declared.times.Spot.{Spot};
 ghost use Rattle.tt_base.specs.Limits.{most_members};
-ghost use Rattle.tt_measure.specs.Limits.{most_weeks, max_breaks_number, max_block_number};
+ghost use Rattle.tt_measure.specs.Limits.{most_weeks};
+ghost use Rattle.tt_measure.specs.KindNumbers.{max_breaks_number, max_block_number};
 ghost use Rattle.tt_measure.specs.Blocks.{breaks_in, breaks_over, long_in, long_blocks};
 ghost use Rattle.tt_measure.specs.Cells.{rise_in, sum_in};
 ghost use Rattle.tt_blocks.specs.Amounts.{amount_in};

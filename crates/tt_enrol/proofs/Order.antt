@@ -11,7 +11,7 @@ use Rattle.std.proofs.lemmas.List.MinMax.{ranks_by}
 use Rattle.tt_problem.specs.declared.parts.Span.{Span}
 use Rattle.tt_problem.specs.Spans.{CoversFrom}
 use Rattle.tt_enrol.specs.Choices.{each_before, choices_of}
-use Rattle.tt_base.specs.Lists.{comes_before, is_less, least}
+use Rattle.tt_base.specs.Lists.{comes_before, is_less, first_least}
 use Rattle.tt_enrol.specs.Least.{Situation, is_allowed, pairs_added, choice_numbers, least_choice}
 use Rattle.tt_enrol.specs.Passed.{is_fewer, better, passed}
 
@@ -57,7 +57,7 @@ left false allowed best c h = refl
 
 -- the least of a list, where something may have been found before it
 abbrev least_from : Situation → Option (List ℕ) → List (List ℕ) → Option (List ℕ)
-least_from s None choices = least (is_less (choice_numbers s)) choices
+least_from s None choices = first_least (choice_numbers s) choices
 least_from s (Some b) choices = Some (best_of (is_less (choice_numbers s)) b choices)
 
 module _ (s : Situation) (c : List ℕ) (cs : List (List ℕ)) (head : AllByRecursion (λ y. comes_before c y ≡ true) cs)

@@ -1,7 +1,7 @@
 ghost use Rattle.std.specs.Prelude.{◌≡◌, ℕ, ◌+◌, ◌<◌, ◌≤◌, IfOk, IfSome, None, cond, length, map, slice_index};
 ghost use Rattle.tt_base.specs.Lists.{is_listed};
 ghost use Rattle.tt_roster.specs.Lists.{Ascends, list_of};
-ghost use Rattle.tt_score.specs.Fits.{Fits, plan_of, lists_of};
+ghost use Rattle.tt_score.specs.Fits.{Fits, plan_of, student_lists};
 ghost use Rattle.tt_enrol.specs.Choices.{choices_at};
 ghost use Rattle.tt_enrol.specs.Students.{courses_of, taken_in};
 ghost use Rattle.tt_enrol.specs.Standings.{AreRooms, situation_by};
@@ -36,7 +36,7 @@ impl Known {
         except: Option<u32>,
     ) -> Result<Known, AllocError>
         requires { Fits problem.now score.now }
-        ensures { IfOk result (IsKnown problem.now (plan_of score.now) (lists_but (lists_of score.now) except)) }
+        ensures { IfOk result (IsKnown problem.now (plan_of score.now) (lists_but (student_lists score.now) except)) }
     {
         let spots = spots_of(alloc, problem, score.plan())?;
         let counts = count_seats(alloc, problem, score.roster(), except)?;

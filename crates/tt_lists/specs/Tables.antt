@@ -1,10 +1,10 @@
 -- The tables of distributions and students, one line for each key, in the order in which they are read.
 -- Places are looked up among the ids of classes and courses, where these are known.
-use Rattle.std.specs.Prelude.{ℕ, List, [], ◌∷◌, ◌++◌, Bool, true, false, Option, Result, Ok, codes, nat_eq, if◌then◌else◌}
-use Rattle.std.specs.List.{list_any}
+use Rattle.std.specs.Prelude.{ℕ, List, [], ◌∷◌, ◌++◌, Bool, true, false, Option, Result, Ok, codes, if◌then◌else◌}
 use Rattle.tt_base.specs.Limits.{most_members}
+use Rattle.tt_base.specs.Lists.{is_listed}
 use Rattle.tt_fields.specs.Answer.{Part, Fault, ◌>>=◌}
-use Rattle.tt_fields.specs.Kinds.{a_number, a_truth, a_text, an_object, a_list, a_reference, or_fault, required, or_else, new_id, each, list_of}
+use Rattle.tt_fields.specs.Kinds.{a_number, a_truth, a_text, an_object, a_list, a_reference, or_fault, required, or_else, new_id, each, pushed, list_of}
 use Rattle.tt_problem.specs.declared.parts.DistKind.{DistKind}
 use Rattle.tt_problem.specs.declared.parts.Rule.{Rule}
 use Rattle.tt_problem.specs.declared.parts.StudentPart.{StudentPart}
@@ -21,14 +21,14 @@ penalty_unless true o = Ok 0
 penalty_unless false o = required (a_number 0 1000000) (codes "penalty") o
 
 -- one more reference, which is dropped where it names a place that stood before
-unfoldable pub a_member : Option (List ℕ) → Part → List ℕ → Result (List ℕ) Fault
-a_member ids p members = do
+unfoldable pub a_place : Option (List ℕ) → Part → List ℕ → Result (List ℕ) Fault
+a_place ids p members = do
   place ← a_reference ids p
-  Ok (if list_any (nat_eq place) members then members else members ++ place ∷ [])
+  Ok (if is_listed place members then members else members ++ place ∷ [])
 
 -- the places that references name, without repeats
-abbrev pub members_in : Option (List ℕ) → List Part → Result (List ℕ) Fault
-members_in ids items = each (a_member ids) items []
+abbrev pub places_in : Option (List ℕ) → List Part → Result (List ℕ) Fault
+places_in ids items = each (a_place ids) items []
 
 -- a distribution
 unfoldable pub a_rule : Option (List ℕ) → Part → Result Rule Fault
@@ -38,7 +38,7 @@ a_rule classes p = do
   is_required ← or_else false a_truth (codes "required") o
   penalty ← penalty_unless is_required o
   items ← required (a_list 0 most_members) (codes "classes") o
-  members ← members_in classes items
+  members ← places_in classes items
   Ok (record { kind = kind; required = is_required; penalty = penalty; members = members })
 
 -- the distributions of a list
@@ -52,12 +52,12 @@ a_student courses before p = do
   id ← required (a_number 0 4294967295) (codes "id") o
   ids ← new_id id before o
   items ← required (a_list 0 40) (codes "courses") o
-  members ← members_in courses items
+  members ← places_in courses items
   Ok (record { id = id; courses = members })
 
 -- the students before, and one more
 abbrev pub pushed_student : Option (List ℕ) → Part → List StudentPart → Result (List StudentPart) Fault
-pushed_student courses p before = a_student courses (student_ids before) p >>= λ s. Ok (before ++ s ∷ [])
+pushed_student courses p before = pushed (a_student courses (student_ids before)) p before
 
 -- the students of a list
 abbrev pub students_in : Option (List ℕ) → List Part → Result (List StudentPart) Fault

@@ -1,6 +1,7 @@
 -- Groups of rules on days and slots as numbers.
 use Rattle.std.specs.Prelude.{ℕ, List, [], ◌∷◌, slice_index}
-use Rattle.tt_measure.specs.Limits.{most_weeks, max_days_number, max_day_load_number}
+use Rattle.tt_measure.specs.Limits.{most_weeks}
+use Rattle.tt_measure.specs.KindNumbers.{max_days_number, max_day_load_number}
 
 -- the kind among the nineteen, the most days, the number of members and the weeks
 abbrev pub days_shape : ℕ → ℕ → List ℕ

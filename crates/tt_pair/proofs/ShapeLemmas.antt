@@ -4,6 +4,7 @@ use Rattle.std.specs.Prelude.{slice_get}
 use Rattle.std.proofs.lemmas.Option.{slice_get_within, get_or_from_slice_get}
 use Rattle.tt_bits.specs.declared.pairs.PairKind.{PairKind}
 use Rattle.tt_bits.specs.declared.pairs.PairKind.TheVariants.{SameStart, SameTime, DifferentTime, SameDays, DifferentDays, SameWeeks, DifferentWeeks, Overlap, NotOverlap, SameRoom, DifferentRoom, SameAttendees, Precedence, WorkDay, MinGap}
+use Rattle.tt_measure.specs.KindNumbers.{max_days_number}
 use Rattle.tt_pair.specs.PairShapes.{kind_number, slots_of, pair_shape, kinds, kind_of}
 
 -- a kind stands at its place among the fifteen
@@ -24,7 +25,7 @@ kind_there Precedence = refl
 kind_there (WorkDay span) = refl
 kind_there (MinGap gap) = refl
 
-pub kind_number-few : (kind : PairKind) → kind_number kind < 15
+pub kind_number-few : (kind : PairKind) → kind_number kind < max_days_number
 kind_number-few kind = slice_get_within (kinds (slots_of kind)) (kind_number kind) kind (kind_there kind)
 
 pub kind_of-pair_shape : (kind : PairKind) (members : ℕ) → kind_of (pair_shape kind members) ≡ kind

@@ -42,7 +42,7 @@ impl Score {
     ghost use Rattle.tt_clash.specs.ConflictSet.{conflict_set};
     ghost use Rattle.tt_plan.specs.Domain.{IsOfDomain, spot_at_value, spots_of};
     ghost use Rattle.tt_score.specs.Amounts.{rule_amount, rule_cost};
-    ghost use Rattle.tt_score.specs.Fits.{Fits, plan_of, lists_of, occupancy_of, roster_of, group_count};
+    ghost use Rattle.tt_score.specs.Fits.{Fits, plan_of, student_lists, occupancy_of, roster_of, group_count};
     ghost use Rattle.tt_base.specs.Lists.{is_listed};
     ghost use Rattle.tt_roster.specs.Lists.{with_class, without_class, list_of};
     ghost use Rattle.tt_score.specs.Totals.{totals_of};
@@ -50,7 +50,7 @@ impl Score {
     /// The score where no class is placed and no student has a class. Only this call takes memory.
     pub fn new(alloc: Global, problem: &Problem) -> Result<Score, AllocError>
         ensures plan { IfOk result (λ s. plan_of s ≡ replicate (length problem.now.classes) None) }
-        ensures seats { IfOk result (λ s. lists_of s ≡ replicate (length problem.now.students) []) }
+        ensures lists { IfOk result (λ s. student_lists s ≡ replicate (length problem.now.students) []) }
         ensures fits { IfOk result (λ s. Fits problem.now s) }
     {
         problem.validity();
@@ -105,7 +105,7 @@ impl Score {
     /// The classes of each student.
     pub fn roster(&self) -> &Roster
         ensures roster { result.now ≡ roster_of self.now }
-        ensures seats { result.now.seats ≡ lists_of self.now }
+        ensures lists { result.now.seats ≡ student_lists self.now }
         ensures spots { (p : Parts) → Fits p self.now → result.now.spots ≡ spots_of p (plan_of self.now) }
     {
         &self.roster
@@ -116,10 +116,10 @@ impl Score {
         requires fits { Fits problem.now self.old }
         requires student { student < length problem.now.students }
         requires class { class < length problem.now.classes }
-        requires free { is_listed class (list_of (lists_of self.old) student) ≡ false }
-        requires spare { length (list_of (lists_of self.old) student) < slice_index (roster_of self.old).most student }
+        requires free { is_listed class (list_of (student_lists self.old) student) ≡ false }
+        requires spare { length (list_of (student_lists self.old) student) < slice_index (roster_of self.old).most student }
         ensures plan { plan_of self.new ≡ plan_of self.old }
-        ensures seats { lists_of self.new ≡ slice_set (lists_of self.old) student (with_class class (list_of (lists_of self.old) student)) }
+        ensures lists { student_lists self.new ≡ slice_set (student_lists self.old) student (with_class class (list_of (student_lists self.old) student)) }
         ensures fits { Fits problem.now self.new }
     {
         let before = unsectioned_at(problem, &self.roster, student);
@@ -133,9 +133,9 @@ impl Score {
         requires fits { Fits problem.now self.old }
         requires student { student < length problem.now.students }
         requires class { class < length problem.now.classes }
-        requires seated { is_listed class (list_of (lists_of self.old) student) ≡ true }
+        requires seated { is_listed class (list_of (student_lists self.old) student) ≡ true }
         ensures plan { plan_of self.new ≡ plan_of self.old }
-        ensures seats { lists_of self.new ≡ slice_set (lists_of self.old) student (without_class class (list_of (lists_of self.old) student)) }
+        ensures lists { student_lists self.new ≡ slice_set (student_lists self.old) student (without_class class (list_of (student_lists self.old) student)) }
         ensures fits { Fits problem.now self.new }
     {
         let before = unsectioned_at(problem, &self.roster, student);
@@ -171,7 +171,7 @@ impl Score {
         requires value { IsOfDomain problem.now class value }
         requires free { slice_index_or (plan_of self.old) class None ≡ None }
         ensures plan { plan_of self.new ≡ slice_set (plan_of self.old) class (Some value) }
-        ensures seats { lists_of self.new ≡ lists_of self.old }
+        ensures lists { student_lists self.new ≡ student_lists self.old }
         ensures fits { Fits problem.now self.new }
     {
         let spot = tt_plan::spot(problem, class, value);
@@ -195,7 +195,7 @@ impl Score {
         requires placed { IsSome (slice_index_or (plan_of self.old) class None) }
         ensures value { slice_index_or (plan_of self.old) class None ≡ Some result }
         ensures plan { plan_of self.new ≡ slice_set (plan_of self.old) class None }
-        ensures seats { lists_of self.new ≡ lists_of self.old }
+        ensures lists { student_lists self.new ≡ student_lists self.old }
         ensures fits { Fits problem.now self.new }
     {
         let Some(value) = self.plan[class as usize] else {
@@ -218,7 +218,7 @@ impl Score {
 
     /// The sums over the plan and the lists.
     pub fn totals(&self) -> Totals
-        ensures { (p : Parts) → Fits p self.now → result ≡ totals_of p (plan_of self.now) (lists_of self.now) }
+        ensures { (p : Parts) → Fits p self.now → result ≡ totals_of p (plan_of self.now) (student_lists self.now) }
     {
         Totals {
             time: self.classes.time,
@@ -242,7 +242,7 @@ impl Score {
     pub fn trial(&mut self, problem: &Problem, class: u32, value: Value) -> u128
         requires fits { Fits problem.now self.old }
         requires value { IsOfDomain problem.now class value }
-        ensures total { result ≡ (totals_of problem.now (slice_set (plan_of self.old) class (Some value)) (lists_of self.old)).total }
+        ensures total { result ≡ (totals_of problem.now (slice_set (plan_of self.old) class (Some value)) (student_lists self.old)).total }
         ensures same { self.new ≡ self.old }
     {
         problem.validity();
@@ -286,7 +286,7 @@ impl Score {
         ensures few { result ≤ length order.new }
         ensures marks { marks.new ≡ marks.old }
         ensures plan { plan_of self.new ≡ plan_of self.old }
-        ensures seats { lists_of self.new ≡ lists_of self.old }
+        ensures lists { student_lists self.new ≡ student_lists self.old }
         ensures fits { Fits problem.now self.new }
     {
         let spot = tt_plan::spot(problem, class, value);

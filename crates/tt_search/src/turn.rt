@@ -7,7 +7,7 @@ ghost use Rattle.tt_state.specs.Snapshots.{value_in};
 ghost use Rattle.tt_state.specs.Values.{blocked_of, conflicts_of, total_with};
 ghost use Rattle.tt_state.specs.Forced.{forced};
 ghost use Rattle.tt_search.specs.Turns.{is_open, has_open_value, is_unplaced, candidates, drawn, toll_of, weight_of, chosen_value, turn_of};
-ghost use Rattle.tt_search.specs.Full.{full_price, full_choice};
+ghost use Rattle.tt_search.specs.Full.{full_price, full_value};
 ghost use Rattle.tt_search.specs.Numbers.{hopeful, price_numbers, least_after, IsOpenValue, IsPriced, after_move, offered};
 
 use crate::price::{Price, is_stray};
@@ -204,7 +204,7 @@ fn look_at(
 }
 
 /// The value chosen for a class, the first of its open values with the least price.
-#[tactic(auto, unfolding(crate::specs::Full::full_choice), using(crate::proofs::FullLemmas::choice_same))]
+#[tactic(auto, unfolding(crate::specs::Full::full_value), using(crate::proofs::FullLemmas::choice_same))]
 fn choice(state: &mut State, published: Option<&Published>, class: u32) -> Option<Value>
     requires belongs { ForSome (option_copied published) (IsTimetableOf state.old.problem) }
     requires class { class < length state.old.problem.classes }
