@@ -1,4 +1,4 @@
-ghost use Rattle.std.specs.Prelude.{◌≡◌, ◌++◌, [], OnErr, OnOk, decimal};
+ghost use Rattle.std.specs.Prelude.{◌≡◌, ◌⊎◌, ◌++◌, [], OnErr, OnOk, decimal};
 ghost use Rattle.tt_text.specs.Fields.{field};
 
 use std::alloc::{AllocError, Global};
@@ -59,6 +59,7 @@ impl Reply {
     #[tactic(auto, using(std::proofs::Common::append_assoc), unfolding(crate::specs::Fields::field))]
     pub fn field(&mut self, t: &str, n: u128) -> Result<(), AllocError>
         ensures ok { OnOk result (self.new ≡ self.old ++ field t.now n) }
+        ensures err { OnErr result ((self.new ≡ self.old) ⊎ (self.new ≡ self.old ++ t.now)) }
     {
         self.text(t)?;
         self.number(n)

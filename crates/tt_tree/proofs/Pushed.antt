@@ -11,7 +11,7 @@ use Rattle.tt_problem.specs.declared.parts.RoomPart.{RoomPart}
 use Rattle.tt_problem.specs.declared.parts.ClassPart.{ClassPart}
 use Rattle.tt_problem.specs.declared.parts.CoursePart.{CoursePart}
 use Rattle.tt_problem.specs.Spans.{CoversFrom, Covers}
-use Rattle.tt_problem.specs.Valid.{IsValidRoom, room_ids}
+use Rattle.tt_problem.specs.Valid.{IsValidRoom, room_ids, class_ids, course_ids}
 use Rattle.tt_fields.specs.declared.answer.FileFault.{FileFault}
 use Rattle.tt_fields.specs.declared.answer.FileFault.TheVariants as faults
 use Rattle.tt_fields.specs.Answer.{Part, Fault, ◌>>=◌, Fails}
