@@ -1,5 +1,6 @@
-ghost use Rattle.std.specs.Prelude.{◌≡◌, [], IfOk, OnErr};
+ghost use Rattle.std.specs.Prelude.{◌≡◌, ◌<◌, [], IfOk, OnErr, length};
 ghost use Rattle.tt_desk.specs.Desk.{command_step, line_step};
+ghost use Rattle.tt_desk.specs.Replies.{reply_of};
 ghost use Rattle.tt_desk.specs.Causes.{IsMemoryCause, MayTake};
 
 use crate::refusal::{Outcome, Refusal};
@@ -43,9 +44,9 @@ impl Session {
     }
 
     /// Does what a line asks for, or says why it is refused. The reply, whatever it held, has the
-    /// command's own lines then, which `finish_reply` makes whole. Where memory is wanting, nothing is
-    /// said of the session and the reply.
-    #[tactic(auto, unfolding(crate::specs::Desk::line_step, crate::specs::Causes::IsMemoryCause))]
+    /// command's own lines then, which `finish_reply` makes whole. Only a line that has a reply
+    /// may find memory wanting, and then nothing is said of the session and the reply.
+    #[tactic(auto, unfolding(crate::specs::Desk::line_step, crate::specs::Causes::IsMemoryCause), using(crate::proofs::ReplyLemmas::cause_replies))]
     pub fn answer(
         &mut self,
         alloc: Global,
@@ -54,6 +55,7 @@ impl Session {
     ) -> Result<Outcome, AllocError>
         ensures ok { IfOk result (λ outcome. line_step self.old line.now ≡ record { session = self.new; outcome = outcome; lines = reply.new }) }
         ensures memory { OnErr result (IsMemoryCause self.old line.now) }
+        ensures replies { OnErr result (0 < length (reply_of (line_step self.old line.now))) }
     {
         reply.clear();
         match read_line(alloc, line)? {

@@ -1,4 +1,4 @@
-ghost use Rattle.std.specs.Prelude.{◌≡◌, ◌++◌, [], OnOk, OnErr, codes, decimal};
+ghost use Rattle.std.specs.Prelude.{◌≡◌, ◌<◌, ◌++◌, [], OnOk, OnErr, codes, decimal, length};
 ghost use Rattle.std.specs.Option.{option_map_or};
 ghost use Rattle.tt_text.specs.Fields.{field};
 ghost use Rattle.tt_desk.specs.Desk.{taken_lines};
@@ -132,9 +132,11 @@ pub(crate) fn add_taken(
 impl Session {
     /// Makes the reply to a line, by what became of it. For an accepted command the reply has the
     /// command's own lines before. Only a line that has a reply takes memory.
+    #[tactic(auto, using(crate::proofs::ReplyLemmas::reply_some))]
     pub fn finish_reply(&self, reply: &mut Reply, outcome: Outcome) -> Result<(), AllocError>
         ensures ok { OnOk result (reply.new ≡ reply_to self.now reply.old outcome) }
         ensures memory { OnErr result (HasReply outcome) }
+        ensures replies { OnErr result (0 < length (reply_to self.now reply.old outcome)) }
     {
         match outcome {
             Outcome::Accepted => add_totals(reply, &self.totals(), self.moved()),

@@ -21,9 +21,10 @@ use Rattle.tt_top.specs.declared.end.Input.TheVariants.{Problem, Published}
 use Rattle.tt_top.specs.declared.end.InputFault.{InputFault}
 use Rattle.tt_top.specs.Words.{FileWords, first_words, file_words}
 use Rattle.tt_top.specs.Transcript.{Bytes, FaultyFile, opened, transcript, transcript_from, text_of, first_line, opening_line}
-use Rattle.tt_top.specs.Run.{Moment, Outside, TellFirst, Tell, IsTold, is_long, opens_published, opens_script, due_status, WritesFirst, IsTranscript, IsDue, IsComplete, HasCauses, AsksInOrder, IsFileRun}
+use Rattle.tt_top.specs.Run.{Moment, Outside, TellFirst, Tell, IsTold, is_long, opens_published, opens_script, due_status, WritesFirst, WritesLess, IsTranscript, IsDue, IsComplete, HasCauses, AsksInOrder, IsFileRun}
 use Rattle.tt_top.specs.Ends.{input_status, faulty_file, seen, end_status, done_status, done_by, status_of, HasEndCause, front_words, Begins, Opens, IsFaultyAt, AsksFirst, Serves}
 use Rattle.tt_top.proofs.LoadLemmas.{not_longer, longer}
+use Rattle.tt_top.proofs.TranscriptLemmas.{some_line, some_text}
 
 -- ---- statuses
 
@@ -100,6 +101,15 @@ first_front None (Some now) pieces some = absurd some.1
 first_front (Some before) (Some now) pieces some =
     (concat (take some.0 pieces), concat (drop some.0 pieces), sym (ap concat (take-append-drop some.0 pieces)) ∙ concat-append (take some.0 pieces) (drop some.0 pieces), some.1)
 
+-- nothing of a text that isn't empty
+pub none_less : (before now : Option (List ℕ)) (text : List ℕ) → now ≡ before → 0 < length text → WritesLess before now text
+none_less before now text same some = ([], text, refl, some, nothing_written before now same)
+
+-- less of what comes after a text that was written
+pub less_after : (before mid now : Option (List ℕ)) (head text : List ℕ) → Writes before mid head → WritesLess mid now text → WritesLess before now (head ++ text)
+less_after before mid now head text first less =
+    (head ++ less.0, less.1, ap (λ t. head ++ t) less.2 ∙ sym (append_assoc head less.0 less.1), less.3, Writes-append before mid now head less.0 first less.4)
+
 -- the first line is a front of the whole
 pub first_line_front : (before now : Option (List ℕ)) (o : Result Session FaultyFile) (s : List ℕ) → WritesFront before now (first_line o) → WritesFront before now (text_of (transcript_from o s))
 first_line_front before now (Err faulty) s front = WritesFront-first before now faulty.line [] front
@@ -119,6 +129,10 @@ module _ (before mid now : Option (List ℕ)) (o : Result Session FaultyFile) (s
   pub served_pieces : WritesFirst mid now (replies_to session (lines_of s)) → WritesFirst before now (transcript_from o s).pieces
   served_pieces some = rw is (suc some.0, Writes-append before mid now _ _ first some.1)
 
+  pub served_wanting : (now ≡ mid) ⊎ WritesLess mid now (concat (replies_to session (lines_of s))) → Writes before now (first_line o) ⊎ WritesLess before now (text_of (transcript_from o s))
+  served_wanting (inl same) = inl (rw (is, same) first)
+  served_wanting (inr less) = inr (rw is (less_after before mid now _ _ first less))
+
   pub served_front : WritesFront mid now (concat (replies_to session (lines_of s))) → WritesFront before now (text_of (transcript_from o s))
   served_front front = rw is (WritesFront-after before mid now _ _ first front)
 
@@ -134,15 +148,22 @@ module _ (limit : ℕ) (mid now : Option (List ℕ)) (d : Session) (s : Option (
   serves_pieces (Ok refused) serves ne = whole_first mid now _ serves.2
   serves_pieces (Err Files) serves ne = none_first mid now _ serves
   serves_pieces (Err Sink) serves ne = absurd (ne refl)
-  serves_pieces (Err Memory) serves ne = serves
+  serves_pieces (Err Memory) serves ne = serves.0
   serves_pieces (Err TooLong) serves ne = none_first mid now _ serves.1
 
   serves_front : (r : Result Bool End) → Serves limit mid now d s r → WritesFront mid now (concat (replies_to d (lines_of (unwrap_or s []))))
   serves_front (Ok refused) serves = Writes-front mid now _ serves.2
   serves_front (Err Files) serves = none_written mid now _ serves
   serves_front (Err Sink) serves = serves
-  serves_front (Err Memory) serves = first_front mid now _ serves
+  serves_front (Err Memory) serves = first_front mid now _ serves.0
   serves_front (Err TooLong) serves = none_written mid now _ serves.1
+
+  serves_wanting : (r : Result Bool End) → Serves limit mid now d s r → status_of (done_by r) ≡ 7 → (now ≡ mid) ⊎ WritesLess mid now (concat (replies_to d (lines_of (unwrap_or s []))))
+  serves_wanting (Ok refused) serves is = absurd (let le : status_of (done_by (Ok refused)) ≤ 1 = at_most_one refused in omega arith)
+  serves_wanting (Err Files) serves is = absurd (omega arith)
+  serves_wanting (Err Sink) serves is = absurd (omega arith)
+  serves_wanting (Err Memory) serves is = serves.1
+  serves_wanting (Err TooLong) serves is = absurd (omega arith)
 
   serves_long : (e : End) → Serves limit mid now d s (Err e) → end_status e ≡ 8 → is_long limit s ≡ true
   serves_long Files serves is = absurd (omega arith)
@@ -159,17 +180,17 @@ serves_told limit holds name before now d (Some bytes) r told serves = serves by
 pub script_failed : (limit : ℕ) (holds : List ℕ → Option (List ℕ)) (name : List ℕ) (before now : Option (List ℕ)) (d : Session) (s : Option (List ℕ)) (e : End) → now ≡ before → IsTold holds (Some name) s → e ≢ Sink → (e ≡ TooLong → (all : List ℕ) → holds name ≡ Some all → limit < length all) → Serves limit before now d s (Err e)
 script_failed limit holds name before now d s Files same told no_sink long = same
 script_failed limit holds name before now d s Sink same told no_sink long = absurd (no_sink refl)
-script_failed limit holds name before now d s Memory same told no_sink long = none_first before now _ same
+script_failed limit holds name before now d s Memory same told no_sink long = (none_first before now _ same, inl same)
 script_failed limit holds name before now d None TooLong same told no_sink long = absurd told
 script_failed limit holds name before now d (Some bytes) TooLong same told no_sink long = (longer limit bytes (long refl bytes told), same)
 
 -- what serving the lines of a text gives, for a script of these bytes
-pub serves_text : (limit : ℕ) (before now : Option (List ℕ)) (d : Session) (text s : List ℕ) (r : Result Bool End) → text ≡ s → length s ≤ limit → IfOk r (λ refused. refused ≡ refuses d (lines_of text)) → OnOk r (Writes before now (concat (replies_to d (lines_of text)))) → (r ≡ Err Memory → WritesFirst before now (replies_to d (lines_of text))) → (r ≡ Err Sink → WritesFront before now (concat (replies_to d (lines_of text)))) → r ≢ Err Files → r ≢ Err TooLong → Serves limit before now d (Some s) r
-serves_text limit before now d text s (Ok refused) is short refuses_is written memory front no_files no_limit = rw (← is) (rw is (not_longer limit s short), refuses_is, written)
-serves_text limit before now d text s (Err Files) is short refuses_is written memory front no_files no_limit = absurd (no_files refl)
-serves_text limit before now d text s (Err Sink) is short refuses_is written memory front no_files no_limit = rw (← is) (front refl)
-serves_text limit before now d text s (Err Memory) is short refuses_is written memory front no_files no_limit = rw (← is) (memory refl)
-serves_text limit before now d text s (Err TooLong) is short refuses_is written memory front no_files no_limit = absurd (no_limit refl)
+pub serves_text : (limit : ℕ) (before now : Option (List ℕ)) (d : Session) (text s : List ℕ) (r : Result Bool End) → text ≡ s → length s ≤ limit → IfOk r (λ refused. refused ≡ refuses d (lines_of text)) → OnOk r (Writes before now (concat (replies_to d (lines_of text)))) → (r ≡ Err Memory → WritesFirst before now (replies_to d (lines_of text))) → (r ≡ Err Memory → WritesLess before now (concat (replies_to d (lines_of text)))) → (r ≡ Err Sink → WritesFront before now (concat (replies_to d (lines_of text)))) → r ≢ Err Files → r ≢ Err TooLong → Serves limit before now d (Some s) r
+serves_text limit before now d text s (Ok refused) is short refuses_is written memory less front no_files no_limit = rw (← is) (rw is (not_longer limit s short), refuses_is, written)
+serves_text limit before now d text s (Err Files) is short refuses_is written memory less front no_files no_limit = absurd (no_files refl)
+serves_text limit before now d text s (Err Sink) is short refuses_is written memory less front no_files no_limit = rw (← is) (front refl)
+serves_text limit before now d text s (Err Memory) is short refuses_is written memory less front no_files no_limit = rw (← is) (memory refl, inr (less refl))
+serves_text limit before now d text s (Err TooLong) is short refuses_is written memory less front no_files no_limit = absurd (no_limit refl)
 
 -- ---- what is due
 
@@ -303,6 +324,7 @@ module _ (words : FileWords) (limit : ℕ) (o : Outside) where
       pieces = λ b told ne. none_first _ _ _ (unwritten limit _ _ b e (opens b (told_first b told.begins)) ne);
       front = λ b told. first_line_front _ _ (opened b.problem b.published) _ (ended_front limit _ _ b e (opens b (told_first b told.begins)));
       first = λ b told ne. inl (nothing_written _ _ (unwritten limit _ _ b e (opens b (told_first b told)) ne));
+      wanting = λ b told is. inr (none_less _ _ _ (unwritten limit _ _ b e (opens b (told_first b told.begins)) (λ six. omega arith)) (some_text (opened b.problem b.published) _ (some_line b.problem b.published)));
     }
 
     early_is_due : IsDue words limit o (end_status e)
@@ -332,6 +354,7 @@ module _ (words : FileWords) (limit : ℕ) (o : Outside) where
       pieces = λ b told ne. whole_first _ _ _ (faulty_text b told.begins);
       front = λ b told. Writes-front _ _ _ (faulty_text b told.begins);
       first = λ b told ne. let w = opens b (told_first b told) in inr (rw w.0 (past_whole _ _ _ w.2));
+      wanting = λ b told is. absurd (let few = (three_or_four f.input).1 in omega arith);
     }
 
     faulty_is_due : IsDue words limit o (input_status f.input)
@@ -362,6 +385,7 @@ module _ (words : FileWords) (limit : ℕ) (o : Outside) where
         pieces = λ b told ne. let w = opens b (told_first b told.begins) in served_pieces _ mid _ (opened b.problem b.published) session _ w.0 w.2 (serves_pieces limit mid _ session b.script r (script_is b told) ne);
         front = λ b told. let w = opens b (told_first b told.begins) in served_front _ mid _ (opened b.problem b.published) session _ w.0 w.2 (serves_front limit mid _ session b.script r (script_is b told));
         first = λ b told ne. let w = opens b (told_first b told) in inr (rw w.0 (past _ mid _ _ w.2 grows));
+        wanting = λ b told is. let w = opens b (told_first b told.begins) in served_wanting _ mid _ (opened b.problem b.published) session _ w.0 w.2 (serves_wanting limit mid _ session b.script r (script_is b told) is);
       }
 
       served_is_due : IsDue words limit o (status_of (done_by r))

@@ -1,6 +1,6 @@
 -- How the phases of a run without files make its transcript.
-use Rattle.std.proofs.Common.{◌≡◌, ◌≢◌, ◌≤◌, ℕ, suc, Bool, List, [], ◌∷◌, ◌++◌, Option, Result, Ok, Err, refl, ◌∙◌, ap, arith, inl, inr}
-use Rattle.std.specs.Prelude.{IfOk, OnOk}
+use Rattle.std.proofs.Common.{◌≡◌, ◌≢◌, ◌≤◌, ◌<◌, ℕ, suc, Bool, List, [], ◌∷◌, ◌++◌, Option, Result, Ok, Err, refl, ◌∙◌, ap, arith, inl, inr, length}
+use Rattle.std.specs.Prelude.{◌⊎◌, IfOk, OnOk}
 use Rattle.std.specs.List.{concat}
 use Rattle.std.specs.Result.{result_and}
 use Rattle.std.proofs.lemmas.List.{append-nil}
@@ -16,9 +16,10 @@ use Rattle.tt_top.specs.declared.end.End.TheVariants.{Files, Sink, Memory, TooLo
 use Rattle.tt_top.specs.declared.end.Done.{Done}
 use Rattle.tt_top.specs.declared.end.InputFault.{InputFault}
 use Rattle.tt_top.specs.Transcript.{FaultyFile, Transcript, transcript_from, text_of, first_line}
-use Rattle.tt_top.specs.Run.{Outside, WritesFirst, IsPlainRun}
+use Rattle.tt_top.specs.Run.{Outside, WritesFirst, WritesLess, IsPlainRun}
 use Rattle.tt_top.specs.Ends.{input_status, faulty_file, seen, end_status, done_by, status_of, HasEndCause, OpensMade, ServesLines, WritesPlain}
-use Rattle.tt_top.proofs.FileRunLemmas.{at_most_one, at_most_four, none_first, whole_first, first_front, first_line_front, is_six}
+use Rattle.tt_top.proofs.FileRunLemmas.{at_most_one, at_most_four, none_first, whole_first, first_front, none_less, less_after, first_line_front, is_six}
+use Rattle.tt_top.proofs.TranscriptLemmas.{some_text}
 
 -- ---- what is written
 
@@ -26,6 +27,7 @@ pub plain_whole : (t : Transcript) (before now : Option (List ℕ)) (status : �
 plain_whole t before now status is few all = record {
   whole = λ le. all;
   pieces = λ ne. whole_first before now t.pieces all;
+  wanting = λ seven. absurd (omega arith);
   front = Writes-front before now (text_of t) all;
   statuses = inl is;
   no_files = λ five. omega arith;
@@ -35,15 +37,17 @@ pub plain_failed : (t : Transcript) (before now : Option (List ℕ)) → WritesF
 plain_failed t before now front = record {
   whole = λ le. absurd (omega arith);
   pieces = λ ne. absurd (ne refl);
+  wanting = λ seven. absurd (omega arith);
   front = front;
   statuses = inr (inl refl);
   no_files = λ five. omega arith;
 }
 
-pub plain_memory : (t : Transcript) (before now : Option (List ℕ)) → WritesFirst before now t.pieces → WritesPlain t before now 7
-plain_memory t before now some = record {
+pub plain_memory : (t : Transcript) (before now : Option (List ℕ)) → WritesFirst before now t.pieces → WritesLess before now (text_of t) → WritesPlain t before now 7
+plain_memory t before now some less = record {
   whole = λ le. absurd (omega arith);
   pieces = λ ne. some;
+  wanting = λ seven. less;
   front = first_front before now t.pieces some;
   statuses = inr (inr refl);
   no_files = λ five. omega arith;
@@ -61,24 +65,30 @@ two_fields (Ok v) old mid now first second n m n_is m_is n_same m_same one two =
     two ∙ ap (λ t. t ++ field second m) one ∙ ap (λ k. (old ++ field first k) ++ field second m) n_same ∙ ap (λ k. (old ++ field first n_is) ++ field second k) m_same
 two_fields (Err e) old mid now first second n m n_is m_is n_same m_same one two = tt
 
-pub made_failed : (before now : Option (List ℕ)) (o : Result Session FaultyFile) (s : List ℕ) (e : End) → OpensMade before now o (Err e) → WritesPlain (transcript_from o s) before now (end_status e)
-made_failed before now o s Files opens = absurd opens
-made_failed before now o s Sink opens = plain_failed _ before now (first_line_front before now o s opens)
-made_failed before now o s Memory opens = plain_memory _ before now (none_first before now _ opens)
-made_failed before now o s TooLong opens = absurd opens
+pub made_failed : (before now : Option (List ℕ)) (o : Result Session FaultyFile) (s : List ℕ) (e : End) → 0 < length (first_line o) → OpensMade before now o (Err e) → WritesPlain (transcript_from o s) before now (end_status e)
+made_failed before now o s Files some opens = absurd opens
+made_failed before now o s Sink some opens = plain_failed _ before now (first_line_front before now o s opens)
+made_failed before now o s Memory some opens = plain_memory _ before now (none_first before now _ opens) (none_less before now _ opens (some_text o s some))
+made_failed before now o s TooLong some opens = absurd opens
 
 pub made_faulty : (before now : Option (List ℕ)) (o : Result Session FaultyFile) (s : List ℕ) (f : InputFault) → OpensMade before now o (Ok (Err f)) → WritesPlain (transcript_from o s) before now (input_status f.input)
 made_faulty before now o s f opens = rw opens.0 (one_whole before now (faulty_file f).line (input_status f.input) (at_most_four f.input) opens.1)
 
-pub made_served : (before mid now : Option (List ℕ)) (o : Result Session FaultyFile) (s : List ℕ) (session : Session) (r : Result Bool End) → OpensMade before mid o (Ok (Ok session)) → ServesLines mid now session s r → WritesPlain (transcript_from o s) before now (status_of (done_by r))
-made_served before mid now o s session (Ok refused) opens serves =
+-- less of a text that isn't empty
+less_of : (before now : Option (List ℕ)) (text : List ℕ) → 0 < length text → (now ≡ before) ⊎ WritesLess before now text → WritesLess before now text
+less_of before now text some (inl same) = none_less before now text same some
+less_of before now text some (inr less) = less
+
+pub made_served : (before mid now : Option (List ℕ)) (o : Result Session FaultyFile) (s : List ℕ) (session : Session) (r : Result Bool End) → 0 < length (concat (replies_to session (lines_of s))) → OpensMade before mid o (Ok (Ok session)) → ServesLines mid now session s r → WritesPlain (transcript_from o s) before now (status_of (done_by r))
+made_served before mid now o s session (Ok refused) some opens serves =
     let le : status_of (done_by (Ok refused)) ≤ 1 = at_most_one refused in
     let few : status_of (done_by (Ok refused)) ≤ 4 = omega arith in
     rw opens.0 (plain_whole _ before now (status_of (done_by (Ok refused))) (rw (← serves.0) refl) few (Writes-append before mid now _ _ opens.1 serves.1))
-made_served before mid now o s session (Err Files) opens serves = absurd serves
-made_served before mid now o s session (Err Sink) opens serves = rw opens.0 (plain_failed _ before now (WritesFront-after before mid now _ _ opens.1 serves))
-made_served before mid now o s session (Err Memory) opens serves = rw opens.0 (plain_memory _ before now (suc serves.0, Writes-append before mid now _ _ opens.1 serves.1))
-made_served before mid now o s session (Err TooLong) opens serves = absurd serves
+made_served before mid now o s session (Err Files) some opens serves = absurd serves
+made_served before mid now o s session (Err Sink) some opens serves = rw opens.0 (plain_failed _ before now (WritesFront-after before mid now _ _ opens.1 serves))
+made_served before mid now o s session (Err Memory) some opens serves =
+    rw opens.0 (plain_memory _ before now (suc serves.0.0, Writes-append before mid now _ _ opens.1 serves.0.1) (less_after before mid now _ _ opens.1 (less_of mid now _ some serves.1)))
+made_served before mid now o s session (Err TooLong) some opens serves = absurd serves
 
 -- the first line wasn't written whole
 pub made_unwritten : (before now : Option (List ℕ)) (o : Result Session FaultyFile) (l : Result Session InputFault) (e : End) → o ≡ seen l → (e ≡ Memory → now ≡ before) → WritesFront before now (first_line (seen l)) → e ≢ Files → e ≢ TooLong → OpensMade before now o (Err e)
@@ -99,12 +109,12 @@ pub not_made : (before now : Option (List ℕ)) (o : Result Session FaultyFile) 
 not_made before now o e is same = rw is same
 
 -- what serving the lines of a text gives
-pub serves_lines : (before now : Option (List ℕ)) (d : Session) (text s : List ℕ) (r : Result Bool End) → text ≡ s → IfOk r (λ refused. refused ≡ refuses d (lines_of text)) → OnOk r (Writes before now (concat (replies_to d (lines_of text)))) → (r ≡ Err Memory → WritesFirst before now (replies_to d (lines_of text))) → (r ≡ Err Sink → WritesFront before now (concat (replies_to d (lines_of text)))) → r ≢ Err Files → r ≢ Err TooLong → ServesLines before now d s r
-serves_lines before now d text s (Ok refused) is refuses_is written memory front no_files no_limit = rw (← is) (refuses_is, written)
-serves_lines before now d text s (Err Files) is refuses_is written memory front no_files no_limit = absurd (no_files refl)
-serves_lines before now d text s (Err Sink) is refuses_is written memory front no_files no_limit = rw (← is) (front refl)
-serves_lines before now d text s (Err Memory) is refuses_is written memory front no_files no_limit = rw (← is) (memory refl)
-serves_lines before now d text s (Err TooLong) is refuses_is written memory front no_files no_limit = absurd (no_limit refl)
+pub serves_lines : (before now : Option (List ℕ)) (d : Session) (text s : List ℕ) (r : Result Bool End) → text ≡ s → IfOk r (λ refused. refused ≡ refuses d (lines_of text)) → OnOk r (Writes before now (concat (replies_to d (lines_of text)))) → (r ≡ Err Memory → WritesFirst before now (replies_to d (lines_of text))) → (r ≡ Err Memory → WritesLess before now (concat (replies_to d (lines_of text)))) → (r ≡ Err Sink → WritesFront before now (concat (replies_to d (lines_of text)))) → r ≢ Err Files → r ≢ Err TooLong → ServesLines before now d s r
+serves_lines before now d text s (Ok refused) is refuses_is written memory less front no_files no_limit = rw (← is) (refuses_is, written)
+serves_lines before now d text s (Err Files) is refuses_is written memory less front no_files no_limit = absurd (no_files refl)
+serves_lines before now d text s (Err Sink) is refuses_is written memory less front no_files no_limit = rw (← is) (front refl)
+serves_lines before now d text s (Err Memory) is refuses_is written memory less front no_files no_limit = rw (← is) (memory refl, inr (less refl))
+serves_lines before now d text s (Err TooLong) is refuses_is written memory less front no_files no_limit = absurd (no_limit refl)
 
 -- ---- the answer of a run
 
@@ -113,6 +123,7 @@ pub plain_run : (t : Transcript) (o : Outside) (r : Result Done End) → WritesP
 plain_run t o r writes cause files asked = record {
   whole = writes.whole;
   pieces = writes.pieces;
+  wanting = writes.wanting;
   front = writes.front;
   statuses = writes.statuses;
   causes = record {

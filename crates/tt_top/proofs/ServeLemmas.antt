@@ -1,5 +1,5 @@
 -- How the replies to lines follow each other.
-use Rattle.std.proofs.Common.{◌≡◌, ℕ, Bool, true, false, List, [], ◌∷◌, ◌++◌, Option, refl, sym, ap, ◌∙◌, subst, append_assoc, take, length}
+use Rattle.std.proofs.Common.{◌≡◌, ◌<◌, ◌+◌, ℕ, Bool, true, false, List, [], ◌∷◌, ◌++◌, Option, refl, sym, ap, ◌∙◌, subst, append_assoc, arith, take, length, length-append}
 use Rattle.std.specs.Prelude.{Result, Ok, Err, IsErrAnd, map, ◌||◌, if◌then◌else◌}
 use Rattle.std.specs.List.{concat}
 use Rattle.std.proofs.lemmas.List.{append-nil}
@@ -12,7 +12,7 @@ use Rattle.tt_desk.specs.declared.refusal.Outcome.{Outcome}
 use Rattle.tt_desk.specs.Desk.{Session, line_step}
 use Rattle.tt_desk.specs.Replies.{is_end, is_refused, steps_of, reply_of, replies_to, refuses}
 use Rattle.tt_top.specs.declared.end.End.{End}
-use Rattle.tt_top.specs.Run.{WritesFirst}
+use Rattle.tt_top.specs.Run.{WritesFirst, WritesLess}
 
 -- ---- pieces
 
@@ -37,6 +37,16 @@ HasSent-all before now pieces had = subst (λ (t : List (List ℕ)). Writes befo
 -- whole pieces
 pub HasSent-first : (before now : Option (List ℕ)) (pieces left : List (List ℕ)) → HasSent before now pieces left → WritesFirst before now pieces
 HasSent-first before now pieces left had = (length had.sent, subst (λ (t : List (List ℕ)). Writes before now (concat t)) (sym (ap (take (length had.sent)) had.parts ∙ take-append_seam had.sent left)) had.written)
+
+-- a piece that isn't empty is left
+pub HasSent-less : (before now : Option (List ℕ)) (pieces left : List (List ℕ)) (piece : List ℕ) (left' : List (List ℕ)) → HasSent before now pieces left → left ≡ piece ∷ left' → 0 < length piece → WritesLess before now (concat pieces)
+HasSent-less before now pieces left piece left' had is some = (
+  concat had.sent,
+  piece ++ concat left',
+  ap concat had.parts ∙ ap (λ t. concat (had.sent ++ t)) is ∙ concat-append had.sent (piece ∷ left'),
+  omega (arith, length-append piece (concat left'), some),
+  had.written,
+)
 
 -- a front of the next piece
 pub HasSent-front : (before mid now : Option (List ℕ)) (pieces left : List (List ℕ)) (piece : List ℕ) (left' : List (List ℕ)) → HasSent before mid pieces left → WritesFront mid now piece → left ≡ piece ∷ left' → WritesFront before now (concat pieces)

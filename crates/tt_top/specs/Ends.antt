@@ -18,7 +18,7 @@ use Rattle.tt_top.specs.declared.end.Input.TheVariants.{Problem, Published}
 use Rattle.tt_top.specs.declared.end.InputFault.{InputFault}
 use Rattle.tt_top.specs.Words.{FileWords, first_words}
 use Rattle.tt_top.specs.Transcript.{Bytes, FaultyFile, Transcript, fault_line, published_in, opened, first_line, text_of}
-use Rattle.tt_top.specs.Run.{WritesFirst, TellFirst, is_long, opens_published, opens_script, due_status}
+use Rattle.tt_top.specs.Run.{WritesFirst, WritesLess, TellFirst, is_long, opens_published, opens_script, due_status}
 
 -- ---- files with a fault
 
@@ -131,7 +131,7 @@ abbrev pub Serves : ℕ → Option (List ℕ) → Option (List ℕ) → Session 
 Serves limit before now d s (Ok refused) = (is_long limit s ≡ false) × (refused ≡ refuses d (lines_of (unwrap_or s []))) × Writes before now (concat (replies_to d (lines_of (unwrap_or s []))))
 Serves limit before now d s (Err Files) = now ≡ before
 Serves limit before now d s (Err Sink) = WritesFront before now (concat (replies_to d (lines_of (unwrap_or s []))))
-Serves limit before now d s (Err Memory) = WritesFirst before now (replies_to d (lines_of (unwrap_or s [])))
+Serves limit before now d s (Err Memory) = WritesFirst before now (replies_to d (lines_of (unwrap_or s []))) × ((now ≡ before) ⊎ WritesLess before now (concat (replies_to d (lines_of (unwrap_or s [])))))
 Serves limit before now d s (Err TooLong) = (is_long limit s ≡ true) × (now ≡ before)
 
 -- What making a problem and writing its first line leave, where the text gives this.
@@ -147,13 +147,14 @@ abbrev pub ServesLines : Option (List ℕ) → Option (List ℕ) → Session →
 ServesLines before now d text (Ok refused) = (refused ≡ refuses d (lines_of text)) × Writes before now (concat (replies_to d (lines_of text)))
 ServesLines before now d text (Err Files) = ⊥
 ServesLines before now d text (Err Sink) = WritesFront before now (concat (replies_to d (lines_of text)))
-ServesLines before now d text (Err Memory) = WritesFirst before now (replies_to d (lines_of text))
+ServesLines before now d text (Err Memory) = WritesFirst before now (replies_to d (lines_of text)) × ((now ≡ before) ⊎ WritesLess before now (concat (replies_to d (lines_of text))))
 ServesLines before now d text (Err TooLong) = ⊥
 
 -- What a run writes that asks for no file, where this is its transcript.
 pub record WritesPlain (t : Transcript) (before now : Option (List ℕ)) (status : ℕ) : Type 0 where
   pub whole : status ≤ 4 → Writes before now (text_of t)
   pub pieces : status ≢ 6 → WritesFirst before now t.pieces
+  pub wanting : status ≡ 7 → WritesLess before now (text_of t)
   pub front : WritesFront before now (text_of t)
   pub statuses : (status ≡ t.status) ⊎ ((status ≡ 6) ⊎ (status ≡ 7))
   pub no_files : status ≢ 5

@@ -1,5 +1,5 @@
 -- The clauses of the top call.
-use Rattle.std.specs.Prelude.{◌≡◌, ◌≢◌, ◌≤◌, ◌<◌, ◌&&◌, ℕ, Bool, false, List, [], ◌∷◌, ◌⊎◌, ⊤, IsTrue, IsSome, take, length, nat_lt, is_ok, if◌then◌else◌, None, Some, Option, not}
+use Rattle.std.specs.Prelude.{◌≡◌, ◌≢◌, ◌≤◌, ◌<◌, ◌&&◌, ℕ, Bool, false, List, [], ◌∷◌, ◌++◌, ◌⊎◌, ⊤, IsTrue, IsSome, take, length, nat_lt, is_ok, if◌then◌else◌, None, Some, Option, not}
 use Rattle.std.specs.List.{concat}
 use Rattle.tt_io.specs.Causes.{Writes, one_more, AsksAll}
 use Rattle.tt_io.specs.Whole.{WritesFront, WritesPast}
@@ -71,6 +71,10 @@ due_status limit b =
 abbrev pub WritesFirst : Option (List ℕ) → Option (List ℕ) → List (List ℕ) → Type 0
 WritesFirst before now pieces = (count : ℕ) × Writes before now (concat (take count pieces))
 
+-- Where the bytes written are told after a call, they were told before, and grew by a front of this text, and not by the whole.
+abbrev pub WritesLess : Option (List ℕ) → Option (List ℕ) → List ℕ → Type 0
+WritesLess before now text = (front : List ℕ) × (rest : List ℕ) × (text ≡ front ++ rest) × (0 < length rest) × Writes before now front
+
 -- What is written is the transcript, or a front of it.
 pub record IsTranscript (words : FileWords) (limit : ℕ) (o : Outside) (status : ℕ) : Type 0 where
   pub whole : (b : Bytes) → Tell o.holds words limit b → status ≤ 4 → Writes o.before.written o.now.written (text_of (transcript b))
@@ -80,6 +84,9 @@ pub record IsTranscript (words : FileWords) (limit : ℕ) (o : Outside) (status 
   -- the same of the first line, where the script isn't told
   pub first : (b : Bytes) → TellFirst o.holds words limit b → status ≢ 6
       → Writes o.before.written o.now.written [] ⊎ WritesPast o.before.written o.now.written (first_line (opened b.problem b.published))
+  -- where memory is wanting, the first line alone is written, or less than the whole
+  pub wanting : (b : Bytes) → Tell o.holds words limit b → status ≡ 7
+      → Writes o.before.written o.now.written (first_line (opened b.problem b.published)) ⊎ WritesLess o.before.written o.now.written (text_of (transcript b))
 
 -- A status of 0 to 4, or 8, is the one that is due.
 pub record IsDue (words : FileWords) (limit : ℕ) (o : Outside) (status : ℕ) : Type 0 where
@@ -132,6 +139,8 @@ pub record IsFileRun (words : FileWords) (limit : ℕ) (o : Outside) (status : �
 pub record IsPlainRun (t : Transcript) (o : Outside) (status : ℕ) : Type 0 where
   pub whole : status ≤ 4 → Writes o.before.written o.now.written (text_of t)
   pub pieces : status ≢ 6 → WritesFirst o.before.written o.now.written t.pieces
+  -- where memory is wanting, less than the whole is written
+  pub wanting : status ≡ 7 → WritesLess o.before.written o.now.written (text_of t)
   pub front : WritesFront o.before.written o.now.written (text_of t)
   -- the status is that of the transcript, or says that a write failed or memory is wanting
   pub statuses : (status ≡ t.status) ⊎ ((status ≡ 6) ⊎ (status ≡ 7))
