@@ -433,6 +433,13 @@ is_six (Err Sink) is = refl
 is_six (Err Memory) is = absurd (omega arith)
 is_six (Err TooLong) is = absurd (omega arith)
 
+pub is_seven : (r : Result Done End) → status_of r ≡ 7 → r ≡ Err Memory
+is_seven (Ok done) is = absurd (let few = few_done done in omega arith)
+is_seven (Err Files) is = absurd (omega arith)
+is_seven (Err Sink) is = absurd (omega arith)
+is_seven (Err Memory) is = refl
+is_seven (Err TooLong) is = absurd (omega arith)
+
 has_causes : (o : Outside) (r : Result Done End) → HasEndCause Files o.before.files o.now.files r → HasEndCause Sink o.before.sink o.now.sink r → HasCauses o (status_of r)
 has_causes o r files sink = record {
   files = λ is. files.rose (is_five r is);
