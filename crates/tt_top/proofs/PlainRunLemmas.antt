@@ -75,9 +75,9 @@ pub made_faulty : (before now : Option (List ℕ)) (o : Result Session FaultyFil
 made_faulty before now o s f opens = rw opens.0 (one_whole before now (faulty_file f).line (input_status f.input) (at_most_four f.input) opens.1)
 
 -- less of a text that isn't empty
-less_of : (before now : Option (List ℕ)) (text : List ℕ) → 0 < length text → (now ≡ before) ⊎ WritesLess before now text → WritesLess before now text
-less_of before now text some (inl same) = none_less before now text same some
-less_of before now text some (inr less) = less
+less_of : (before now : Option (List ℕ)) (text : List ℕ) → 0 < length text → WritesLess before now text ⊎ (now ≡ before) → WritesLess before now text
+less_of before now text some (inl less) = less
+less_of before now text some (inr same) = none_less before now text same some
 
 pub made_served : (before mid now : Option (List ℕ)) (o : Result Session FaultyFile) (s : List ℕ) (session : Session) (r : Result Bool End) → 0 < length (concat (replies_to session (lines_of s))) → OpensMade before mid o (Ok (Ok session)) → ServesLines mid now session s r → WritesPlain (transcript_from o s) before now (status_of (done_by r))
 made_served before mid now o s session (Ok refused) some opens serves =
@@ -113,7 +113,7 @@ pub serves_lines : (before now : Option (List ℕ)) (d : Session) (text s : List
 serves_lines before now d text s (Ok refused) is refuses_is written memory less front no_files no_limit = rw (← is) (refuses_is, written)
 serves_lines before now d text s (Err Files) is refuses_is written memory less front no_files no_limit = absurd (no_files refl)
 serves_lines before now d text s (Err Sink) is refuses_is written memory less front no_files no_limit = rw (← is) (front refl)
-serves_lines before now d text s (Err Memory) is refuses_is written memory less front no_files no_limit = rw (← is) (memory refl, inr (less refl))
+serves_lines before now d text s (Err Memory) is refuses_is written memory less front no_files no_limit = rw (← is) (memory refl, inl (less refl))
 serves_lines before now d text s (Err TooLong) is refuses_is written memory less front no_files no_limit = absurd (no_limit refl)
 
 -- ---- the answer of a run

@@ -131,7 +131,7 @@ abbrev pub Serves : ℕ → Option (List ℕ) → Option (List ℕ) → Session 
 Serves limit before now d s (Ok refused) = (is_long limit s ≡ false) × (refused ≡ refuses d (lines_of (unwrap_or s []))) × Writes before now (concat (replies_to d (lines_of (unwrap_or s []))))
 Serves limit before now d s (Err Files) = now ≡ before
 Serves limit before now d s (Err Sink) = WritesFront before now (concat (replies_to d (lines_of (unwrap_or s []))))
-Serves limit before now d s (Err Memory) = WritesFirst before now (replies_to d (lines_of (unwrap_or s []))) × ((now ≡ before) ⊎ WritesLess before now (concat (replies_to d (lines_of (unwrap_or s [])))))
+Serves limit before now d s (Err Memory) = WritesFirst before now (replies_to d (lines_of (unwrap_or s []))) × (WritesLess before now (concat (replies_to d (lines_of (unwrap_or s [])))) ⊎ (IsSome s × (now ≡ before)))
 Serves limit before now d s (Err TooLong) = (is_long limit s ≡ true) × (now ≡ before)
 
 -- What making a problem and writing its first line leave, where the text gives this.
@@ -147,7 +147,7 @@ abbrev pub ServesLines : Option (List ℕ) → Option (List ℕ) → Session →
 ServesLines before now d text (Ok refused) = (refused ≡ refuses d (lines_of text)) × Writes before now (concat (replies_to d (lines_of text)))
 ServesLines before now d text (Err Files) = ⊥
 ServesLines before now d text (Err Sink) = WritesFront before now (concat (replies_to d (lines_of text)))
-ServesLines before now d text (Err Memory) = WritesFirst before now (replies_to d (lines_of text)) × ((now ≡ before) ⊎ WritesLess before now (concat (replies_to d (lines_of text))))
+ServesLines before now d text (Err Memory) = WritesFirst before now (replies_to d (lines_of text)) × (WritesLess before now (concat (replies_to d (lines_of text))) ⊎ (now ≡ before))
 ServesLines before now d text (Err TooLong) = ⊥
 
 -- What a run writes that asks for no file, where this is its transcript.

@@ -84,9 +84,9 @@ pub record IsTranscript (words : FileWords) (limit : ℕ) (o : Outside) (status 
   -- the same of the first line, where the script isn't told
   pub first : (b : Bytes) → TellFirst o.holds words limit b → status ≢ 6
       → Writes o.before.written o.now.written [] ⊎ WritesPast o.before.written o.now.written (first_line (opened b.problem b.published))
-  -- where memory is wanting, the first line alone is written, or less than the whole
+  -- where memory is wanting, less than the whole is written, or the first line where there is a script
   pub wanting : (b : Bytes) → Tell o.holds words limit b → status ≡ 7
-      → Writes o.before.written o.now.written (first_line (opened b.problem b.published)) ⊎ WritesLess o.before.written o.now.written (text_of (transcript b))
+      → WritesLess o.before.written o.now.written (text_of (transcript b)) ⊎ (IsSome b.script × Writes o.before.written o.now.written (first_line (opened b.problem b.published)))
 
 -- A status of 0 to 4, or 8, is the one that is due.
 pub record IsDue (words : FileWords) (limit : ℕ) (o : Outside) (status : ℕ) : Type 0 where
