@@ -1,9 +1,10 @@
--- Two numbers compared in either order, and so a number in a list, where the items are compared with it and not it with the items.
-use Rattle.std.proofs.Common.{◌≡◌, ◌∙◌, ℕ, Bool, false, List, [], ◌∷◌, refl, arith}
-use Rattle.std.specs.Prelude.{◌==◌}
+-- Numbers in lists, the rest of a list from a place on, and the first least of a list, piece by piece.
+use Rattle.std.proofs.Common.{◌≡◌, ◌∙◌, ℕ, zero, suc, ◌+◌, Bool, false, cond, Option, Some, None, List, [], ◌∷◌, ◌++◌, drop, refl, ap, arith}
+use Rattle.std.specs.Prelude.{◌==◌, slice_get}
 use Rattle.std.specs.List.{list_any}
 use Rattle.std.proofs.lemmas.Bool.Decides.{nat_tests}
-use Rattle.tt_base.specs.Lists.{is_listed}
+use Rattle.std.proofs.lemmas.List.Sums.{fold-append}
+use Rattle.tt_base.specs.Lists.{is_listed, is_less, least_after}
 
 -- the order of two numbers makes no difference to whether they are equal
 pub equal_turned : (a b : ℕ) → (a == b) ≡ (b == a)
@@ -20,3 +21,20 @@ any_agree p q same (x ∷ xs) = rw (same x, any_agree p q same xs) refl
 -- the test that `contains` of a slice makes is that of the definition
 pub listed_turned : (n : ℕ) (list : List ℕ) → list_any (λ other. other == n) list ≡ is_listed n list
 listed_turned n list = any_agree (λ other. other == n) (λ other. n == other) (λ other. equal_turned other n) list
+
+-- a list from a place on begins with what stands there
+pub drop_at : {A : Type 0} (xs : List A) (k : ℕ) (x : A) → slice_get xs k ≡ Some x → drop k xs ≡ x ∷ drop (k + 1) xs
+drop_at [] k x is = absurd (cc)
+drop_at (y ∷ ys) zero x is = let e : y ≡ x = cc in ap (λ z. z ∷ ys) e
+drop_at (y ∷ ys) (suc k) x is = let e : suc k + 1 ≡ suc (k + 1) = omega arith in rw e (drop_at ys k x is)
+
+-- nothing more to find
+pub least_after_none : {A : Type 0} (numbers : A → List ℕ) (found : Option A) → least_after numbers found [] ≡ found
+least_after_none numbers None = refl
+least_after_none numbers (Some found) = refl
+
+-- the least of two pieces, found one after the other
+pub least_after_append : {A : Type 0} (numbers : A → List ℕ) (found : Option A) (xs ys : List A) → least_after numbers found (xs ++ ys) ≡ least_after numbers (least_after numbers found xs) ys
+least_after_append numbers None [] ys = refl
+least_after_append numbers None (x ∷ xs) ys = ap Some (fold-append (λ b x. cond (is_less numbers x b) x b) x xs ys)
+least_after_append numbers (Some found) xs ys = ap Some (fold-append (λ b x. cond (is_less numbers x b) x b) found xs ys)

@@ -20,3 +20,8 @@ is_less numbers x y = comes_before (numbers x) (numbers y)
 abbrev pub first_least : {A : Type 0} → (A → List ℕ) → List A → Option A
 first_least numbers [] = None
 first_least numbers (x ∷ xs) = Some (best_of (is_less numbers) x xs)
+
+-- the same, where something may have been found before the list
+abbrev pub least_after : {A : Type 0} → (A → List ℕ) → Option A → List A → Option A
+least_after numbers None xs = first_least numbers xs
+least_after numbers (Some found) xs = Some (best_of (is_less numbers) found xs)

@@ -5,7 +5,8 @@ use Rattle.rand_pcg.specs.Lcg.{Lcg}
 use Rattle.serde_json.specs.Data.{Data}
 use Rattle.serde_json.specs.Written.{compact_text}
 use Rattle.serde_json.proofs.OnLiterals.{serde_json_on_literals}
-use Rattle.tt_make.specs.Draws.{each, first}
+use Rattle.tt_draw.specs.Words.{seeded}
+use Rattle.tt_make.specs.Draws.{each}
 use Rattle.tt_make.specs.Values.{list}
 use Rattle.tt_make.specs.Rooms.{room}
 use Rattle.tt_make.specs.Courses.{course, course_count}
@@ -35,7 +36,7 @@ then : {out before : List ℕ} (start part rest : List ℕ) → out ≡ before +
 then start part rest e is = e ∙ ap (λ (t : List ℕ). t ++ rest) is ∙ append_assoc start part rest
 
 -- what was drawn in order, and written in the order of the keys
-pub problem_drawn : (seed n m : ℕ) (start after_rooms after_courses after_rules : Lcg) (none rooms nothing a b c d e f g h out : List ℕ) → start ≡ first seed → m ≡ course_count n
+pub problem_drawn : (seed n m : ℕ) (start after_rooms after_courses after_rules : Lcg) (none rooms nothing a b c d e f g h out : List ℕ) → start ≡ seeded seed → m ≡ course_count n
     → none ≡ [] → rooms ≡ none ++ compact_text (list (each 1 (room_count n) room start).0) → after_rooms ≡ (each 1 (room_count n) room start).1
     → nothing ≡ [] → a ≡ nothing ++ before_courses → b ≡ a ++ compact_text (list (each 1 m (course (room_count n) n) after_rooms).0)
     → after_courses ≡ (each 1 m (course (room_count n) n) after_rooms).1

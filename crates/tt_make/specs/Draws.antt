@@ -1,7 +1,8 @@
 -- What is made with numbers that a generator gives one after another.
-use Rattle.std.specs.Prelude.{ℕ, zero, suc, ◌*◌, ◌+◌, ◌/◌, ◌^◌, List, [], ◌∷◌, ◌++◌}
-use Rattle.rand_pcg.specs.Lcg.{Lcg, started, increment_of}
-use Rattle.rand_pcg.specs.Pcg.{pcg32, multiplier_64}
+use Rattle.std.specs.Prelude.{ℕ, zero, suc, ◌+◌, List, [], ◌∷◌, ◌++◌}
+use Rattle.rand_pcg.specs.Lcg.{Lcg}
+use Rattle.rand_pcg.specs.Pcg.{pcg32}
+use Rattle.tt_draw.specs.Words.{drawn_place}
 
 -- what is made by drawing, and the generator afterwards
 abbrev pub Draws : Type 0 → Type 0
@@ -16,13 +17,9 @@ abbrev pub ◌>>=◌ : {A B : Type 0} → Draws A → (A → Draws B) → Draws 
 abbrev pub give : {A : Type 0} → A → Draws A
 give x g = (x, g)
 
--- the generator that a seed starts
-abbrev pub first : ℕ → Lcg
-first seed = started 64 multiplier_64 seed (increment_of 64 1)
-
 -- a number below k, from the next word
 unfoldable pub draw : ℕ → Draws ℕ
-draw k g = ((pcg32 g).0 * k / 2 ^ 32, (pcg32 g).1)
+draw k g = (drawn_place (pcg32 g).0 k, (pcg32 g).1)
 
 -- what is made for `from` and the numbers after it, `count` in all, in order
 unfoldable pub each : {A : Type 0} → ℕ → ℕ → (ℕ → Draws A) → Draws (List A)

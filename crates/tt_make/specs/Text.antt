@@ -2,7 +2,8 @@
 use Rattle.std.specs.Prelude.{ℕ, ◌+◌, ◌*◌, ◌/◌, List, codes}
 use Rattle.serde_json.specs.Data.{Data, string, object, member, no_members}
 use Rattle.serde_json.specs.Written.{compact_text}
-use Rattle.tt_make.specs.Draws.{Draws, ◌>>=◌, give, first, each}
+use Rattle.tt_draw.specs.Words.{seeded}
+use Rattle.tt_make.specs.Draws.{Draws, ◌>>=◌, give, each}
 use Rattle.tt_make.specs.Values.{num, list}
 use Rattle.tt_make.specs.Rooms.{room}
 use Rattle.tt_make.specs.Courses.{course, course_count}
@@ -32,4 +33,4 @@ problem classes = do
 
 -- the text of the problem that a seed gives, as serde_json writes it
 unfoldable pub make_text : ℕ → ℕ → List ℕ
-make_text seed classes = compact_text (problem classes (first seed)).0
+make_text seed classes = compact_text (problem classes (seeded seed)).0

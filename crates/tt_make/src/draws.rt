@@ -3,6 +3,7 @@ ghost use Rattle.tt_make.specs.Draws.{draw as draw_of};
 
 use rand_core::utils::NextWord;
 use rand_pcg::Lcg64Xsh32;
+use tt_draw::draw as draw_place;
 
 /// A number below `k`, from the next word.
 #[tactic(auto, unfolding(crate::specs::Draws::draw))]
@@ -12,5 +13,5 @@ pub fn draw(words: &mut Lcg64Xsh32, k: u32) -> u32
     ensures below { result < k }
 {
     let word = words.next_word();
-    ((u64::from(word) * u64::from(k)) >> 32) as u32
+    draw_place(word, u64::from(k)) as u32
 }
