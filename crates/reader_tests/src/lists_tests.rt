@@ -9,25 +9,35 @@ use tt_fields::{FileFault, Known, Part, list, whole};
 use tt_lists::{read_rules, read_students};
 use tt_problem::{DistKind, Rule, StudentPart};
 
-// The distributions of the list at `/d`.
-fn rules_in(alloc: Global, known: &Known<'_>, text: &str) -> Result<Row<Rule>, FileFault>
+// The distributions of the list at `/d` in a version of the form.
+fn rules_in(
+    alloc: Global,
+    version: u8,
+    known: &Known<'_>,
+    text: &str,
+) -> Result<Row<Rule>, FileFault>
     requires { IsFew known.now }
 {
     let value = parsed(alloc, text)?;
-    rules_at(alloc, known, &whole(alloc, &value))
+    rules_at(alloc, version, known, &whole(alloc, &value))
 }
 
-fn rules_at(alloc: Global, known: &Known<'_>, whole: &Part<'_>) -> Result<Row<Rule>, FileFault>
+fn rules_at(
+    alloc: Global,
+    version: u8,
+    known: &Known<'_>,
+    whole: &Part<'_>,
+) -> Result<Row<Rule>, FileFault>
     requires { IsFew known.now }
 {
     let items = list(whole, "d", 0, 9)?;
-    read_rules(alloc, known, &items)
+    read_rules(alloc, version, known, &items)
 }
 
-fn rule_count(alloc: Global, known: &Known<'_>, text: &str) -> Result<usize, FileFault>
+fn rule_count(alloc: Global, version: u8, known: &Known<'_>, text: &str) -> Result<usize, FileFault>
     requires { IsFew known.now }
 {
-    Ok(rules_in(alloc, known, text)?.len())
+    Ok(rules_in(alloc, version, known, text)?.len())
 }
 
 // Whether a rule is this one. A required rule has no penalty.
@@ -59,7 +69,7 @@ fn distributions_keep_their_order_and_drop_repeats(rt: HostRuntime) -> Result<()
     let ids = two_ids(alloc, 5, 7)?;
     let text =
         r#"{"d":[{"type":"MaxBreaks( 1, 6 )","penalty":1000000,"classes":[7,{"id":"5"},"07"]},{"type":"SameRoom","required":"true","penalty":[],"classes":[]}]}"#;
-    let rules = rules_in(alloc, &Known::among(&ids), text)?;
+    let rules = rules_in(alloc, 1, &Known::among(&ids), text)?;
     assert!(rt; are_two_rules(rules.as_slice()));
     Ok(())
 }
@@ -105,9 +115,24 @@ fn faults_of_distributions(rt: HostRuntime) -> Result<(), Fail> {
     let ids = two_ids(alloc, 5, 7)?;
     let known = Known::among(&ids);
     for (text, want) in FAULTS_OF_RULES.iter() {
-        assert!(rt; is_answer(rule_count(alloc, &known, text), *want), "{text}");
+        assert!(rt;
+            is_answer(rule_count(alloc, 1, &known, text), *want),
+            "{text}"
+        );
     }
     Ok(())
+}
+
+// A type that version 2 alone has.
+static RULES_OF_WEEKS: [(u8, Want<usize>); 2] = [(1, Err((37, "/d/0/type"))), (2, Ok(1))];
+
+#[test]
+fn distributions_have_the_types_of_their_version(rt: HostRuntime) {
+    let text = r#"{"d":[{"type":"MaxWeeks(1)","penalty":2,"classes":[5]}]}"#;
+    for (version, want) in RULES_OF_WEEKS.iter() {
+        let count = rule_count(rt.alloc(), *version, &Known::none(), text);
+        assert!(rt; is_answer(count, *want), "{version}");
+    }
 }
 
 // The students of the list at `/s`.

@@ -22,7 +22,7 @@ static PAIR_TYPES: [(&str, PairKind); 13] = [
 fn a_name_on_its_own_is_a_pair_type(rt: HostRuntime) {
     for (text, kind) in PAIR_TYPES.iter() {
         let kind = *kind;
-        assert_eq!(rt; read_type(text), Some(DistKind::Pair { kind }), "{text}");
+        assert_eq!(rt; read_type(text, 1), Some(DistKind::Pair { kind }), "{text}");
     }
 }
 
@@ -52,7 +52,7 @@ static TYPES_OF_PARAMETERS: [(&str, DistKind); 7] = [
 #[test]
 fn parameters_stand_in_parentheses(rt: HostRuntime) {
     for (text, kind) in TYPES_OF_PARAMETERS.iter() {
-        assert_eq!(rt; read_type(text), Some(*kind), "{text}");
+        assert_eq!(rt; read_type(text, 1), Some(*kind), "{text}");
     }
 }
 
@@ -89,6 +89,31 @@ static NO_TYPES: [&str; 27] = [
 #[test]
 fn any_other_text_is_no_type(rt: HostRuntime) {
     for text in NO_TYPES.iter() {
-        assert_eq!(rt; read_type(text), None, "{text}");
+        assert_eq!(rt; read_type(text, 2), None, "{text}");
+    }
+}
+
+static MOST_WEEKS: [(&str, Option<DistKind>); 7] = [
+    ("MaxWeeks(0)", Some(DistKind::MaxWeeks { most: 0 })),
+    ("MaxWeeks( 07 )", Some(DistKind::MaxWeeks { most: 7 })),
+    ("MaxWeeks(65535)", Some(DistKind::MaxWeeks { most: 65_535 })),
+    ("MaxWeeks(65536)", None),
+    ("MaxWeeks(1,2)", None),
+    ("MaxWeeks()", None),
+    ("MaxWeeks", None),
+];
+
+#[test]
+fn weeks_are_counted_from_version_2_on(rt: HostRuntime) {
+    for (text, kind) in MOST_WEEKS.iter() {
+        assert_eq!(rt; read_type(text, 2), *kind, "{text}");
+        assert_eq!(rt; read_type(text, 1), None, "{text}");
+    }
+}
+
+#[test]
+fn version_2_has_the_types_of_version_1(rt: HostRuntime) {
+    for (text, kind) in TYPES_OF_PARAMETERS.iter() {
+        assert_eq!(rt; read_type(text, 2), Some(*kind), "{text}");
     }
 }

@@ -1,10 +1,11 @@
 #![tactic(auto, using(tt_base::proofs::SetLemmas::set_words))]
 
-ghost use Rattle.std.specs.Prelude.{ℕ, ◌≡◌, ◌<◌, ◌≤◌, ◌^◌, ◌==◌, IfSome, slice_index};
+ghost use Rattle.std.specs.Prelude.{ℕ, ◌≡◌, ◌<◌, ◌≤◌, ◌^◌, ◌==◌, ◌&&◌, IfSome, nat_lt, slice_index};
 ghost use Rattle.std.specs.Option.{option_map};
 ghost use Rattle.tt_base.specs.Sets.{has, share, within, first, count, read_set};
 
-use crate::reading::read_bits;
+use crate::reading::{read_bits, word_bits};
+use crate::words::BitWord;
 
 /// A set of weeks of the term that is not empty. Week 0 is the first week, and 128 is the most
 /// that a set has.
@@ -16,7 +17,8 @@ pub struct Weeks {
 }
 
 impl Weeks {
-    ghost use Rattle.tt_bits.specs.Sets.{week_set, weeks_text};
+    ghost use Rattle.tt_bits.specs.Sets.{week_set, weeks_text, weeks_word};
+    ghost use Rattle.tt_bits.specs.Words.{word_set};
 
     /// The weeks of a text of `n` characters 0 and 1, as in the format of ITC 2019: the leftmost
     /// is for week 0, and a 1 says that the week is in the set. `None` where the length is
@@ -31,6 +33,27 @@ impl Weeks {
     {
         let bits = read_bits(text, n)?;
         Some(Weeks { bits })
+    }
+
+    /// The weeks of a word of `n` characters, its first for week 0. `None` where it has another number
+    /// of characters, or none of them is a 1.
+    pub fn of_word(word: BitWord, n: u8) -> Option<Weeks>
+        requires { n ≤ 128 }
+        ensures set { option_map week_set result ≡ word_set word n }
+        ensures weeks { result ≡ weeks_word word n }
+        // A week is in the set exactly where it is below n and its character is 1.
+        ensures places { IfSome result (λ weeks. (week : ℕ) → has (week_set weeks) week ≡ (nat_lt week n && has word.bits week)) }
+        ensures in_range { IfSome result (λ weeks. week_set weeks < 2 ^ n) }
+    {
+        let bits = word_bits(word, n)?;
+        Some(Weeks { bits })
+    }
+
+    /// The set as bits: bit i is 1 where week i is in the set.
+    pub fn bits(&self) -> u128
+        ensures { result ≡ week_set self.now }
+    {
+        self.bits
     }
 
     /// Whether the week is in the set.

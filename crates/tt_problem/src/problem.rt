@@ -3,12 +3,14 @@ ghost use Rattle.tt_travel.specs.Table.{most_rooms};
 ghost use Rattle.tt_problem.specs.Spans.{IsSpanWithin};
 ghost use Rattle.tt_problem.specs.Valid.{AreValidWeights, IsValid, IsValidClass, IsValidRoom, IsValidRule, IsValidStudent};
 ghost use Rattle.tt_problem.specs.RulePlaces.{rules_of};
-ghost use Rattle.tt_problem.specs.Places.{place_of_id, class_of, room_of, student_of, subpart_of, config_of, course_of};
+ghost use Rattle.tt_problem.specs.Sums.{links_of_rule};
+ghost use Rattle.tt_problem.specs.Places.{place_of_id, class_id, student_id, class_of, room_of, student_of, subpart_of, config_of, course_of};
 
 use crate::index::{Index, index_of};
 use crate::parts::{
     ClassPart, CoursePart, Parts, RoomPart, Rule, RulePlace, Span, StudentPart, Weights,
 };
+use crate::sums::links_of_rule;
 use indexmap::IndexSet;
 use std::alloc::{AllocError, Global};
 use std::marker::Model;
@@ -65,7 +67,7 @@ impl Problem {
     pub fn nr_weeks(&self) -> u8
         ensures value { result ≡ self.now.nr_weeks }
         ensures some { 1 ≤ result }
-        ensures few { result ≤ 64 }
+        ensures few { result ≤ 128 }
     {
         self.parts.nr_weeks
     }
@@ -92,6 +94,28 @@ impl Problem {
         ensures few { result ≤ 20000 }
     {
         self.parts.classes.len() as u32
+    }
+
+    /// The id of the class at a place, and 0 where there is no class.
+    #[tactic(auto, using(crate::proofs::IdLemmas::number_at), unfolding(crate::specs::Places::class_id))]
+    pub fn class_id(&self, class: u32) -> u32
+        ensures { result ≡ class_id self.now class }
+    {
+        match self.parts.classes.get(class as usize) {
+            None => 0,
+            Some(part) => part.id,
+        }
+    }
+
+    /// The id of the student at a place, and 0 where there is no student.
+    #[tactic(auto, using(crate::proofs::IdLemmas::number_at), unfolding(crate::specs::Places::student_id))]
+    pub fn student_id(&self, student: u32) -> u32
+        ensures { result ≡ student_id self.now student }
+    {
+        match self.parts.students.get(student as usize) {
+            None => 0,
+            Some(part) => part.id,
+        }
     }
 
     /// The place of the class with an id, and `None` where no class has it.
@@ -227,6 +251,15 @@ impl Problem {
         ensures valid { IsValidRule self.now result.now }
     {
         &self.parts.rules.as_slice()[place as usize]
+    }
+
+    /// The most cells that the members of a rule take together.
+    pub fn links_of_rule(&self, rule: &Rule) -> u32
+        requires { IsValidRule self.now rule.now }
+        ensures links { result ≡ links_of_rule self.now rule.now }
+        ensures few { result ≤ 1792000 }
+    {
+        links_of_rule(&self.parts, self.index.cells.as_slice(), rule)
     }
 
     /// How many rooms there are.

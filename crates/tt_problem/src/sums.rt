@@ -1,6 +1,7 @@
-//! Sums over the parts of a problem, for telling whether they are within its limits. None takes memory.
+//! Sums over the parts of a problem, for telling whether they are within its limits. Only the table of
+//! cells takes memory.
 
-ghost use Rattle.std.specs.Prelude.{◌≡◌, ◌≤◌, ◌<◌, All, length};
+ghost use Rattle.std.specs.Prelude.{◌≡◌, ◌≤◌, ◌<◌, All, IfOk, length, map};
 ghost use Rattle.tt_base.specs.Limits.{most_members};
 ghost use Rattle.tt_problem.specs.Spans.{Covers, IsSpanWithin};
 ghost use Rattle.tt_problem.specs.Valid.{IsValidRule, IsValidStudent, course_spans};
@@ -8,6 +9,8 @@ ghost use Rattle.tt_problem.specs.Seats.{most_of_course, most_subparts, most_sea
 ghost use Rattle.tt_problem.specs.Sums.{time_cells, class_cells, cells_of, member_count, counts_blocks, cells_at, links_of_rule, links_of, seats_of};
 
 use crate::parts::{ClassPart, CoursePart, DistKind, Parts, Rule, Span, StudentPart, TimeChoice};
+use std::alloc::{AllocError, Global};
+use tt_base::Row;
 
 /// How many cells of the term a time takes, a cell being one day of one week.
 fn time_cells(choice: &TimeChoice) -> u32
@@ -60,23 +63,40 @@ fn counts_blocks(kind: DistKind) -> bool
 {
     match kind {
         DistKind::MaxBreaks { .. } | DistKind::MaxBlock { .. } => true,
-        DistKind::Pair { .. } | DistKind::MaxDays { .. } | DistKind::MaxDayLoad { .. } => false,
+        DistKind::Pair { .. }
+        | DistKind::MaxDays { .. }
+        | DistKind::MaxWeeks { .. }
+        | DistKind::MaxDayLoad { .. } => false,
     }
 }
 
-/// The most cells that a time of the class at a place takes.
-#[tactic(auto, unfolding(crate::specs::Sums::cells_at))]
-pub fn cells_at(parts: &Parts, class: u32) -> u32
-    requires { class < length parts.now.classes }
+/// For each class the most cells that a time of it takes.
+pub fn cell_table(alloc: Global, parts: &Parts) -> Result<Row<u16>, AllocError>
+    ensures { IfOk result (λ cells. cells ≡ map class_cells parts.now.classes) }
+{
+    let mut cells = Vec::new(alloc);
+    for class in parts.classes.as_slice() {
+        cells.push(class_cells(class) as u16)?;
+    }
+    Ok(Row::from_vec(cells))
+}
+
+/// The most cells that a time of the class at a place takes. `cells` has the most of each class.
+#[tactic(auto, using(crate::proofs::SumLemmas::cell_in_table, crate::proofs::SumLemmas::few_cells))]
+fn cells_at(parts: &Parts, cells: &[u16], class: u32) -> u32
+    requires cells { cells.now ≡ map class_cells parts.now.classes }
+    requires class { class < length parts.now.classes }
     ensures cells { result ≡ cells_at parts.now class }
     ensures few { result ≤ 896 }
 {
-    class_cells(&parts.classes.as_slice()[class as usize])
+    let _ = parts;
+    u32::from(cells[class as usize])
 }
 
-/// The most cells that the members of a rule take together.
+/// The most cells that the members of a rule take together. `cells` has the most of each class.
 #[tactic(auto, unfolding(crate::specs::Sums::links_of_rule))]
-pub fn links_of_rule(parts: &Parts, rule: &Rule) -> u32
+pub fn links_of_rule(parts: &Parts, cells: &[u16], rule: &Rule) -> u32
+    requires cells { cells.now ≡ map class_cells parts.now.classes }
     requires short { length rule.now.members ≤ most_members }
     requires classes { All (λ class. class < length parts.now.classes) rule.now.members }
     ensures links { result ≡ links_of_rule parts.now rule.now }
@@ -84,13 +104,15 @@ pub fn links_of_rule(parts: &Parts, rule: &Rule) -> u32
 {
     let mut sum = 0;
     for class in rule.members.as_slice() {
-        sum += cells_at(parts, *class);
+        sum += cells_at(parts, cells, *class);
     }
     sum
 }
 
-/// The most cells that the members of all rules of `MaxBreaks` and `MaxBlock` take together.
-pub fn links_of(parts: &Parts) -> u64
+/// The most cells that the members of all rules of `MaxBreaks` and `MaxBlock` take together. `cells`
+/// has the most of each class.
+pub fn links_of(parts: &Parts, cells: &[u16]) -> u64
+    requires cells { cells.now ≡ map class_cells parts.now.classes }
     requires few { length parts.now.rules ≤ 20000 }
     requires rules { All (IsValidRule parts.now) parts.now.rules }
     ensures { result ≡ links_of parts.now }
@@ -98,7 +120,7 @@ pub fn links_of(parts: &Parts) -> u64
     let mut sum = 0;
     for rule in parts.rules.as_slice() {
         if counts_blocks(rule.kind) {
-            sum += u64::from(links_of_rule(parts, rule));
+            sum += u64::from(links_of_rule(parts, cells, rule));
         }
     }
     sum

@@ -8,30 +8,43 @@ ghost use Rattle.tt_tree.specs.Read.{rooms_read, tree_read};
 ghost use Rattle.tt_tree.specs.Whole.{HasClasses};
 ghost use Rattle.tt_lists.specs.Tables.{rules_in, students_in};
 ghost use Rattle.tt_read.specs.Read.{room_list_read, course_list_read, shape_read, IsShape, IsLinked};
-ghost use Rattle.tt_read.specs.Tables.{term_of, weights_of, unknown as unknown_of, room_list_of, course_list_of, checked_list, shape_of, known as known_of_shape, parts_with as parts_of_all, linked_of};
+ghost use Rattle.tt_read.specs.Tables.{most_weeks as most_weeks_of, term_of, weights_of, unknown as unknown_of, room_list_of, course_list_of, checked_list, shape_of, known as known_of_shape, parts_with as parts_of_all, linked_of};
 
 use crate::term::Term;
 use indexmap::IndexSet;
 use std::alloc::Global;
 use tt_base::Row;
 use tt_fields::{
-    Fault, FileFault, Items, Known, Part, as_object, list, list_or_none, number,
+    Fault, FileFault, Items, Known, Part, as_object, list, list_or_none, number, number_or,
     object as required_object,
 };
 use tt_lists::{read_rules, read_students};
 use tt_problem::{Parts, Rule, StudentPart, Weights};
 use tt_tree::{Classes, Configs, Context, Rooms, Subparts, Tree, read_courses, read_rooms};
 
-/// The days of a week and the weeks of the term.
+/// The most weeks of a term, by the version of the file's form.
+fn most_weeks(version: u8) -> u32
+    ensures most { result ≡ most_weeks_of version }
+    ensures few { result ≤ 128 }
+{
+    if version == 1 { 64 } else { 128 }
+}
+
+/// The version of the form, the days of a week, and the weeks of the term.
 #[tactic(auto, unfolding(crate::specs::Tables::term_of))]
 fn read_term<'a>(object: &'a Part<'a>) -> Result<Term, Fault<'a>>
     ensures reads { Reads (λ term. term) result (term_of (part_of object.now)) }
     ensures valid { IfOk result (λ term. IsValidTerm term.nr_days term.nr_weeks) }
 {
+    let version = number_or(1, object, "version", 1, 2)? as u8;
     let nr_days = number(object, "nrDays", 1, 7)? as u8;
-    let nr_weeks = number(object, "nrWeeks", 1, 64)? as u8;
+    let nr_weeks = number(object, "nrWeeks", 1, most_weeks(version))? as u8;
     number(object, "slotsPerDay", 1, 1440)?;
-    Ok(Term { nr_days, nr_weeks })
+    Ok(Term {
+        version,
+        nr_days,
+        nr_weeks,
+    })
 }
 
 /// The optimization weights.
@@ -128,12 +141,16 @@ fn read_course_list<'a>(
 
 /// The list of distributions, read with no reference looked up.
 #[tactic(auto, unfolding(crate::specs::Tables::checked_list))]
-fn read_rule_list<'a>(alloc: Global, object: &'a Part<'a>) -> Result<Items<'a>, FileFault>
-    ensures reads { Gives items_of result (checked_list 20000 (rules_in None) (codes "distributions") (part_of object.now)) }
+fn read_rule_list<'a>(
+    alloc: Global,
+    version: u8,
+    object: &'a Part<'a>,
+) -> Result<Items<'a>, FileFault>
+    ensures reads { Gives items_of result (checked_list 20000 (rules_in version None) (codes "distributions") (part_of object.now)) }
     ensures few { IfOk result (λ items. length items.values.now ≤ 20000) }
 {
     let items = list_or_none(object, "distributions", 20_000)?;
-    read_rules(alloc, &Known::none(), &items)?;
+    read_rules(alloc, version, &Known::none(), &items)?;
     Ok(items)
 }
 
@@ -171,7 +188,7 @@ pub fn first_pass<'a>(alloc: Global, object: &'a Part<'a>) -> Result<Shape<'a>, 
     let weights = read_weights(&optimization)?;
     let rooms = read_room_list(alloc, term, object)?;
     let courses = read_course_list(alloc, term, object)?;
-    let distributions = read_rule_list(alloc, object)?;
+    let distributions = read_rule_list(alloc, term.version, object)?;
     let students = read_student_list(alloc, object)?;
     Ok(Shape {
         term,
@@ -246,7 +263,12 @@ pub fn second_pass(alloc: Global, shape: &Shape<'_>) -> Result<Parts, FileFault>
     let context = known(&*shape);
     let rooms = read_rooms(alloc, &context, &shape.rooms.items)?;
     let tree = read_courses(alloc, &context, &shape.courses.items)?;
-    let rules = read_rules(alloc, &context.classes, &shape.distributions)?;
+    let rules = read_rules(
+        alloc,
+        shape.term.version,
+        &context.classes,
+        &shape.distributions,
+    )?;
     let courses = Known::among(&shape.courses.ids);
     let students = read_students(alloc, &courses, &shape.students)?;
     Ok(parts_with(shape, rooms, tree, rules, students))
