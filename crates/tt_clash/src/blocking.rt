@@ -7,18 +7,19 @@ ghost use Rattle.tt_clash.specs.RulesOf.{IsMemberOf};
 ghost use Rattle.tt_clash.specs.Blocked.{is_closed, blocks_alone, blocked_by};
 
 use crate::Block;
+use crate::closures::Closures;
 use crate::rules::rules_of;
 use tt_bits::{Spot, Time};
 use tt_problem::{DistKind, Problem, Rule};
 
 /// Why the spot is blocked for the class, if it is.
-pub fn blocked(problem: &Problem, class: u32, spot: Spot) -> Option<Block>
+pub fn blocked(problem: &Problem, closures: &Closures, class: u32, spot: Spot) -> Option<Block>
     requires class { class < length problem.now.classes }
     requires room { IfSome spot.room (λ room. room < length problem.now.rooms) }
     requires weeks { IsBelow problem.now.nr_weeks spot }
-    ensures { result ≡ blocked_by problem.now class spot }
+    ensures { result ≡ blocked_by problem.now closures.now class spot }
 {
-    if is_closed(problem, spot) {
+    if closed(problem, closures, spot) {
         return Some(Block::Closed);
     }
     for with in rules_of(problem, class) {
@@ -29,21 +30,25 @@ pub fn blocked(problem: &Problem, class: u32, spot: Spot) -> Option<Block>
     None
 }
 
-/// Whether the spot's room is unavailable at an overlapping time.
+/// Whether the spot's room is closed at an overlapping time, by the file or by a closure that isn't
+/// lifted. False where the spot has no room.
 #[tactic(auto, unfolding(crate::specs::Blocked::is_closed))]
-pub fn is_closed(problem: &Problem, spot: Spot) -> bool
+pub fn closed(problem: &Problem, closures: &Closures, spot: Spot) -> bool
     requires room { IfSome spot.room (λ room. room < length problem.now.rooms) }
-    ensures { result ≡ is_closed problem.now spot }
+    ensures { result ≡ is_closed problem.now closures.now spot }
 {
     match spot.room {
-        Some(room) => overlaps_some(problem.room(room).closed.as_slice(), spot.time),
+        Some(room) => {
+            overlaps_some(problem.room(room).closed.as_slice(), spot.time)
+                || closures.has_closed(room, spot.time)
+        }
         None => false,
     }
 }
 
 /// Whether the time overlaps one of some times.
 fn overlaps_some(times: &[Time], time: Time) -> bool
-    ensures { result ≡ list_any (λ t. overlaps time t) times.now }
+    ensures { result ≡ list_any (overlaps time) times.now }
 {
     times.iter().any(|other| time.overlaps(other))
 }
@@ -59,6 +64,7 @@ fn blocks_alone(problem: &Problem, rule: &Rule, class: u32, spot: Spot) -> bool
     rule.required
         && match rule.kind {
             DistKind::MaxDays { most } => u16::from(spot.time.days.count()) > most,
+            DistKind::MaxWeeks { most } => u16::from(spot.time.weeks.count()) > most,
             DistKind::MaxDayLoad { most } => spot.time.length > most,
             DistKind::Pair { kind: _ }
             | DistKind::MaxBreaks { breaks: _, gap: _ }

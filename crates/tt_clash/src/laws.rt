@@ -6,6 +6,7 @@
 ghost use Rattle.std.specs.Prelude.{◌≡◌, ℕ, ◌<◌, true, false, All, List, Option, None, ◌++◌, take, filter, length, nat_eq, ◌==◌};
 ghost use Rattle.std.specs.List.{IsDistinct};
 ghost use Rattle.tt_bits.specs.declared.times.Spot.{Spot};
+ghost use Rattle.tt_bits.specs.declared.times.Closure.{Closure};
 ghost use Rattle.tt_travel.specs.Table.{Table};
 ghost use Rattle.tt_problem.specs.declared.parts.DistKind.{DistKind};
 ghost use Rattle.tt_problem.specs.declared.parts.Parts.{Parts};
@@ -51,20 +52,20 @@ pub fn frees()
 
 /// Where the class isn't blocked, each required group rule with it has amount 0 with it alone.
 pub fn unblocked()
-    ensures { (p : Parts) (class : ℕ) (x : Spot) → blocked_by p class x ≡ None → All (IsFreeAlone p (rule_amounts p) class x) (rules_of p class) }
+    ensures { (p : Parts) (closures : List Closure) (class : ℕ) (x : Spot) → blocked_by p closures class x ≡ None → All (IsFreeAlone p (rule_amounts p) class x) (rules_of p class) }
 {}
 
-/// Taking out members never takes the amount of MaxDays, MaxDayLoad and MaxBlock from 0.
+/// Taking out members never takes the amount of MaxDays, MaxWeeks, MaxDayLoad and MaxBlock from 0.
 pub fn removal()
     ensures { (kind : DistKind) (weeks : ℕ) (t : Table) (after before : List (Option Spot)) → stays_at_0 kind ≡ true → IsPart after before
         → kind_amount kind weeks t before ≡ 0 → kind_amount kind weeks t after ≡ 0 }
 {}
 
-/// After a force of a class that isn't blocked, its room is not unavailable, no placed class overlaps
-/// it there, no pair with it breaks a required pair rule, and each required rule with it of MaxDays,
-/// MaxDayLoad and MaxBlock has amount 0. A required MaxBreaks rule may be broken, since a later
-/// removal can split a block.
+/// After a force of a class that isn't blocked, its room is closed then neither by the file nor by a
+/// closure that isn't lifted, no placed class overlaps it there, no pair with it breaks a required
+/// pair rule, and each required rule with it of MaxDays, MaxWeeks, MaxDayLoad and MaxBlock has
+/// amount 0. A required MaxBreaks rule may be broken, since a later removal can split a block.
 pub fn forced()
-    ensures { (p : Parts) (spots : List (Option Spot)) (class : ℕ) (x : Spot) (after : List (Option Spot)) → blocked_by p class x ≡ None
-        → AreForced spots class x (conflict_set p (rule_amounts p) spots class x) after → FitsAmong p after class x }
+    ensures { (p : Parts) (closures : List Closure) (spots : List (Option Spot)) (class : ℕ) (x : Spot) (after : List (Option Spot)) → blocked_by p closures class x ≡ None
+        → AreForced spots class x (conflict_set p (rule_amounts p) spots class x) after → FitsAmong p closures after class x }
 {}

@@ -1,5 +1,5 @@
 -- What a roster keeps, and what makes it one of a problem.
-use Rattle.std.specs.Prelude.{◌≡◌, ℕ, ◌+◌, ◌≤◌, length, map, sum, sum_by, All, IfSome, slice_index}
+use Rattle.std.specs.Prelude.{◌≡◌, ℕ, ◌+◌, ◌<◌, ◌≤◌, ◌^◌, length, map, sum, sum_by, All, IfSome, slice_index}
 use Rattle.tt_travel.specs.Table.{IsRoomOf}
 use Rattle.tt_bits.specs.Spots.{spot_at}
 use Rattle.tt_pool.specs.Pools.{list_at}
@@ -14,10 +14,16 @@ use Rattle.tt_roster.specs.Conflicts.{student_conflicts}
 abbrev pub rostered : Inside → Rostered
 rostered r = seen r.rows.items r.spots.items r.conflicts
 
--- a list for each class, of the students who have it; and for each seat that the rows have room for, a seat taken or a spare one
+-- What holds of the rows and of the lists by class, whatever the problem.
 pub record IsIndexed (r : Inside) : Type 0 where
+  -- a number of 32 bits counts the classes
+  pub few : length r.spots.items < 2 ^ 32
+  -- each student's list is in order, and of classes that there are
+  pub lists : All (Ascends 0 (length r.spots.items)) (map classes_in r.rows.items)
+  -- each class has a list, of the students who have it
   pub long : length r.attendees.lists ≡ length r.spots.items
   pub students : (class : ℕ) → list_at r.attendees class ≡ students_of (map classes_in r.rows.items) class
+  -- for each seat that the rows have room for, a seat is taken or spare
   pub spare : r.attendees.spare + sum_by length (map classes_in r.rows.items) ≡ sum (map most_in r.rows.items)
 
 -- All that is kept is of the problem with these parts.

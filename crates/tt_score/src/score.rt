@@ -1,24 +1,26 @@
 ghost use Rattle.tt_score.specs.Small.{AreSmall};
 
 use crate::classes::{ClassSums, paid_with, spot_now, with, without};
+use crate::closing::newly_closed;
 use crate::group::Group;
+use crate::joint::JointRoster;
 use crate::making::new_groups;
 use crate::rules::{RuleSums, cost_of, set_in_rules};
 use crate::students::{conflicts_with, students_with_courses, unsectioned_at};
 use crate::totals::{Totals, weighted};
 use crate::trial::costs_with;
 use std::alloc::{AllocError, Global};
-use tt_bits::Value;
-use tt_clash::conflicts;
+use tt_bits::{Time, Value};
+use tt_clash::{Closures, conflicts};
 use tt_measure::Measure;
 use tt_occupancy::Occupancy;
 use tt_problem::sums::cells_of;
 use tt_problem::{Problem, Weights};
 use tt_roster::Roster;
 
-/// The score of a plan: the value of each class, the classes of each student, and the sums over
-/// them, which are kept while classes are placed and students seated. All calls are handed the
-/// problem that it was made for.
+/// The score of a plan: the value of each class, the classes of each student, the closures of the
+/// session, and the sums over them, which are kept while classes are placed, students seated, and
+/// rooms closed and reopened. All calls are handed the problem that it was made for.
 #[derive(Drop)]
 pub struct Score {
     plan: Vec<Option<Value>>,
@@ -27,30 +29,34 @@ pub struct Score {
     classes: ClassSums,
     rules: RuleSums,
     weights: Weights,
-    roster: Roster,
+    roster: JointRoster,
     unsectioned: u32,
+    closures: Closures,
     ghost small: { AreSmall occupancy classes rules weights roster },
 }
 
 impl Score {
-    ghost use Rattle.std.specs.Prelude.{◌≡◌, ◌<◌, ◌≤◌, All, Some, None, IsSome, IfOk, [], false, true, length, slice_index, replicate, slice_get, slice_set, slice_index_or, option_and_then, take};
+    ghost use Rattle.std.specs.Prelude.{◌≡◌, ◌<◌, ◌≤◌, ◌++◌, ◌∷◌, All, Some, None, IsSome, IfSome, IfOk, OnOk, OnErr, [], false, true, length, slice_index, replicate, slice_get, slice_set, slice_index_or, option_and_then, take};
     ghost use Rattle.std.specs.Option.{option_map_or};
     ghost use Rattle.tt_problem.specs.declared.parts.Parts.{Parts};
     ghost use Rattle.tt_problem.specs.declared.parts.Rule.{Rule};
     ghost use Rattle.tt_clash.specs.Amounts.{rule_amounts};
     ghost use Rattle.tt_clash.specs.Blocked.{blocked_by};
+    ghost use Rattle.tt_clash.specs.Closures.{made, relifted, without_last};
     ghost use Rattle.tt_clash.specs.ConflictSet.{conflict_set};
     ghost use Rattle.tt_plan.specs.Domain.{IsOfDomain, spot_at_value, spots_of};
     ghost use Rattle.tt_score.specs.Amounts.{rule_amount, rule_cost};
-    ghost use Rattle.tt_score.specs.Fits.{Fits, plan_of, student_lists, occupancy_of, roster_of, group_count};
+    ghost use Rattle.tt_score.specs.Fits.{Fits, plan_of, student_lists, closures_of, occupancy_of, roster_of, group_count};
     ghost use Rattle.tt_base.specs.Lists.{is_listed};
     ghost use Rattle.tt_roster.specs.Lists.{with_class, without_class, list_of};
     ghost use Rattle.tt_score.specs.Totals.{totals_of};
 
-    /// The score where no class is placed and no student has a class. Only this call takes memory.
+    /// The score where no class is placed, no student has a class, and nothing is closed. Only this
+    /// call and `close` take memory.
     pub fn new(alloc: Global, problem: &Problem) -> Result<Score, AllocError>
         ensures plan { IfOk result (λ s. plan_of s ≡ replicate (length problem.now.classes) None) }
         ensures lists { IfOk result (λ s. student_lists s ≡ replicate (length problem.now.students) []) }
+        ensures closures { IfOk result (λ s. closures_of s ≡ []) }
         ensures fits { IfOk result (λ s. Fits problem.now s) }
     {
         problem.validity();
@@ -64,7 +70,7 @@ impl Score {
             cells_of(problem.parts()),
         )?;
         let groups = new_groups(alloc, problem)?;
-        let roster = Roster::new(alloc, problem)?;
+        let roster = JointRoster::new(alloc, problem)?;
         Ok(Score {
             plan,
             occupancy,
@@ -82,6 +88,7 @@ impl Score {
             weights: problem.weights(),
             roster,
             unsectioned: students_with_courses(problem),
+            closures: Closures::new(alloc),
         })
     }
 
@@ -108,7 +115,7 @@ impl Score {
         ensures lists { result.now.seats ≡ student_lists self.now }
         ensures spots { (p : Parts) → Fits p self.now → result.now.spots ≡ spots_of p (plan_of self.now) }
     {
-        &self.roster
+        self.roster.roster()
     }
 
     /// Gives a student a class that isn't on the student's list, where the list may grow.
@@ -120,11 +127,12 @@ impl Score {
         requires spare { length (list_of (student_lists self.old) student) < slice_index (roster_of self.old).most student }
         ensures plan { plan_of self.new ≡ plan_of self.old }
         ensures lists { student_lists self.new ≡ slice_set (student_lists self.old) student (with_class class (list_of (student_lists self.old) student)) }
+        ensures closures { closures_of self.new ≡ closures_of self.old }
         ensures fits { Fits problem.now self.new }
     {
-        let before = unsectioned_at(problem, &self.roster, student);
+        let before = unsectioned_at(problem, self.roster.roster(), student);
         self.roster.seat(problem, student, class);
-        let after = unsectioned_at(problem, &self.roster, student);
+        let after = unsectioned_at(problem, self.roster.roster(), student);
         self.unsectioned = self.unsectioned - before + after;
     }
 
@@ -136,11 +144,12 @@ impl Score {
         requires seated { is_listed class (list_of (student_lists self.old) student) ≡ true }
         ensures plan { plan_of self.new ≡ plan_of self.old }
         ensures lists { student_lists self.new ≡ slice_set (student_lists self.old) student (without_class class (list_of (student_lists self.old) student)) }
+        ensures closures { closures_of self.new ≡ closures_of self.old }
         ensures fits { Fits problem.now self.new }
     {
-        let before = unsectioned_at(problem, &self.roster, student);
+        let before = unsectioned_at(problem, self.roster.roster(), student);
         self.roster.leave(problem, student, class);
-        let after = unsectioned_at(problem, &self.roster, student);
+        let after = unsectioned_at(problem, self.roster.roster(), student);
         self.unsectioned = self.unsectioned - before + after;
     }
 
@@ -172,10 +181,18 @@ impl Score {
         requires free { slice_index_or (plan_of self.old) class None ≡ None }
         ensures plan { plan_of self.new ≡ slice_set (plan_of self.old) class (Some value) }
         ensures lists { student_lists self.new ≡ student_lists self.old }
+        ensures closures { closures_of self.new ≡ closures_of self.old }
         ensures fits { Fits problem.now self.new }
     {
         let spot = tt_plan::spot(problem, class, value);
-        self.classes = with(problem, self.plan.as_slice(), class, value, self.classes);
+        self.classes = with(
+            problem,
+            &self.closures,
+            self.plan.as_slice(),
+            class,
+            value,
+            self.classes,
+        );
         self.rules = set_in_rules(
             problem,
             &self.occupancy,
@@ -196,12 +213,20 @@ impl Score {
         ensures value { slice_index_or (plan_of self.old) class None ≡ Some result }
         ensures plan { plan_of self.new ≡ slice_set (plan_of self.old) class None }
         ensures lists { student_lists self.new ≡ student_lists self.old }
+        ensures closures { closures_of self.new ≡ closures_of self.old }
         ensures fits { Fits problem.now self.new }
     {
         let Some(value) = self.plan[class as usize] else {
             unreachable!()
         };
-        self.classes = without(problem, self.plan.as_slice(), class, value, self.classes);
+        self.classes = without(
+            problem,
+            &self.closures,
+            self.plan.as_slice(),
+            class,
+            value,
+            self.classes,
+        );
         self.rules = set_in_rules(
             problem,
             &self.occupancy,
@@ -216,21 +241,113 @@ impl Score {
         value
     }
 
-    /// The sums over the plan and the lists.
-    pub fn totals(&self) -> Totals
-        ensures { (p : Parts) → Fits p self.now → result ≡ totals_of p (plan_of self.now) (student_lists self.now) }
+    /// The closures of the session.
+    pub fn closures(&self) -> &Closures
+        ensures { result.now ≡ closures_of self.now }
     {
+        &self.closures
+    }
+
+    /// Closes a room at a time; placed classes stay. Refused for want of memory alone, and then all
+    /// is as it was.
+    pub fn close(&mut self, problem: &Problem, room: u32, time: Time) -> Result<(), AllocError>
+        requires fits { Fits problem.now self.old }
+        requires few { length (closures_of self.old) < 10000 }
+        ensures closures { OnOk result (closures_of self.new ≡ closures_of self.old ++ made room time ∷ []) }
+        ensures plan { plan_of self.new ≡ plan_of self.old }
+        ensures lists { student_lists self.new ≡ student_lists self.old }
+        ensures fits { Fits problem.now self.new }
+        ensures err { OnErr result (self.new ≡ self.old) }
+    {
+        let more = newly_closed(problem, &self.closures, self.plan.as_slice(), room, time);
+        self.closures.close(room, time)?;
+        self.classes.closed += more;
+        Ok(())
+    }
+
+    /// Lifts the closure at a place, which isn't lifted.
+    pub fn lift(&mut self, problem: &Problem, at: u32)
+        requires fits { Fits problem.now self.old }
+        requires within { at < length (closures_of self.old) }
+        requires open { IfSome (slice_get (closures_of self.old) at) (λ c. c.lifted ≡ false) }
+        ensures closures { closures_of self.new ≡ relifted (closures_of self.old) at true }
+        ensures plan { plan_of self.new ≡ plan_of self.old }
+        ensures lists { student_lists self.new ≡ student_lists self.old }
+        ensures fits { Fits problem.now self.new }
+    {
+        let closure = self.closures.at(at);
+        self.closures.lift(at);
+        let less = newly_closed(
+            problem,
+            &self.closures,
+            self.plan.as_slice(),
+            closure.room,
+            closure.time,
+        );
+        self.classes.closed -= less;
+    }
+
+    /// Takes back that the closure at a place was lifted.
+    pub fn unlift(&mut self, problem: &Problem, at: u32)
+        requires fits { Fits problem.now self.old }
+        requires within { at < length (closures_of self.old) }
+        requires lifted { IfSome (slice_get (closures_of self.old) at) (λ c. c.lifted ≡ true) }
+        ensures closures { closures_of self.new ≡ relifted (closures_of self.old) at false }
+        ensures plan { plan_of self.new ≡ plan_of self.old }
+        ensures lists { student_lists self.new ≡ student_lists self.old }
+        ensures fits { Fits problem.now self.new }
+    {
+        let closure = self.closures.at(at);
+        let more = newly_closed(
+            problem,
+            &self.closures,
+            self.plan.as_slice(),
+            closure.room,
+            closure.time,
+        );
+        self.closures.unlift(at);
+        self.classes.closed += more;
+    }
+
+    /// Takes the last closure off, lifted or not.
+    pub fn open_last(&mut self, problem: &Problem)
+        requires fits { Fits problem.now self.old }
+        requires some { 0 < length (closures_of self.old) }
+        ensures closures { closures_of self.new ≡ without_last (closures_of self.old) }
+        ensures plan { plan_of self.new ≡ plan_of self.old }
+        ensures lists { student_lists self.new ≡ student_lists self.old }
+        ensures fits { Fits problem.now self.new }
+    {
+        let closure = self.closures.at(self.closures.len() - 1);
+        self.closures.open_last();
+        if !closure.lifted {
+            let less = newly_closed(
+                problem,
+                &self.closures,
+                self.plan.as_slice(),
+                closure.room,
+                closure.time,
+            );
+            self.classes.closed -= less;
+        }
+    }
+
+    /// The sums over the plan, the lists and the closures.
+    pub fn totals(&self) -> Totals
+        ensures { (p : Parts) → Fits p self.now → result ≡ totals_of p (closures_of self.now) (plan_of self.now) (student_lists self.now) }
+    {
+        let student = self.roster.roster().conflicts();
         Totals {
             time: self.classes.time,
             room: self.classes.room,
             distribution: self.rules.distribution,
-            student: self.roster.conflicts(),
+            student,
             total: weighted(
                 self.weights,
                 self.classes.time,
                 self.classes.room,
                 self.rules.distribution,
-                self.roster.conflicts(),
+                student,
             ),
             hard: self.occupancy.clashes() + self.classes.closed + self.rules.hard,
             unplaced: self.classes.unplaced,
@@ -242,7 +359,7 @@ impl Score {
     pub fn trial(&mut self, problem: &Problem, class: u32, value: Value) -> u128
         requires fits { Fits problem.now self.old }
         requires value { IsOfDomain problem.now class value }
-        ensures total { result ≡ (totals_of problem.now (slice_set (plan_of self.old) class (Some value)) (student_lists self.old)).total }
+        ensures total { result ≡ (totals_of problem.now (closures_of self.old) (slice_set (plan_of self.old) class (Some value)) (student_lists self.old)).total }
         ensures same { self.new ≡ self.old }
     {
         problem.validity();
@@ -258,15 +375,15 @@ impl Score {
             spot,
             self.rules.distribution,
         );
-        let student = conflicts_with(problem, &self.roster, class, has, spot);
+        let student = conflicts_with(problem, &mut self.roster, class, has, spot);
         weighted(self.weights, paid.time, paid.room, distribution, student)
     }
 
     /// Lists the classes that have to go where a class is forced to a value that isn't blocked: those
     /// that overlap it in its room or break a required pair rule with it, and for each required rule
-    /// of MaxDays, MaxDayLoad, MaxBreaks and MaxBlock with it as many of the remaining members, in
-    /// member order, as bring the amount to 0. `order` begins with them, and the answer is how many
-    /// they are.
+    /// of MaxDays, MaxWeeks, MaxDayLoad, MaxBreaks and MaxBlock with it as many of the remaining
+    /// members, in member order, as bring the amount to 0. `order` begins with them, and the answer is
+    /// how many they are.
     pub fn conflicts(
         &mut self,
         problem: &Problem,
@@ -277,7 +394,7 @@ impl Score {
     ) -> u32
         requires fits { Fits problem.now self.old }
         requires value { IsOfDomain problem.now class value }
-        requires open { option_and_then (blocked_by problem.now class) (spot_at_value problem.now class value) ≡ None }
+        requires open { option_and_then (blocked_by problem.now (closures_of self.old) class) (spot_at_value problem.now class value) ≡ None }
         requires marks { length marks.old ≡ length problem.now.classes }
         requires unmarked { All (λ marked. marked ≡ false) marks.old }
         requires order { length order.old ≡ length problem.now.classes }
@@ -287,6 +404,7 @@ impl Score {
         ensures marks { marks.new ≡ marks.old }
         ensures plan { plan_of self.new ≡ plan_of self.old }
         ensures lists { student_lists self.new ≡ student_lists self.old }
+        ensures closures { closures_of self.new ≡ closures_of self.old }
         ensures fits { Fits problem.now self.new }
     {
         let spot = tt_plan::spot(problem, class, value);
