@@ -19,81 +19,21 @@ use Rattle.tt_problem.specs.Valid.{IsValid, IsValidStudent}
 use Rattle.tt_struct.specs.Enrolments.{count_in, takes, is_of_courses, has_parent_of, has_parent, is_enrolment_of}
 use Rattle.tt_state.specs.Seats.{has_seat, first_without_seat}
 use Rattle.tt_state.specs.Snapshots.{Snapshot}
-use Rattle.tt_enrol.specs.Choices.{choices_at}
-use Rattle.tt_enrol.specs.Least.{Situation, is_allowed, least_choice}
-use Rattle.tt_enrol.specs.Students.{parent_in, situation_of, with_course, taken_in, classes_found}
-use Rattle.tt_enrol.specs.Steps.{IsFoundFor}
-use Rattle.tt_enrol.proofs.CountLemmas.{count_of-append}
+use Rattle.tt_choice.specs.Choices.{choices_at}
+use Rattle.tt_choice.specs.Least.{Situation, is_allowed, least_choice}
+use Rattle.tt_choice.specs.Situations.{situation_of}
+use Rattle.tt_choice.proofs.ParentLemmas.{has_parent_in, parents_kept, allowed_parents, allowed_seats}
+use Rattle.tt_enrol.specs.Students.{with_course, taken_in, classes_found}
+use Rattle.tt_choice.specs.Seating.{MayGet}
+use Rattle.tt_choice.proofs.CountLemmas.{count_of-append}
 use Rattle.tt_enrol.proofs.EnrolledLemmas.{none_stays}
-use Rattle.tt_enrol.proofs.LeastLemmas.{IsAllowed, least_is}
-use Rattle.tt_enrol.proofs.Order.{all-append}
-use Rattle.tt_enrol.proofs.ValidLemmas.{IsChoice, IsTaken, are_choices, takes_at, same_takes, listed_of, takes_more, of_more, of_last, once_more}
+use Rattle.tt_choice.proofs.LeastLemmas.{IsAllowed, least_is}
+use Rattle.tt_choice.proofs.Order.{all-append}
+use Rattle.tt_choice.proofs.SeatingLemmas.{all_seats}
+use Rattle.tt_choice.proofs.ValidLemmas.{IsChoice, IsTaken, are_choices, takes_at, same_takes, listed_of, takes_more, of_more, of_last, once_more}
 
 both : (x y : Bool) → x ≡ true → y ≡ true → (x && y) ≡ true
 both x y h k = rw (h, k) refl
-
--- parents that are there stay there
-parents_kept : (p : Parts) (taken choice list : List ℕ) → list_all (has_parent p taken) list ≡ true → list_all (has_parent p (taken ++ choice)) list ≡ true
-unfolding has_parent has_parent_of
-parents_kept p taken choice [] h = refl
-parents_kept p taken choice (c ∷ list) h =
-    let parts = and_parts (has_parent p taken c) (list_all (has_parent p taken) list) h in
-    both (has_parent p (taken ++ choice) c) (list_all (has_parent p (taken ++ choice)) list) (of_class (slice_get p.classes c) parts.0) (parents_kept p taken choice list parts.1)
-  where
-    of_parent : (o : Option ℕ) → option_map_or (λ q. is_listed q taken) o true ≡ true → option_map_or (λ q. is_listed q (taken ++ choice)) o true ≡ true
-    of_parent None e = e
-    of_parent (Some q) e = list_any-append (nat_eq q) taken choice ∙ ap (λ (b : Bool). b || is_listed q choice) e
-
-    of_class : (o : Option ClassPart) → option_map_or (has_parent_of taken) o false ≡ true → option_map_or (has_parent_of (taken ++ choice)) o false ≡ true
-    of_class None e = e
-    of_class (Some part) e = of_parent part.parent e
-
-slice_some : (parts : List ClassPart) (c : ℕ) → c < length parts → slice_get parts c ≡ None → ⊥
-slice_some [] c lt none = omega arith
-slice_some (x ∷ parts) zero lt none = none-some x (sym none)
-slice_some (x ∷ parts) (suc c) lt none = slice_some parts c (omega arith) none
-
-either_way : (a b : Bool) → (b || a) ≡ true → (a || b) ≡ true
-either_way true b e = refl
-either_way false true e = refl
-either_way false false e = e
-
--- the class has no parent, or its parent is in the choice or taken
-abbrev has_parent_in : Parts → (taken choice : List ℕ) → ℕ → Bool
-has_parent_in p taken choice c = option_map_or (λ q. is_listed q choice || is_listed q taken) (parent_in p c) true
-
--- the parents of an allowed choice are in it or taken, and its classes have seats
-parent_there : (taken choice : List ℕ) (o : Option ℕ) → option_map_or (λ q. is_listed q choice || is_listed q taken) o true ≡ true → option_map_or (λ q. is_listed q (taken ++ choice)) o true ≡ true
-parent_there taken choice None e = e
-parent_there taken choice (Some q) e = list_any-append (nat_eq q) taken choice ∙ either_way (is_listed q taken) (is_listed q choice) e
-
-class_there : (p : Parts) (taken choice : List ℕ) (c : ℕ) → c < length p.classes → has_parent_in p taken choice c ≡ true → has_parent p (taken ++ choice) c ≡ true
-unfolding has_parent has_parent_of
-class_there p taken choice c below e = of_class (slice_get p.classes c) refl e
-  where
-    of_class : (o : Option ClassPart) → slice_get p.classes c ≡ o → option_map_or (λ q. is_listed q choice || is_listed q taken) (option_map_or (λ part. part.parent) o None) true ≡ true
-        → option_map_or (has_parent_of (taken ++ choice)) o false ≡ true
-    of_class None none h = absurd (slice_some p.classes c below none)
-    of_class (Some part) some h = parent_there taken choice part.parent h
-
--- so each class of an allowed choice has its parent and its seat
-module _ (p : Parts) (has : ℕ → Bool) (taken choice : List ℕ) where
-  allowed_parents : (list : List ℕ) → AllByRecursion (λ c. c < length p.classes) list → list_all (λ c. has c && has_parent_in p taken choice c) list ≡ true
-      → list_all (has_parent p (taken ++ choice)) list ≡ true
-  allowed_parents [] below h = refl
-  allowed_parents (c ∷ list) below h =
-      let test : ℕ → Bool = λ d. has d && has_parent_in p taken choice d in
-      let parts = and_parts (test c) (list_all test list) h in
-      let own = and_parts (has c) (has_parent_in p taken choice c) parts.0 in
-      both (has_parent p (taken ++ choice) c) (list_all (has_parent p (taken ++ choice)) list) (class_there p taken choice c below.0 own.1) (allowed_parents list below.1 parts.1)
-
-  allowed_seats : (list : List ℕ) → list_all (λ c. has c && has_parent_in p taken choice c) list ≡ true → list_all has list ≡ true
-  allowed_seats [] h = refl
-  allowed_seats (c ∷ list) h =
-      let test : ℕ → Bool = λ d. has d && has_parent_in p taken choice d in
-      let parts = and_parts (test c) (list_all test list) h in
-      let own = and_parts (has c) (has_parent_in p taken choice c) parts.0 in
-      both (has c) (list_all has list) own.0 (allowed_seats list parts.1)
 
 -- none of the courses to come is done, and none stands twice
 abbrev AreNew : (done rest : List ℕ) → Type 0
@@ -148,6 +88,10 @@ module _ (p : Parts) (valid : IsValid p) (at : List ℕ → Situation) (has : �
       step None is one go e = absurd (none-some list (sym (e ∙ none_stays at (map (choices_at p) rest))))
       step (Some choice) is one go e = go choice one e
 
+and_yes : (b : Bool) → (b && true) ≡ b
+and_yes true = refl
+and_yes false = refl
+
 all_new : (rest : List ℕ) → AllByRecursion (λ j. is_listed j [] ≡ false) rest
 all_new [] = tt
 all_new (j ∷ rest) = (refl, all_new rest)
@@ -156,27 +100,21 @@ all_of : (f : ℕ → Bool) (list : List ℕ) → AllByRecursion (λ c. f c ≡ 
 all_of f [] h = refl
 all_of f (c ∷ list) h = both (f c) (list_all f list) h.0 (all_of f list h.1)
 
-all_seats : (p : Parts) (now : List (List ℕ)) (student : ℕ) (list : List ℕ) → list_all (has_seat p now student) list ≡ true → first_without_seat p now student list ≡ None
-all_seats p now student [] h = refl
-all_seats p now student (c ∷ list) h =
-    let parts = and_parts (has_seat p now student c) (list_all (has_seat p now student) list) h in
-    rw parts.0 (all_seats p now student list parts.1)
-
 is_enrolment_is : (p : Parts) (part : StudentPart) (has : ℕ → Bool) (list : List ℕ) → IsTaken p has part.courses list → is_enrolment_of p part list ≡ true
 unfolding is_enrolment_of is_of_courses
 is_enrolment_is p part has list h =
     rw (h.once, all_of (λ c. option_map_or (λ course. is_listed course part.courses) (course_of p c) false) list h.of, h.takes, h.parents) refl
 
 pub found_valid : (p : Parts) (s : Snapshot) (student : ℕ) (part : StudentPart) (list : List ℕ) → IsValid p → slice_get p.students student ≡ Some part → IsValidStudent p part → classes_found p s student ≡ Some list
-    → IsFoundFor p s.lists student list
+    → MayGet p s.lists student list
 unfolding classes_found
 found_valid p s student part list valid is student_valid e =
-    let at = situation_of p s student in
+    let at = situation_of p s student [] in
     let has = has_seat p s.lists student in
     let courses : Some list ≡ fold (with_course at) (Some []) (map (choices_at p) part.courses) = sym e ∙ ap (λ (o : Option StudentPart). taken_in at (map (choices_at p) (option_map_or (λ x. x.courses) o []))) is in
     let within = recursion_from_All (λ place. place < length p.courses) part.courses student_valid.courses in
     let none : IsTaken p has [] [] = record { below = tt; of = tt; takes = refl; once = refl; parents = refl; seats = refl } in
-    let all = taken_all p valid at has (λ taken choice. refl) [] part.courses [] list tt within (are_new [] part.courses (all_new part.courses) student_valid.distinct) none courses in
+    let all = taken_all p valid at has (λ taken choice. and_yes (list_all (λ c. has c && has_parent_in p taken choice c) choice)) [] part.courses [] list tt within (are_new [] part.courses (all_new part.courses) student_valid.distinct) none courses in
     record {
       below = All-from_recursion (λ c. c < length p.classes) list all.below;
       enrolment = ap (λ (o : Option StudentPart). option_map_or (λ x. is_enrolment_of p x list) o false) is ∙ is_enrolment_is p part has list all;

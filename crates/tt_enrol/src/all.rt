@@ -1,12 +1,12 @@
 ghost use Rattle.std.specs.Prelude.{◌≡◌, ◌+◌, ◌<◌, ◌≤◌, [], None, Some, IfOk, IsSome, OnOk, OnErr, cond, false, length};
 ghost use Rattle.tt_state.specs.History.{IsWithinStep, desk_of, earlier, stepped};
-ghost use Rattle.tt_state.specs.Snapshots.{in_order, list_in, with_list};
 ghost use Rattle.tt_enrol.specs.Enrolled.{enrolled, lacks_classes, all_enrolled, with_student};
-ghost use Rattle.tt_enrol.specs.Ready.{HasRoom, IsKnown};
-ghost use Rattle.tt_enrol.specs.Steps.{IsFoundFor, with_counts};
+ghost use Rattle.tt_enrol.specs.Ready.{HasRoom};
+ghost use Rattle.tt_enrol.specs.Steps.{with_counts};
 
-use crate::enrolling::{Buffers, Known, find};
+use crate::enrolling::{Buffers, find};
 use std::alloc::{AllocError, Global};
+use tt_choice::seat;
 use tt_state::State;
 
 /// How many students got an enrolment, and how many were left as they were.
@@ -32,71 +32,25 @@ fn lacks_classes(state: &State, student: u32) -> bool
     }
 }
 
-/// Gives a student the classes that were found, in the last step.
-fn seat(state: &mut State, student: u32, classes: &[u32]) -> Result<(), AllocError>
-    requires student { student < length state.old.problem.students }
-    requires found { IsFoundFor state.old.problem state.old.present.lists student classes.now }
-    requires step { 0 < length (earlier state.old) }
-    ensures now { OnOk result (state.new.present ≡ with_list state.old.present student (in_order classes.now)) }
-    ensures step { IsWithinStep state.old state.new }
-    ensures err { OnErr result (state.new ≡ state.old) }
-{
-    match state.section_step(student, classes) {
-        Ok(()) => Ok(()),
-        Err(refusal) => Err(refusal.want_of_memory()),
-    }
-}
-
-/// The same, and counts the student among those who have the classes.
-fn seat_and_count(
-    state: &mut State,
-    known: &mut Known,
-    student: u32,
-    classes: &[u32],
-) -> Result<(), AllocError>
-    requires student { student < length state.old.problem.students }
-    requires found { IsFoundFor state.old.problem state.old.present.lists student classes.now }
-    requires step { 0 < length (earlier state.old) }
-    requires known { IsKnown state.old.problem state.old.present.plan state.old.present.lists known.old }
-    requires free { list_in state.old.present student ≡ [] }
-    ensures now { OnOk result (state.new.present ≡ with_list state.old.present student (in_order classes.now)) }
-    ensures known { OnOk result (IsKnown state.new.problem state.new.present.plan state.new.present.lists known.new) }
-    ensures step { IsWithinStep state.old state.new }
-    ensures err { OnErr result (state.new ≡ state.old) }
-{
-    state.soundness();
-    seat(state, student, classes)?;
-    known.count(state.score().roster(), student);
-    Ok(())
-}
-
-/// Enrols a student who has no class, in the last step, where there is an enrolment; whether there
+/// Enrols a student, in the last step, where there is an enrolment; whether there
 /// is one. Want of memory comes only where there is one.
-fn enrol_one(
-    state: &mut State,
-    known: &mut Known,
-    buffers: &mut Buffers,
-    student: u32,
-) -> Result<bool, AllocError>
+fn enrol_one(state: &mut State, buffers: &mut Buffers, student: u32) -> Result<bool, AllocError>
     requires student { student < length state.old.problem.students }
     requires step { 0 < length (earlier state.old) }
-    requires known { IsKnown state.old.problem state.old.present.plan state.old.present.lists known.old }
     requires room { HasRoom state.old.problem buffers.old }
-    requires free { list_in state.old.present student ≡ [] }
     ensures now { IfOk result (λ found. enrolled state.old.problem state.old.present student ≡ cond found (Some state.new.present) None) }
     ensures same { IfOk result (λ found. found ≡ false → state.new.present ≡ state.old.present) }
-    ensures known { OnOk result (IsKnown state.new.problem state.new.present.plan state.new.present.lists known.new) }
     ensures room { HasRoom state.old.problem buffers.new }
     ensures step { IsWithinStep state.old state.new }
     ensures memory { OnErr result (IsSome (enrolled state.old.problem state.old.present student)) }
     ensures err { OnErr result (state.new ≡ state.old) }
 {
     state.problem().validity();
-    match find(state.problem(), known, student, buffers) {
+    match find(state, student, buffers) {
         None => Ok(false),
         Some(count) => {
             let classes = &buffers.taken.as_slice()[..count];
-            seat_and_count(state, known, student, classes)?;
+            seat(state, student, classes)?;
             Ok(true)
         }
     }
@@ -106,20 +60,17 @@ fn enrol_one(
 /// there is an enrolment. `so_far` has how many of the students before got one.
 fn enrol_next(
     state: &mut State,
-    known: &mut Known,
     buffers: &mut Buffers,
     student: u32,
     so_far: Enrolled,
 ) -> Result<Enrolled, AllocError>
     requires student { student < length state.old.problem.students }
     requires step { 0 < length (earlier state.old) }
-    requires known { IsKnown state.old.problem state.old.present.plan state.old.present.lists known.old }
     requires room { HasRoom state.old.problem buffers.old }
     requires few { so_far.enrolled + so_far.left ≤ student }
     ensures next { IfOk result (λ n. with_counts state.new.present n.enrolled n.left
         ≡ with_student state.old.problem (with_counts state.old.present so_far.enrolled so_far.left) student) }
     ensures few { IfOk result (λ n. n.enrolled + n.left ≤ student + 1) }
-    ensures known { OnOk result (IsKnown state.new.problem state.new.present.plan state.new.present.lists known.new) }
     ensures room { HasRoom state.old.problem buffers.new }
     ensures step { IsWithinStep state.old state.new }
 {
@@ -127,7 +78,7 @@ fn enrol_next(
     if !lacks_classes(state, student) {
         return Ok(so_far);
     }
-    if enrol_one(state, known, buffers, student)? {
+    if enrol_one(state, buffers, student)? {
         Ok(Enrolled {
             enrolled: so_far.enrolled + 1,
             left: so_far.left,
@@ -141,13 +92,8 @@ fn enrol_next(
 }
 
 /// Enrols each student who has a course and no class, in the last step, where there is an enrolment.
-fn enrol_each(
-    state: &mut State,
-    known: &mut Known,
-    buffers: &mut Buffers,
-) -> Result<Enrolled, AllocError>
+fn enrol_each(state: &mut State, buffers: &mut Buffers) -> Result<Enrolled, AllocError>
     requires step { 0 < length (earlier state.old) }
-    requires known { IsKnown state.old.problem state.old.present.plan state.old.present.lists known.old }
     requires room { HasRoom state.old.problem buffers.old }
     ensures all { IfOk result (λ n. with_counts state.new.present n.enrolled n.left ≡ all_enrolled state.old.problem state.old.present) }
     ensures step { IsWithinStep state.old state.new }
@@ -157,7 +103,7 @@ fn enrol_each(
         left: 0,
     };
     for student in 0..state.problem().student_count() {
-        so_far = enrol_next(state, known, buffers, student, so_far)?;
+        so_far = enrol_next(state, buffers, student, so_far)?;
     }
     Ok(so_far)
 }
@@ -171,10 +117,9 @@ pub fn enrol_all(alloc: Global, state: &mut State) -> Result<Enrolled, AllocErro
     ensures taken { OnOk result (state.new.taken ≡ state.old.taken) }
     ensures err { OnErr result (state.new ≡ state.old) }
 {
-    let mut known = Known::new(alloc, state.problem(), state.score(), None)?;
     let mut buffers = Buffers::new(alloc, state.problem())?;
     state.begin()?;
-    match enrol_each(state, &mut known, &mut buffers) {
+    match enrol_each(state, &mut buffers) {
         Ok(counts) => Ok(counts),
         Err(error) => {
             state.take_back();

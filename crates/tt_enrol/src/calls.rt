@@ -1,11 +1,11 @@
 ghost use Rattle.std.specs.Prelude.{◌≡◌, ◌<◌, ◌∷◌, [], None, Some, Err, IfOk, IfErr, OnOk, OnErr, length};
 ghost use Rattle.tt_state.specs.History.{desk_of, stepped, trail};
+ghost use Rattle.tt_choice.specs.Seating.{MayGet};
 ghost use Rattle.tt_enrol.specs.Students.{classes_found};
 ghost use Rattle.tt_enrol.specs.Enrolled.{enrolled};
 ghost use Rattle.tt_enrol.specs.Refusals.{IsOfEnrol};
-ghost use Rattle.tt_enrol.specs.Steps.{IsFoundFor};
 
-use crate::enrolling::{Buffers, Known, find};
+use crate::enrolling::{Buffers, find};
 use std::alloc::{AllocError, Global};
 use tt_state::{Refusal, State};
 
@@ -13,14 +13,13 @@ use tt_state::{Refusal, State};
 fn classes_found(alloc: Global, state: &State, student: u32) -> Result<Vec<u32>, Refusal>
     requires { student < length state.now.problem.students }
     ensures found { IfOk result (λ list. classes_found state.now.problem state.now.present student ≡ Some list.items) }
-    ensures valid { IfOk result (λ list. IsFoundFor state.now.problem state.now.present.lists student list.items) }
+    ensures valid { IfOk result (λ list. MayGet state.now.problem state.now.present.lists student list.items) }
     ensures none { result ≡ Err Refusal.BadSection → classes_found state.now.problem state.now.present student ≡ None }
     ensures only { IfErr result IsOfEnrol }
 {
-    let problem = state.problem();
-    let known = Known::new(alloc, problem, state.score(), Some(student))?;
-    let mut buffers = Buffers::new(alloc, problem)?;
-    match find(problem, &known, student, &mut buffers) {
+    state.problem().validity();
+    let mut buffers = Buffers::new(alloc, state.problem())?;
+    match find(state, student, &mut buffers) {
         None => Err(Refusal::BadSection),
         Some(count) => {
             let Buffers { mut taken, .. } = buffers;

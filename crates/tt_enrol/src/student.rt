@@ -1,11 +1,12 @@
-ghost use Rattle.std.specs.Prelude.{◌≡◌, ◌+◌, ◌*◌, ◌<◌, ◌≤◌, ◌++◌, length, map, take, IfSome};
-ghost use Rattle.tt_enrol.specs.Choices.{choices_at};
-ghost use Rattle.tt_enrol.specs.Students.{courses_of, taken_in};
-ghost use Rattle.tt_enrol.specs.Standings.{situation_in};
-ghost use Rattle.tt_enrol.specs.Found.{chosen_by};
+ghost use Rattle.std.specs.Prelude.{◌≡◌, ◌+◌, ◌*◌, ◌<◌, ◌≤◌, ◌++◌, [], length, map, take, IfSome};
+ghost use Rattle.tt_choice.specs.Choices.{choices_at};
+ghost use Rattle.tt_choice.specs.Ready.{HasRoom};
+ghost use Rattle.tt_choice.specs.Situations.{courses_of, situation_of};
+ghost use Rattle.tt_enrol.specs.Students.{taken_in};
+ghost use Rattle.tt_choice.specs.Found.{chosen_by};
 
-use crate::course::least_choice;
-use crate::standing::Standing;
+use tt_choice::{ChoiceBuffers, least_of_course};
+use tt_state::State;
 
 /// Writes the front of one buffer after that of another.
 fn append(taken: &mut [u32], count: usize, best: &[u32], size: usize)
@@ -17,45 +18,29 @@ fn append(taken: &mut [u32], count: usize, best: &[u32], size: usize)
 }
 
 /// The classes found for a student, course after course: how many they are, and they stand at the
-/// front of `taken` then; `None` where some course has no allowed choice. `ahead`, `front` and `best`
-/// are scratch.
+/// front of `taken` then; `None` where some course has no allowed choice.
 #[tactic(auto, using(tt_problem::proofs::SpanLemmas::few_subparts))]
 pub fn take_courses(
-    standing: &Standing,
+    state: &State,
     student: u32,
-    ahead: &mut [u64],
-    front: &mut [u32],
-    best: &mut [u32],
+    choices: &mut ChoiceBuffers,
     taken: &mut [u32],
 ) -> Option<usize>
-    requires student { student < length standing.now.problem.now.students }
-    requires ahead { length standing.now.problem.now.subparts < length ahead.old }
-    requires front { length standing.now.problem.now.subparts ≤ length front.old }
-    requires room { length standing.now.problem.now.subparts ≤ length best.old }
-    requires taken { 40 * length standing.now.problem.now.subparts ≤ length taken.old }
-    ensures found { chosen_by taken.new result ≡ taken_in (situation_in standing.now) (map (choices_at standing.now.problem.now) (courses_of standing.now.problem.now student)) }
+    requires student { student < length state.now.problem.students }
+    requires room { HasRoom state.now.problem choices.old }
+    requires taken { 40 * length state.now.problem.subparts ≤ length taken.old }
+    ensures found { chosen_by taken.new result ≡ taken_in (situation_of state.now.problem state.now.present student []) (map (choices_at state.now.problem) (courses_of state.now.problem student)) }
     ensures within { IfSome result (λ count. count ≤ length taken.new) }
+    ensures room { HasRoom state.now.problem choices.new }
 {
-    let problem = standing.problem;
+    let problem = state.problem();
     problem.validity();
-    let configs = problem.parts().configs.as_slice();
-    let subparts = problem.parts().subparts.as_slice();
     let mut count = 0;
-    for place in problem.student(student).courses.as_slice() {
-        let course = problem.course(*place);
-        match least_choice(
-            standing,
-            &taken[..count],
-            configs,
-            subparts,
-            course.configs,
-            ahead,
-            front,
-            best,
-        ) {
+    for course in problem.student(student).courses.as_slice() {
+        match least_of_course(state, student, *course, &[], &taken[..count], choices) {
             None => return None,
             Some(size) => {
-                append(taken, count, best, size);
+                append(taken, count, choices.best.as_slice(), size);
                 count += size;
             }
         }

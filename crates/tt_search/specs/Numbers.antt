@@ -1,12 +1,10 @@
 -- Proofs alone need it. What the code of a turn keeps: the numbers of prices and ranks, in the order in which they are compared, offers,
 -- and classes.
-use Rattle.std.specs.Prelude.{ℕ, ◌≡◌, List, [], ◌∷◌, Option, Some, None, length, if◌then◌else◌}
-use Rattle.std.specs.List.{best_of, filter, range_with_len}
+use Rattle.std.specs.Prelude.{ℕ, ◌≡◌, List, [], ◌∷◌, Option, Some, None, if◌then◌else◌}
 use Rattle.tt_plan.specs.Domain.{IsOfDomain}
+use Rattle.tt_bits.specs.declared.times.Closure.{Closure}
 use Rattle.tt_bits.specs.declared.times.Value.{Value}
 use Rattle.tt_problem.specs.declared.parts.Parts.{Parts}
-use Rattle.tt_base.specs.Lists.{first_least, is_less}
-use Rattle.tt_search.specs.Turns.{has_open_value}
 use Rattle.tt_search.specs.declared.price.Price.{Price}
 use Rattle.tt_search.specs.declared.price.Rank.{Rank}
 use Rattle.tt_search.specs.declared.turn.Offer.{Offer}
@@ -14,10 +12,6 @@ use Rattle.tt_search.specs.declared.turn.Move.{Move}
 use Rattle.tt_state.specs.Forced.{forced}
 use Rattle.tt_state.specs.Snapshots.{Snapshot}
 use Rattle.tt_state.specs.Values.{blocked_of}
-
--- the classes that have an open value, in the problem's order
-unfoldable pub hopeful : Parts → List ℕ
-hopeful p = filter (has_open_value p) (range_with_len 0 (length p.classes))
 
 -- the numbers of a price
 abbrev pub price_numbers : Price → List ℕ
@@ -27,15 +21,10 @@ price_numbers r = r.weight ∷ (if r.strays then 1 else 0) ∷ r.total ∷ []
 abbrev pub rank_numbers : Rank → List ℕ
 rank_numbers r = r.unplaced ∷ r.hard ∷ r.moved ∷ r.total ∷ []
 
--- the first least of a list, where something may have been found before it
-abbrev pub least_after : {A : Type 0} → (A → List ℕ) → Option A → List A → Option A
-least_after numbers None xs = first_least numbers xs
-least_after numbers (Some found) xs = Some (best_of (is_less numbers) found xs)
-
 -- the value is of the class's domain, and it isn't blocked
-pub record IsOpenValue (p : Parts) (class : ℕ) (v : Value) : Type 0 where
+pub record IsOpenValue (p : Parts) (closures : List Closure) (class : ℕ) (v : Value) : Type 0 where
   pub domain : IsOfDomain p class v
-  pub free : blocked_of p class v ≡ None
+  pub free : blocked_of p closures class v ≡ None
 
 -- an offer has the price of its value, and the value is one of these
 pub record IsOffer (numbers : Value → List ℕ) (Of : Value → Type 0) (o : Offer) : Type 0 where

@@ -1,19 +1,22 @@
-ghost use Rattle.std.specs.Prelude.{◌≡◌, ◌+◌, ◌≤◌, ◌<◌, ◌∷◌, ◌++◌, [], true, false, Some, IfOk, OnOk, OnErr, length, None, Option, ℕ, if◌then◌else◌};
+ghost use Rattle.std.specs.Prelude.{◌≡◌, ◌+◌, ◌<◌, ◌∷◌, ◌++◌, [], Some, IfOk, OnOk, OnErr, length, None, Option, ℕ, if◌then◌else◌};
 ghost use Rattle.std.specs.Option.{option_copied, ForSome};
+ghost use Rattle.tt_solution.specs.Published.{moved_in};
 ghost use Rattle.tt_solution.specs.Timetable.{IsTimetableOf, Timetable};
 ghost use Rattle.tt_state.specs.History.{IsWithinStep, desk_of, earlier, moved_to, stepped, trail, with_taken};
 ghost use Rattle.tt_state.specs.Values.{conflicts_of};
 ghost use Rattle.tt_base.specs.Lists.{comes_before};
 ghost use Rattle.tt_search.specs.Least.{IsFirstLeast};
-ghost use Rattle.tt_search.specs.Full.{full_rank, full_end, moved_in};
+ghost use Rattle.tt_search.specs.Full.{full_rank, full_end};
+ghost use Rattle.tt_search.specs.Drawing.{AreCandidates};
 ghost use Rattle.tt_search.specs.MovedNow.{AreMoved};
 ghost use Rattle.tt_search.specs.Searched.{rank_of, way_of, search_end, turns_made, searched, repaired};
-ghost use Rattle.tt_search.specs.Numbers.{hopeful, IsOpenValue, after_move, rank_numbers};
+ghost use Rattle.tt_search.specs.Numbers.{IsOpenValue, after_move, rank_numbers};
 ghost use Rattle.tt_search.specs.UnderWay.{IsUnderWay};
 
+use crate::drawing::Candidates;
 use crate::moving::MovedClasses;
 use crate::price::{Rank, rank_now};
-use crate::turn::{Move, hopeful_classes, next_move};
+use crate::turn::{Move, next_move};
 use rand_core::Rng;
 use rand_pcg::Lcg64Xsh32;
 use std::alloc::{AllocError, Global};
@@ -36,7 +39,7 @@ struct Walked {
 
 /// The present moment, where so many published classes are moved.
 fn moment(state: &State, moved: u32) -> Best
-    ensures rank { (published : Option Timetable) → moved ≡ moved_in state.now.problem published state.now.present
+    ensures rank { (published : Option Timetable) → moved ≡ moved_in state.now.problem published state.now.present.plan
         → rank_numbers result.rank ≡ full_rank state.now.problem published state.now.present }
     ensures mark { result.mark + 1 ≡ length (trail state.now) }
 {
@@ -59,7 +62,7 @@ fn better(best: Best, now: Best) -> Best
 
 /// Forces the class of a move to its value, in the last step.
 fn make(state: &mut State, next: Move) -> Result<(), AllocError>
-    requires open { IsOpenValue state.old.problem next.class next.value }
+    requires open { IsOpenValue state.old.problem state.old.present.closures next.class next.value }
     requires step { 0 < length (earlier state.old) }
     ensures desk { OnOk result (desk_of state.new ≡ moved_to (desk_of state.old) (after_move state.old.problem state.old.present next)) }
     ensures trail { OnOk result (trail state.new ≡ trail state.old ++ state.new.present ∷ []) }
@@ -76,14 +79,13 @@ fn make(state: &mut State, next: Move) -> Result<(), AllocError>
 fn walk(
     state: &mut State,
     published: Option<&Published>,
-    classes: &[u32],
+    candidates: &mut Candidates,
     moved: &mut MovedClasses,
     turns: u32,
     seed: u64,
 ) -> Result<Walked, AllocError>
     requires belongs { ForSome (option_copied published) (IsTimetableOf state.old.problem) }
-    requires hopeful { classes.now ≡ hopeful state.old.problem }
-    requires few { length classes.now ≤ 20000 }
+    requires candidates { AreCandidates state.old.problem state.old.present candidates.old [] }
     requires moved { AreMoved state.old.problem (option_copied published) state.old.present.plan moved.old [] }
     requires step { 0 < length (earlier state.old) }
     requires trail { trail state.old ≡ state.old.present ∷ [] }
@@ -93,10 +95,11 @@ fn walk(
     let mut words = Lcg64Xsh32::new(seed, 1);
     let mut best = moment(state, moved.count);
     for made in 0..turns {
-        let Some(next) = next_move(state, published, classes, words.next_u32()) else {
+        let Some(next) = next_move(state, published, candidates, words.next_u32()) else {
             return Ok(Walked { best, made });
         };
         make(state, next)?;
+        candidates.follow(state, next.class);
         moved.follow(state, published, next.class);
         best = better(best, moment(state, moved.count));
     }
@@ -120,17 +123,10 @@ fn seek(
     ensures present { OnErr result (state.new.present ≡ state.old.present) }
     ensures entries { OnErr result (state.new.entries ≡ state.old.entries) }
 {
-    let classes = hopeful_classes(alloc, state.problem())?;
+    let mut candidates = Candidates::new(alloc, state)?;
     let mut moved = MovedClasses::new(alloc, state, published)?;
     state.begin()?;
-    match walk(
-        state,
-        published,
-        classes.as_slice(),
-        &mut moved,
-        turns,
-        seed,
-    ) {
+    match walk(state, published, &mut candidates, &mut moved, turns, seed) {
         Ok(walked) => {
             state.roll_back(walked.best.mark);
             Ok(walked.made)

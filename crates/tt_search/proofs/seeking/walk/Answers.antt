@@ -4,12 +4,15 @@ use Rattle.rand_core.specs.Steps.{stream_of, steps_u32}
 use Rattle.rand_pcg.specs.Pcg.{pcg32}
 use Rattle.tt_state.specs.History.{IsWithinStep, earlier, trail, with_taken}
 use Rattle.tt_search.specs.Turns.{turn_of}
-use Rattle.tt_search.specs.Searched.{onward, random_words}
+use Rattle.tt_draw.specs.Words.{random_words}
+use Rattle.tt_draw.proofs.WordLemmas.{words_from}
+use Rattle.tt_search.specs.Searched.{onward}
 use Rattle.tt_search.specs.Full.{full_rank, full_end}
 use Rattle.tt_search.specs.MovedNow.{AreMoved}
+use Rattle.tt_search.proofs.DrawingLemmas.{candidates_forced}
 use Rattle.tt_search.proofs.MovedLemmas.{moved_is, moved_forced}
 use Rattle.tt_state.proofs.StepLemmas.{within_next, within_same, within_still}
-use Rattle.tt_search.proofs.WayLemmas.{made_turn, mark_of_added, no_turn, no_turn_left, start_way, walk_on, words_from}
+use Rattle.tt_search.proofs.WayLemmas.{made_turn, mark_of_added, no_turn, no_turn_left, start_way, walk_on}
 use Rattle.tt_search.proofs.seeking.walk.Goals as goal
 
 pub loop-made-init : goal.loop-made-init
@@ -21,15 +24,16 @@ loop-made-init c =
     let words = words_from c.args.seed c.new-words.result c.new-words.ensures in
     record {
       step = within_same (with_taken start []);
+      candidates = c.requires.candidates;
       moved = c.requires.moved;
       way = rw (whole, words) (start_way (full_rank start.problem aim) start.present (trail start) (onward start.problem aim c.args.turns (random_words c.args.seed) start.present) c.moment-best.result c.requires.trail (c.moment-best.ensures.rank aim (moved_is start.problem aim start.present c.args.moved.now c.requires.belongs c.requires.moved)) c.moment-best.ensures.mark);
     }
 
-pub next_move-requires-clause-hopeful : goal.next_move-requires-clause-hopeful
-next_move-requires-clause-hopeful c = rw c.loop-made.invariant.step.problem c.requires.hopeful
+pub next_move-requires-clause-candidates : goal.next_move-requires-clause-candidates
+next_move-requires-clause-candidates c = c.loop-made.invariant.candidates
 
 pub make-requires-clause-open : goal.make-requires-clause-open
-make-requires-clause-open c = rw c.next_move.ensures.problem c.in-Some.ensures.open
+make-requires-clause-open c = rw (c.next_move.ensures.problem, c.next_move.ensures.present) c.in-Some.ensures.open
 
 pub make-requires-clause-step : goal.make-requires-clause-step
 make-requires-clause-step c =
@@ -57,17 +61,27 @@ loop-made-preserved c =
     let same_trail : trail moved ≡ trail before = rw (same_present, same_entries) refl in
     let trail_is : trail after ≡ trail before ++ after.present ∷ [] = rw (← same_trail) c.in_ok-make.ensures.trail in
     let mark : c.moment.result.mark ≡ length (trail before) = mark_of_added (trail before) (trail after) after.present c.moment.result.mark trail_is c.moment.ensures.mark in
-    let moved_now : AreMoved start.problem aim after.present.plan c.follow.new.self [] = rw problem at c.follow.ensures in
+    let moved_now : AreMoved start.problem aim after.present.plan c.follow-in-loop-made.new.self [] = rw problem at c.follow-in-loop-made.ensures in
     let rank = rw problem at (c.moment.ensures.rank aim) in
-    let ranked = rank (moved_is start.problem aim after.present c.follow.new.self c.requires.belongs moved_now) in
+    let ranked = rank (moved_is start.problem aim after.present c.follow-in-loop-made.new.self c.requires.belongs moved_now) in
     record {
       step = step;
+      candidates = c.follow.ensures;
       moved = moved_now;
       way = rw (trail_is, c.better-best.ensures) (walk_on _ _ _ after.present c.loop-made.best c.moment.result c.loop-made.made _ _ (rw onward_is at c.loop-made.invariant.way) ranked mark);
     }
 
-pub follow-requires-clause-late : goal.follow-requires-clause-late
-follow-requires-clause-late c =
+pub follow-requires : goal.follow-requires
+follow-requires c =
+    let before = c.loop-made.state in
+    let after = c.make.new.state in
+    let problem : after.problem ≡ before.problem = c.in_ok-make.ensures.step.problem ∙ c.next_move.ensures.problem in
+    let present = rw (c.next_move.ensures.problem, c.next_move.ensures.present) at (ap (λ d. d.present) c.in_ok-make.ensures.desk) in
+    let taken = rw (c.next_move.ensures.problem, c.next_move.ensures.present) at c.in_ok-make.ensures.taken in
+    record { late = rw (problem, present, taken) (candidates_forced before.problem before.present c.in-Some.next.class c.in-Some.next.value c.loop-made.candidates c.loop-made.invariant.candidates) }
+
+pub follow-requires-in-loop-made-clause-late : goal.follow-requires-in-loop-made-clause-late
+follow-requires-in-loop-made-clause-late c =
     let start = c.args.state.now in
     let aim = option_copied c.args.published in
     let before = c.loop-made.state in

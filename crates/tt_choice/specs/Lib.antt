@@ -1,0 +1,10 @@
+pub mod Least
+pub mod Passed
+pub mod Choices
+pub mod Situations
+pub mod Standings
+pub mod Found
+pub mod Ahead
+pub mod Tables
+pub mod Ready
+pub mod Seating

@@ -1,0 +1,323 @@
+ghost use Rattle.std.specs.Prelude.{◌≡◌, ◌+◌, ◌<◌, ◌≤◌, ◌++◌, ◌∷◌, [], None, length, IfSome, All};
+ghost use Rattle.tt_choice.specs.Least.{pairs_added, least_choice};
+ghost use Rattle.tt_choice.specs.Passed.{better, passed};
+ghost use Rattle.tt_choice.specs.Ahead.{IsLeastOf, AreSure};
+ghost use Rattle.tt_problem.specs.Spans.{IsSpanWithin};
+ghost use Rattle.tt_choice.specs.Tables.{AreInOrder, AreTables};
+ghost use Rattle.tt_choice.specs.Choices.{choices_at, choices_of, choices_of_course};
+ghost use Rattle.tt_choice.specs.Ready.{HasRoom};
+ghost use Rattle.tt_choice.specs.Situations.{situation_of};
+ghost use Rattle.tt_choice.specs.Standings.{situation_in};
+ghost use Rattle.tt_choice.specs.Found.{chosen, chosen_by, has_fewer, is_orphan, may_follow, pairs_if_open, IsFoundIn};
+
+use crate::buffers::ChoiceBuffers;
+use crate::standing::Standing;
+use tt_problem::Span;
+use tt_state::State;
+
+/// A choice found: how many classes it has, and how many conflicting pairs it adds.
+#[derive(Clone, Copy)]
+pub struct Found {
+    count: usize,
+    pairs: u64,
+}
+
+/// Whether a number of pairs is fewer than the best so far adds, if there is one.
+fn is_fewer(found: Option<Found>, pairs: u64) -> bool
+    ensures { result ≡ has_fewer found pairs }
+{
+    match found {
+        None => true,
+        Some(best) => pairs < best.pairs,
+    }
+}
+
+/// Whether the parent of a class stands before it, and is neither in the front nor already taken.
+#[tactic(auto, using(tt_base::proofs::ListLemmas::listed_turned))]
+fn is_orphan(standing: &Standing, taken: &[u32], front: &[u32], class: u32) -> bool
+    ensures { result ≡ is_orphan (situation_in standing.now taken.now) front.now class }
+{
+    match standing.parent_of(class) {
+        None => false,
+        Some(parent) => parent < class && !front.contains(&parent) && !taken.contains(&parent),
+    }
+}
+
+/// Whether a class may stand next after a front.
+fn may_follow(standing: &Standing, taken: &[u32], front: &[u32], class: u32) -> bool
+    ensures { result ≡ may_follow (situation_in standing.now taken.now) front.now class }
+{
+    standing.has_seat(class) && !is_orphan(standing, taken, front, class)
+}
+
+/// How many pairs a front adds together with one more class.
+fn pairs_with(standing: &Standing, taken: &[u32], front: &[u32], pairs: u64, class: u32) -> u64
+    requires pairs { pairs ≡ pairs_added (situation_in standing.now taken.now) front.now }
+    requires few_taken { length taken.now ≤ 800000 }
+    requires few { length front.now ≤ 20000 }
+    ensures pairs { result ≡ pairs_added (situation_in standing.now taken.now) (front.now ++ class ∷ []) }
+    ensures few { result ≤ 17000000000 }
+{
+    pairs
+        + standing.pairs_with_taken(taken, class) as u64
+        + standing.pairs_with(front, class) as u64
+}
+
+/// How many pairs a front adds together with one more class, and `None` where no choice that goes
+/// on so can be taken for the best: the class may not follow, or the pairs, together with those that
+/// are sure to come, are no fewer.
+fn pairs_through(
+    standing: &Standing,
+    taken: &[u32],
+    front: &[u32],
+    pairs: u64,
+    class: u32,
+    found: Option<Found>,
+    ahead: u64,
+) -> Option<u64>
+    requires pairs { pairs ≡ pairs_added (situation_in standing.now taken.now) front.now }
+    requires few_taken { length taken.now ≤ 800000 }
+    requires few { length front.now ≤ 20000 }
+    requires few_ahead { ahead ≤ 16000000000 }
+    ensures { result ≡ pairs_if_open (situation_in standing.now taken.now) found front.now class ahead }
+{
+    if !may_follow(standing, taken, front, class) {
+        return None;
+    }
+    let more = pairs_with(standing, taken, front, pairs, class);
+    if is_fewer(found, more + ahead) {
+        Some(more)
+    } else {
+        None
+    }
+}
+
+/// Takes a whole choice for the best where it adds fewer pairs and is allowed.
+fn keep(
+    standing: &Standing,
+    taken: &[u32],
+    choice: &[u32],
+    pairs: u64,
+    best: &mut [u32],
+    found: Option<Found>,
+) -> Option<Found>
+    requires pairs { pairs ≡ pairs_added (situation_in standing.now taken.now) choice.now }
+    requires room { length choice.now ≤ length best.old }
+    requires found { IfSome found (IsFoundIn (situation_in standing.now taken.now) best.old) }
+    ensures best { chosen best.new result ≡ better (situation_in standing.now taken.now) (chosen best.old found) choice.now }
+    ensures found { IfSome result (IsFoundIn (situation_in standing.now taken.now) best.new) }
+{
+    if is_fewer(found, pairs) && standing.is_allowed(taken, choice) {
+        best[..choice.len()].copy_from_slice(choice);
+        Some(Found {
+            count: choice.len(),
+            pairs,
+        })
+    } else {
+        found
+    }
+}
+
+/// The fewest pairs that a class of a span with a seat has with the classes already taken.
+fn least_pairs(standing: &Standing, taken: &[u32], span: Span) -> u64
+    ensures least { IsLeastOf (situation_in standing.now taken.now) span result }
+    ensures few { result ≤ length taken.now }
+{
+    let mut least = taken.len() as u64;
+    for class in span.first..span.after {
+        if standing.has_seat(class) {
+            let pairs = standing.pairs_with_taken(taken, class) as u64;
+            if pairs < least {
+                least = pairs;
+            }
+        }
+    }
+    least
+}
+
+/// Writes how many pairs with the classes already taken are sure to come, from each subpart on.
+fn look_ahead(standing: &Standing, taken: &[u32], subparts: &[Span], ahead: &mut [u64])
+    requires few { length subparts.now ≤ 20000 }
+    requires few_taken { length taken.now ≤ 800000 }
+    requires long { length subparts.now < length ahead.old }
+    ensures { AreSure (situation_in standing.now taken.now) subparts.now ahead.new }
+{
+    let mut place = subparts.len();
+    ahead[place] = 0;
+    while place > 0 {
+        let sure = ahead[place];
+        place -= 1;
+        ahead[place] = least_pairs(standing, taken, subparts[place]) + sure;
+    }
+}
+
+/// Passes all choices of a configuration of these subparts, and keeps the best. `front` has the
+/// classes chosen so far, `class` is the next to be tried. A class without a seat is passed over,
+/// and so is one with which the front adds no fewer pairs than the best.
+fn pass(
+    standing: &Standing,
+    taken: &[u32],
+    subparts: &[Span],
+    ahead: &[u64],
+    front: &mut [u32],
+    best: &mut [u32],
+    found: Option<Found>,
+) -> Option<Found>
+    requires sure { AreSure (situation_in standing.now taken.now) subparts.now ahead.now }
+    requires some { 0 < length subparts.now }
+    requires spans { All (λ s. s.after ≤ 20000) subparts.now }
+    requires order { AreInOrder subparts.now }
+    requires few { length subparts.now ≤ 20000 }
+    requires few_taken { length taken.now ≤ 800000 }
+    requires front { length subparts.now ≤ length front.old }
+    requires room { length subparts.now ≤ length best.old }
+    requires found { IfSome found (IsFoundIn (situation_in standing.now taken.now) best.old) }
+    ensures best { chosen best.new result ≡ passed (situation_in standing.now taken.now) (chosen best.old found) (choices_of subparts.now) }
+    ensures found { IfSome result (IsFoundIn (situation_in standing.now taken.now) best.new) }
+{
+    let mut found = found;
+    let mut depth = 0;
+    let mut pairs = 0;
+    let mut class = subparts[0].first;
+    'walk: loop {
+        if class < subparts[depth].after {
+            match pairs_through(
+                standing,
+                taken,
+                &front[..depth],
+                pairs,
+                class,
+                found,
+                ahead[depth + 1],
+            ) {
+                None => class += 1,
+                Some(more) => {
+                    front[depth] = class;
+                    if depth + 1 < subparts.len() {
+                        depth += 1;
+                        pairs = more;
+                        class = subparts[depth].first;
+                    } else {
+                        found = keep(standing, taken, &front[..depth + 1], more, best, found);
+                        class += 1;
+                    }
+                }
+            }
+        } else if depth == 0 {
+            return found;
+        } else {
+            depth -= 1;
+            class = front[depth];
+            pairs = pairs_before(standing, taken, &front[..depth], pairs, class);
+            class += 1;
+        }
+    }
+}
+
+/// How many pairs a front adds, from how many it adds together with one more class.
+fn pairs_before(standing: &Standing, taken: &[u32], front: &[u32], pairs: u64, class: u32) -> u64
+    requires pairs { pairs ≡ pairs_added (situation_in standing.now taken.now) (front.now ++ class ∷ []) }
+    ensures { result ≡ pairs_added (situation_in standing.now taken.now) front.now }
+{
+    pairs
+        - standing.pairs_with_taken(taken, class) as u64
+        - standing.pairs_with(front, class) as u64
+}
+
+/// The least allowed choice of a course: how many classes it has, which then stand at the front of
+/// `best`, and `None` where no choice is allowed. `configs` are the configurations of all courses,
+/// and `subparts` the subparts of all configurations. `front` is scratch.
+fn least_choice(
+    standing: &Standing,
+    taken: &[u32],
+    configs: &[Span],
+    subparts: &[Span],
+    course: Span,
+    ahead: &mut [u64],
+    front: &mut [u32],
+    best: &mut [u32],
+) -> Option<usize>
+    requires tables { AreTables configs.now subparts.now }
+    requires few_taken { length taken.now ≤ 800000 }
+    requires course { IsSpanWithin (length configs.now) course }
+    requires ahead { length subparts.now < length ahead.old }
+    requires front { length subparts.now ≤ length front.old }
+    requires room { length subparts.now ≤ length best.old }
+    ensures within { IfSome result (λ count. count ≤ length best.new) }
+    ensures choice { chosen_by best.new result ≡ least_choice (situation_in standing.now taken.now) (choices_of_course configs.now subparts.now course) }
+{
+    let mut found = None;
+    for place in course.first..course.after {
+        let config = configs[place as usize];
+        let parts = &subparts[config.first as usize..config.after as usize];
+        look_ahead(standing, taken, parts, ahead);
+        found = pass(standing, taken, parts, ahead, front, best, found);
+    }
+    match found {
+        None => None,
+        Some(choice) => Some(choice.count),
+    }
+}
+
+/// How many conflicting pairs a choice adds to the classes taken, pairs inside it among them.
+fn pairs_in(standing: &Standing, taken: &[u32], choice: &[u32]) -> u64
+    requires few_taken { length taken.now ≤ 800000 }
+    requires few { length choice.now ≤ 20000 }
+    ensures { result ≡ pairs_added (situation_in standing.now taken.now) choice.now }
+{
+    let mut pairs = 0;
+    for place in 0..choice.len() {
+        pairs = pairs_with(standing, taken, &choice[..place], pairs, choice[place]);
+    }
+    pairs
+}
+
+/// The least allowed choice of a course for a student who has taken these classes, some of which may
+/// still lack their parent: how many classes it has, which then stand at the front of the buffer of
+/// the best, and `None` where no choice is allowed. The student's own list takes no seats.
+#[tactic(auto, unfolding(crate::specs::Choices::choices_at))]
+pub fn least_of_course(
+    state: &State,
+    student: u32,
+    course: u32,
+    wanting: &[u32],
+    taken: &[u32],
+    buffers: &mut ChoiceBuffers,
+) -> Option<usize>
+    requires student { student < length state.now.problem.students }
+    requires course { course < length state.now.problem.courses }
+    requires few_taken { length taken.now ≤ 800000 }
+    requires room { HasRoom state.now.problem buffers.old }
+    ensures room { HasRoom state.now.problem buffers.new }
+    ensures choice { chosen_by buffers.new.best.items result
+        ≡ least_choice (situation_of state.now.problem state.now.present student wanting.now taken.now) (choices_at state.now.problem course) }
+    ensures within { IfSome result (λ count. count ≤ length buffers.new.best.items) }
+    ensures few { IfSome result (λ count. count ≤ length state.now.problem.subparts) }
+{
+    let problem = state.problem();
+    problem.validity();
+    let parts = problem.parts();
+    let standing = Standing::new(state, student, wanting);
+    least_choice(
+        &standing,
+        taken,
+        parts.configs.as_slice(),
+        parts.subparts.as_slice(),
+        problem.course(course).configs,
+        buffers.ahead.as_mut_slice(),
+        buffers.front.as_mut_slice(),
+        buffers.best.as_mut_slice(),
+    )
+}
+
+/// How many conflicting pairs a choice adds to classes that a student has taken, pairs inside it
+/// among them.
+pub fn pairs_of(state: &State, student: u32, taken: &[u32], choice: &[u32]) -> u64
+    requires student { student < length state.now.problem.students }
+    requires few_taken { length taken.now ≤ 800000 }
+    requires few { length choice.now ≤ 20000 }
+    ensures { result ≡ pairs_added (situation_of state.now.problem state.now.present student [] taken.now) choice.now }
+{
+    let standing = Standing::new(state, student, &[]);
+    pairs_in(&standing, taken, choice)
+}

@@ -1,0 +1,12 @@
+//! The choices of a course: one class of each subpart of one of its configurations, and the least of
+//! those that a student may take.
+#![tactic(auto)]
+
+mod buffers;
+mod course;
+mod seating;
+mod standing;
+
+pub use buffers::ChoiceBuffers;
+pub use course::{least_of_course, pairs_of};
+pub use seating::seat;

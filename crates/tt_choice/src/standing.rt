@@ -1,0 +1,156 @@
+ghost use Rattle.std.specs.Prelude.{◌≡◌, ℕ, ◌<◌, Some, List, length};
+ghost use Rattle.tt_bits.specs.Spots.{spot_at};
+ghost use Rattle.tt_bits.specs.declared.times.Spot.{Spot};
+ghost use Rattle.tt_score.specs.Fits.{student_lists};
+
+use tt_bits::Spot;
+use tt_problem::Problem;
+use tt_roster::conflict;
+use tt_score::Score;
+use tt_state::{State, others_with};
+
+/// What the choices of a student are judged by: a score, the spot of each of its classes or none, and
+/// those of the classes already taken whose parent may be missing yet.
+#[derive(Drop)]
+pub(crate) struct Standing<'a> {
+    problem: &'a Problem,
+    score: &'a Score,
+    spots: &'a [Option<Spot>],
+    student: u32,
+    wanting: &'a [u32],
+    ghost rooms: { (class : ℕ) (spot : Spot) (room : ℕ) → spot_at spots.now class ≡ Some spot → spot.room ≡ Some room → room < problem.now.travel.rooms },
+    ghost student_within: { student < length (student_lists score.now) },
+}
+
+impl<'a> Standing<'a> {
+    ghost use Rattle.std.specs.Prelude.{[], Option, ℕ, count_by};
+    ghost use Rattle.std.specs.List.{list_all};
+    ghost use Rattle.tt_state.specs.Seats.{limit_of, others_with};
+    ghost use Rattle.tt_choice.specs.Least.{has_parent, is_allowed, may_be_taken};
+    ghost use Rattle.tt_choice.specs.Situations.{situation_of};
+    ghost use Rattle.tt_choice.specs.Standings.{situation_in};
+
+    /// How a student stands in the present snapshot. `wanting` has those of the classes that are taken
+    /// beforehand whose parent may be missing yet.
+    pub fn new(state: &'a State, student: u32, wanting: &'a [u32]) -> Standing<'a>
+        requires { student < length state.now.problem.students }
+        ensures problem { result.problem.now ≡ state.now.problem }
+        ensures situation { (taken : List ℕ) → situation_in result taken ≡ situation_of state.now.problem state.now.present student wanting.now taken }
+    {
+        state.soundness();
+        let problem = state.problem();
+        let score = state.score();
+        Standing {
+            problem,
+            score,
+            spots: score.occupancy().spots(),
+            student,
+            wanting,
+        }
+    }
+
+    /// The limit of a class, if it has one.
+    fn limit_of(&self, class: u32) -> Option<u32>
+        ensures { result ≡ limit_of self.now.problem.now class }
+    {
+        match self.problem.parts().classes.get(class as usize) {
+            Some(part) => part.limit,
+            None => None,
+        }
+    }
+
+    /// Whether a class has a seat.
+    #[tactic(auto, unfolding(tt_state::specs::Seats::has_seat))]
+    pub fn has_seat(&self, class: u32) -> bool
+        ensures { result ≡ (situation_in self.now []).has_seat class }
+    {
+        match self.limit_of(class) {
+            None => true,
+            Some(limit) => others_with(self.score, self.student, class) < limit,
+        }
+    }
+
+    /// The parent of a class, if it has one.
+    pub fn parent_of(&self, class: u32) -> Option<u32>
+        ensures { result ≡ (situation_in self.now []).parent_of class }
+    {
+        match self.problem.parts().classes.get(class as usize) {
+            Some(part) => part.parent,
+            None => None,
+        }
+    }
+
+    /// The spot of a class, if it is placed.
+    fn spot_of(&self, class: u32) -> Option<Spot>
+        ensures { result ≡ spot_at self.now.spots.now class }
+    {
+        match self.spots.get(class as usize) {
+            Some(spot) => *spot,
+            None => None,
+        }
+    }
+
+    /// Whether two classes are placed, and nobody can attend both.
+    pub fn conflicts(&self, class: u32, other: u32) -> bool
+        ensures { result ≡ (situation_in self.now []).conflicts class other }
+    {
+        match (self.spot_of(class), self.spot_of(other)) {
+            (Some(spot), Some(there)) => conflict(self.problem.travel(), &spot, &there),
+            _ => false,
+        }
+    }
+
+    /// How many classes already taken conflict with a class.
+    pub fn pairs_with_taken(&self, taken: &[u32], class: u32) -> usize
+        ensures { result ≡ count_by ((situation_in self.now taken.now).conflicts class) taken.now }
+    {
+        taken
+            .iter()
+            .filter(|other| self.conflicts(class, **other))
+            .count()
+    }
+
+    /// How many classes of a list conflict with a later class.
+    pub fn pairs_with(&self, classes: &[u32], class: u32) -> usize
+        ensures { result ≡ count_by (λ other. (situation_in self.now []).conflicts other class) classes.now }
+    {
+        classes
+            .iter()
+            .filter(|other| self.conflicts(**other, class))
+            .count()
+    }
+
+    /// Whether the parent of a class, where it has one, is in a choice or already taken.
+    #[tactic(auto, using(tt_base::proofs::ListLemmas::listed_turned))]
+    fn has_parent(&self, taken: &[u32], choice: &[u32], class: u32) -> bool
+        ensures { result ≡ has_parent (situation_in self.now taken.now) choice.now class }
+    {
+        match self.parent_of(class) {
+            None => true,
+            Some(parent) => choice.contains(&parent) || taken.contains(&parent),
+        }
+    }
+
+    /// Whether each class of a choice has a seat and its parent.
+    fn may_be_taken(&self, taken: &[u32], choice: &[u32]) -> bool
+        ensures { result ≡ may_be_taken (situation_in self.now taken.now) choice.now }
+    {
+        choice.iter().all(|class| self.has_seat(*class) && self.has_parent(taken, choice, *class))
+    }
+
+    /// Whether each class whose parent may be missing has it with a choice.
+    fn brings_parents(&self, taken: &[u32], choice: &[u32]) -> bool
+        ensures { result ≡ list_all (has_parent (situation_in self.now taken.now) choice.now) self.now.wanting.now }
+    {
+        self.wanting
+            .iter()
+            .all(|class| self.has_parent(taken, choice, *class))
+    }
+
+    /// Whether a choice is allowed.
+    pub fn is_allowed(&self, taken: &[u32], choice: &[u32]) -> bool
+        ensures { result ≡ is_allowed (situation_in self.now taken.now) choice.now }
+    {
+        self.may_be_taken(taken, choice) && self.brings_parents(taken, choice)
+    }
+}

@@ -1,0 +1,108 @@
+-- A class that moves to a lower value.
+use Rattle.std.proofs.Common.{◌≡◌, ℕ, ◌+◌, ◌<◌, ◌≤◌, Bool, true, false, cond, List, [], ◌∷◌, Option, Some, None, length, drop, refl, sym, ap, ◌∙◌, arith, nat_lt}
+use Rattle.std.specs.Prelude.{◌&&◌, ◌==◌, IfSome, slice_get, option_and_then, if◌then◌else◌}
+use Rattle.std.specs.Option.{is_none, option_map}
+use Rattle.std.specs.List.{filter}
+use Rattle.std.proofs.lemmas.Bool.{and_parts, eqb-true}
+use Rattle.std.proofs.lemmas.List.{drop_all}
+use Rattle.std.proofs.lemmas.Bool.Decides.{nat_tests}
+use Rattle.tt_base.specs.Lists.{first_least}
+use Rattle.tt_base.proofs.ListLemmas.{drop_at}
+use Rattle.tt_bits.specs.declared.times.Value.{Value}
+use Rattle.tt_problem.specs.declared.parts.Parts.{Parts}
+use Rattle.tt_problem.specs.Valid.{IsValid}
+use Rattle.tt_plan.specs.Domain.{IsOfDomain, domain_of, spots_of}
+use Rattle.tt_clash.specs.declared.Block.{Block}
+use Rattle.tt_clash.specs.Amounts.{rule_amounts}
+use Rattle.tt_clash.specs.Blocked.{blocked_by}
+use Rattle.tt_clash.specs.ConflictSet.{conflict_set}
+use Rattle.tt_state.specs.Snapshots.{Snapshot, with_value}
+use Rattle.tt_state.specs.Values.{blocked_of, conflicts_of, total_with}
+use Rattle.tt_improve.specs.declared.classes.Best.{Best}
+use Rattle.tt_improve.specs.Below.{better, passed, nothing_below}
+use Rattle.tt_improve.specs.Classes.{is_free, total_of, least_value, at_lower, moved_class}
+use Rattle.tt_improve.specs.Standing.{IsLower, IsNoWorse, IsPlacedIn}
+use Rattle.tt_improve.proofs.BelowLemmas.{least_below}
+use Rattle.tt_improve.proofs.FallLemmas.{spot_of_value, hard-falls}
+use Rattle.tt_improve.proofs.ObjectLemmas.{moved-class_objects}
+
+-- what is known of the best so far: its total is no higher than the bound, and what was found is below it
+pub record IsBestBelow (Of : Value → Type 0) (free : Value → Bool) (total : Value → ℕ) (bound : ℕ) (best : Best) : Type 0 where
+  pub low : best.total ≤ bound
+  pub found : IfSome best.value (λ v. Of v × (free v ≡ true) × (total v < bound))
+
+pub best_nothing : (Of : Value → Type 0) (free : Value → Bool) (total : Value → ℕ) (bound : ℕ) → IsBestBelow Of free total bound (nothing_below bound)
+best_nothing Of free total bound = record { low = omega arith; found = tt }
+
+pub best_next : (Of : Value → Type 0) (free : Value → Bool) (total : Value → ℕ) (bound : ℕ) (best : Best) (v : Value) → Of v → IsBestBelow Of free total bound best → IsBestBelow Of free total bound (better free total best v)
+best_next Of free total bound best v of h = by (nat_lt (total v) best.total) (free v) refl refl
+  where
+    less_is : (m n : ℕ) → nat_lt m n ≡ true → m < n
+    less_is m n e = grind (arith, nat_tests)
+
+    by : (low is : Bool) → nat_lt (total v) best.total ≡ low → free v ≡ is → IsBestBelow Of free total bound (cond (low && is) (record { total = total v; value = Some v }) best)
+    by true true b e =
+        let lt = less_is (total v) best.total b in
+        record { low = omega (arith, lt, h.low); found = (of, e, omega (arith, lt, h.low)) }
+    by true false b e = h
+    by false is b e = h
+
+-- the walk goes on over the values that are left
+pub walk_next : (free : Value → Bool) (total : Value → ℕ) (domain : List Value) (k : ℕ) (v : Value) (start best now : Best) → slice_get domain k ≡ Some v → now ≡ better free total best v
+    → passed free total best (drop k domain) ≡ passed free total start domain → passed free total now (drop (k + 1) domain) ≡ passed free total start domain
+walk_next free total domain k v start best now is step so_far =
+    ap (λ (b : Best). passed free total b (drop (k + 1) domain)) step ∙ ap (passed free total best) (sym (drop_at domain k v is)) ∙ so_far
+
+-- what the walk finds is where the round takes the class
+pub walk_found : (p : Parts) (s : Snapshot) (class : ℕ) (found : Option Value) → found ≡ (passed (is_free p s class) (total_with p s class) (nothing_below (total_of p s)) (domain_of p class)).value
+    → moved_class p s class ≡ option_map (λ v. with_value s class (Some v)) found
+unfolding moved_class least_value
+walk_found p s class found is =
+    by (first_least (λ v. total_with p s class v ∷ []) (filter (is_free p s class) (domain_of p class)))
+    (is ∙ least_below (is_free p s class) (total_with p s class) (total_of p s) (domain_of p class))
+  where
+    by : (o : Option Value) → found ≡ option_and_then (λ v. if nat_lt (total_with p s class v) (total_of p s) then Some v else None) o → option_and_then (at_lower p s class) o ≡ option_map (λ v. with_value s class (Some v)) found
+    by None e = rw e refl
+    by (Some v) e = rw e (low (nat_lt (total_with p s class v) (total_of p s)))
+      where
+        low : (b : Bool) → (if b then Some (with_value s class (Some v)) else None) ≡ option_map (λ w. with_value s class (Some w)) (if b then Some v else None)
+        low true = refl
+        low false = refl
+
+none_is : (o : Option Block) → is_none o ≡ true → o ≡ None
+none_is None e = refl
+none_is (Some b) e = absurd (cc e)
+
+empty_is : (xs : List ℕ) → length xs ≡ 0 → xs ≡ []
+empty_is [] e = refl
+empty_is (x ∷ xs) e = absurd (omega arith)
+
+-- a lower value makes the snapshot no worse
+pub lower_no_worse : (p : Parts) (s : Snapshot) (class : ℕ) (v : Value) → IsValid p → length s.plan ≡ length p.classes → IsPlacedIn p s class → IsLower p s class v → IsNoWorse p s (with_value s class (Some v))
+unfolding blocked_of conflicts_of total_with
+lower_no_worse p s class v valid whole object lower =
+    let spot = spot_of_value p class v lower.domain in
+    let free = and_parts (is_none (blocked_of p s.closures class v)) (length (conflicts_of p s class v) == 0) lower.free in
+    let open_value : blocked_by p s.closures class spot.0 ≡ None = rw spot.1 at (none_is (blocked_of p s.closures class v) free.0) in
+    let empty : conflict_set p (rule_amounts p) (spots_of p s.plan) class spot.0 ≡ [] = rw spot.1 at (empty_is (conflicts_of p s class v) (eqb-true (length (conflicts_of p s class v)) 0 free.1)) in
+    record {
+      total = omega (arith, lower.lower);
+      hard = hard-falls p s.closures s.plan s.lists class v spot.0 valid (omega (arith, whole, object.within)) spot.1 open_value empty;
+      statistics = refl;
+      closures = refl;
+      objects = moved-class_objects p s class v object.placed;
+    }
+
+-- what is found is lower
+pub lower_of : (p : Parts) (s : Snapshot) (class : ℕ) (best : Best) → IsBestBelow (IsOfDomain p class) (is_free p s class) (total_with p s class) (total_of p s) best → IfSome best.value (IsLower p s class)
+lower_of p s class best h = by best.value h.found
+  where
+    by : (o : Option Value) → IfSome o (λ v. IsOfDomain p class v × (is_free p s class v ≡ true) × (total_with p s class v < total_of p s)) → IfSome o (IsLower p s class)
+    by None found = tt
+    by (Some v) found = record { domain = found.0; free = found.1; lower = found.2 }
+
+-- a whole walk
+pub walk_done : (free : Value → Bool) (total : Value → ℕ) (domain : List Value) (k : ℕ) (start best : Best) → length domain ≤ k → passed free total best (drop k domain) ≡ passed free total start domain → best.value ≡ (passed free total start domain).value
+walk_done free total domain k start best past so_far =
+    let none : drop k domain ≡ [] = drop_all k domain past in
+    ap (λ (b : Best). b.value) (sym (ap (passed free total best) none) ∙ so_far)

@@ -1,0 +1,17 @@
+-- A walk over values that keeps the first of those with the least number below a bound. Proofs alone need it.
+use Rattle.std.specs.Prelude.{ℕ, Bool, ◌&&◌, nat_lt, List, Some, None, fold, if◌then◌else◌}
+use Rattle.tt_bits.specs.declared.times.Value.{Value}
+use Rattle.tt_improve.specs.declared.classes.Best.{Best}
+
+-- a value that is better than the best so far takes its place
+abbrev pub better : (Value → Bool) → (Value → ℕ) → Best → Value → Best
+better free total best v =
+    if nat_lt (total v) best.total && free v then record { total = total v; value = Some v } else best
+
+-- the best once these values are passed, one after another
+abbrev pub passed : (Value → Bool) → (Value → ℕ) → Best → List Value → Best
+passed free total best values = fold (better free total) best values
+
+-- nothing is found yet, and only a number below this one is better
+abbrev pub nothing_below : ℕ → Best
+nothing_below bound = record { total = bound; value = None }

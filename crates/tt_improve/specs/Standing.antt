@@ -1,0 +1,43 @@
+-- What a round stands on, and what it leaves. Proofs alone need it.
+use Rattle.std.specs.Prelude.{◌≡◌, ℕ, ◌<◌, ◌≤◌, true, length}
+use Rattle.tt_base.specs.Lists.{is_listed}
+use Rattle.tt_bits.specs.declared.times.Value.{Value}
+use Rattle.tt_problem.specs.declared.parts.Parts.{Parts}
+use Rattle.tt_plan.specs.Domain.{IsOfDomain}
+use Rattle.tt_state.specs.Snapshots.{Snapshot, list_in}
+use Rattle.tt_state.specs.Values.{total_with}
+use Rattle.tt_choice.specs.Situations.{courses_of}
+use Rattle.tt_improve.specs.declared.objects.Object.{Object}
+use Rattle.tt_improve.specs.declared.objects.Object.TheVariants.{Class, Course}
+use Rattle.tt_improve.specs.Classes.{is_free, total_of, totals_in}
+use Rattle.tt_improve.specs.Objects.{is_placed, objects_of}
+
+-- the class is one of the problem, and it is placed
+pub record IsPlacedIn (p : Parts) (s : Snapshot) (class : ℕ) : Type 0 where
+  pub within : class < length p.classes
+  pub placed : is_placed s class ≡ true
+
+-- the student is one of the problem who has classes, and the course is one of the student's
+pub record IsSeatedIn (p : Parts) (s : Snapshot) (student course : ℕ) : Type 0 where
+  pub within : student < length p.students
+  pub some : 0 < length (list_in s student)
+  pub listed : is_listed course (courses_of p student) ≡ true
+
+-- the object is one of a snapshot
+abbrev pub IsObjectOf : Parts → Snapshot → Object → Type 0
+IsObjectOf p s (Class class) = IsPlacedIn p s class
+IsObjectOf p s (Course student course) = IsSeatedIn p s student course
+
+-- the value is of the class's domain and free, and the total is lower with it
+pub record IsLower (p : Parts) (s : Snapshot) (class : ℕ) (v : Value) : Type 0 where
+  pub domain : IsOfDomain p class v
+  pub free : is_free p s class v ≡ true
+  pub lower : total_with p s class v < total_of p s
+
+-- the second snapshot is no worse than the first, and has the same statistics, closures and objects
+pub record IsNoWorse (p : Parts) (s t : Snapshot) : Type 0 where
+  pub total : total_of p t ≤ total_of p s
+  pub hard : (totals_in p t).hard ≤ (totals_in p s).hard
+  pub statistics : t.statistics ≡ s.statistics
+  pub closures : t.closures ≡ s.closures
+  pub objects : objects_of p t ≡ objects_of p s

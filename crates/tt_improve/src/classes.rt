@@ -1,0 +1,106 @@
+ghost use Rattle.std.specs.Prelude.{◌≡◌, ◌<◌, [], None, Some, IfOk, IfSome, OnOk, cond, false, length};
+ghost use Rattle.std.specs.Option.{option_map};
+ghost use Rattle.tt_plan.specs.Domain.{IsOfDomain};
+ghost use Rattle.tt_state.specs.History.{IsWithinStep, earlier, with_taken};
+ghost use Rattle.tt_state.specs.Snapshots.{with_value};
+ghost use Rattle.tt_state.specs.Values.{total_with};
+ghost use Rattle.tt_improve.specs.Classes.{is_free, moved_class};
+ghost use Rattle.tt_improve.specs.Below.{better};
+ghost use Rattle.tt_improve.specs.Standing.{IsLower, IsNoWorse, IsPlacedIn};
+
+use std::alloc::AllocError;
+use tt_bits::Value;
+use tt_clash::blocked;
+use tt_plan::{domain_size, spot, value_at};
+use tt_state::State;
+
+/// The best value so far, if there is one, and its total. Only a total below this is better.
+#[derive(Clone, Copy, Debug, PartialEq, Eq)]
+struct Best {
+    total: u128,
+    value: Option<Value>,
+}
+
+/// Whether a value isn't blocked, and its conflict set is empty.
+#[tactic(auto, unfolding(tt_state::specs::Values::blocked_of))]
+fn is_free(state: &mut State, class: u32, value: Value) -> bool
+    requires { IsOfDomain state.old.problem class value }
+    ensures problem { state.new.problem ≡ state.old.problem }
+    ensures present { state.new.present ≡ state.old.present }
+    ensures entries { state.new.entries ≡ state.old.entries }
+    ensures free { result ≡ is_free state.old.problem state.old.present class value }
+{
+    let problem = state.problem();
+    if blocked(
+        problem,
+        state.score().closures(),
+        class,
+        spot(problem, class, value),
+    )
+    .is_some()
+    {
+        return false;
+    }
+    state.find_conflicts(class, value);
+    state.taken().is_empty()
+}
+
+/// The best once a value was looked at. Whether it is free is asked only where it may tell.
+fn look_at(state: &mut State, class: u32, value: Value, best: Best) -> Best
+    requires { IsOfDomain state.old.problem class value }
+    ensures problem { state.new.problem ≡ state.old.problem }
+    ensures present { state.new.present ≡ state.old.present }
+    ensures entries { state.new.entries ≡ state.old.entries }
+    ensures better { result ≡ better (is_free state.old.problem state.old.present class) (total_with state.old.problem state.old.present class) best value }
+{
+    let total = state.trial(class, value);
+    if total < best.total && is_free(state, class, value) {
+        Best {
+            total,
+            value: Some(value),
+        }
+    } else {
+        best
+    }
+}
+
+/// The first of a class's free values with the least total, where that is below the present total.
+fn lower_value(state: &mut State, class: u32) -> Option<Value>
+    requires { class < length state.old.problem.classes }
+    ensures problem { state.new.problem ≡ state.old.problem }
+    ensures present { state.new.present ≡ state.old.present }
+    ensures entries { state.new.entries ≡ state.old.entries }
+    ensures value { moved_class state.old.problem state.old.present class ≡ option_map (λ v. with_value state.old.present class (Some v)) result }
+    ensures lower { IfSome result (IsLower state.old.problem state.old.present class) }
+{
+    let mut best = Best {
+        total: state.totals().total,
+        value: None,
+    };
+    for k in 0..domain_size(state.problem(), class) {
+        let value = value_at(state.problem(), class, k);
+        best = look_at(state, class, value, best);
+    }
+    best.value
+}
+
+/// A round on a class, in the last step: it gets the best of its free values, where the total falls.
+/// Whether it does.
+pub(crate) fn move_class(state: &mut State, class: u32) -> Result<bool, AllocError>
+    requires class { IsPlacedIn state.old.problem state.old.present class }
+    requires step { 0 < length (earlier state.old) }
+    ensures step { IsWithinStep (with_taken state.old []) (with_taken state.new []) }
+    ensures moved { IfOk result (λ moved. moved_class state.old.problem state.old.present class ≡ cond moved (Some state.new.present) None) }
+    ensures same { IfOk result (λ moved. moved ≡ false → state.new.present ≡ state.old.present) }
+    ensures no_worse { OnOk result (IsNoWorse state.old.problem state.old.present state.new.present) }
+{
+    state.problem().validity();
+    state.soundness();
+    match lower_value(state, class) {
+        None => Ok(false),
+        Some(value) => {
+            state.place_step(class, Some(value))?;
+            Ok(true)
+        }
+    }
+}

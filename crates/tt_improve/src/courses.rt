@@ -1,0 +1,136 @@
+ghost use Rattle.std.specs.Prelude.{◌≡◌, ◌<◌, ◌≤◌, ◌++◌, [], None, Some, IfOk, IfSome, OnOk, OnErr, cond, false, length, take};
+ghost use Rattle.std.specs.Option.{option_map};
+ghost use Rattle.tt_state.specs.History.{IsWithinStep, earlier};
+ghost use Rattle.tt_state.specs.Snapshots.{in_order, list_in, with_list};
+ghost use Rattle.tt_choice.specs.Ready.{HasRoom};
+ghost use Rattle.tt_choice.specs.Seating.{MayGet};
+ghost use Rattle.tt_improve.specs.Courses.{is_of_course, moved_student, own_of, replaced_by, rest_of};
+ghost use Rattle.tt_improve.specs.Standing.{IsNoWorse, IsSeatedIn};
+
+use std::alloc::{AllocError, Global};
+use tt_choice::{ChoiceBuffers, least_of_course, pairs_of, seat};
+use tt_problem::Problem;
+use tt_state::State;
+
+/// Whether a class is of a course.
+fn is_of_course(problem: &Problem, course: u32, class: u32) -> bool
+    requires { class < length problem.now.classes }
+    ensures { result ≡ is_of_course problem.now course class }
+{
+    course == problem.course_of(class)
+}
+
+/// The classes of a student that are of a course.
+fn own_classes(
+    alloc: Global,
+    state: &State,
+    student: u32,
+    course: u32,
+) -> Result<Vec<u32>, AllocError>
+    requires { student < length state.now.problem.students }
+    ensures { IfOk result (λ own. own.items ≡ own_of state.now.problem course (list_in state.now.present student)) }
+{
+    state.soundness();
+    let mut own = Vec::new(alloc);
+    for class in state.score().roster().classes(student) {
+        if is_of_course(state.problem(), course, class) {
+            own.push(class)?;
+        }
+    }
+    Ok(own)
+}
+
+/// The classes of a student that are not of a course.
+fn other_classes(
+    alloc: Global,
+    state: &State,
+    student: u32,
+    course: u32,
+) -> Result<Vec<u32>, AllocError>
+    requires { student < length state.now.problem.students }
+    ensures { IfOk result (λ rest. rest.items ≡ rest_of state.now.problem course (list_in state.now.present student)) }
+{
+    state.soundness();
+    let mut rest = Vec::new(alloc);
+    for class in state.score().roster().classes(student) {
+        if !is_of_course(state.problem(), course, class) {
+            rest.push(class)?;
+        }
+    }
+    Ok(rest)
+}
+
+/// The least choice of a course that may replace a student's own classes of it beside the rest of the
+/// list, where it adds fewer pairs than these: how many classes it has, which then stand at the front
+/// of the buffer of the best. Nothing is fewer than no pair.
+fn fewer_pairs(
+    state: &State,
+    student: u32,
+    course: u32,
+    rest: &[u32],
+    own: &[u32],
+    buffers: &mut ChoiceBuffers,
+) -> Option<usize>
+    requires object { IsSeatedIn state.now.problem state.now.present student course }
+    requires rest { rest.now ≡ rest_of state.now.problem course (list_in state.now.present student) }
+    requires own { own.now ≡ own_of state.now.problem course (list_in state.now.present student) }
+    requires room { HasRoom state.now.problem buffers.old }
+    ensures room { HasRoom state.now.problem buffers.new }
+    ensures within { IfSome result (λ size. size ≤ length buffers.new.best.items) }
+    ensures choice { replaced_by state.now.problem state.now.present student course rest.now own.now
+        ≡ option_map (λ size. with_list state.now.present student (in_order (rest.now ++ take size buffers.new.best.items))) result }
+    ensures may { IfSome result (λ size. MayGet state.now.problem state.now.present.lists student (rest.now ++ take size buffers.new.best.items)) }
+    ensures no_worse { IfSome result (λ size. IsNoWorse state.now.problem state.now.present (with_list state.now.present student (in_order (rest.now ++ take size buffers.new.best.items)))) }
+{
+    state.soundness();
+    state.problem().validity();
+    let had = pairs_of(state, student, rest, own);
+    if had == 0 {
+        return None;
+    }
+    let Some(size) = least_of_course(state, student, course, rest, rest, buffers) else {
+        return None;
+    };
+    if pairs_of(state, student, rest, &buffers.best.as_slice()[..size]) < had {
+        Some(size)
+    } else {
+        None
+    }
+}
+
+/// A round on a course of a student, in the last step: the least choice of the course that may replace
+/// the student's own classes of it does so, where it adds fewer conflicting pairs. Whether it does.
+pub(crate) fn move_student(
+    alloc: Global,
+    state: &mut State,
+    student: u32,
+    course: u32,
+    buffers: &mut ChoiceBuffers,
+) -> Result<bool, AllocError>
+    requires object { IsSeatedIn state.old.problem state.old.present student course }
+    requires step { 0 < length (earlier state.old) }
+    requires room { HasRoom state.old.problem buffers.old }
+    ensures room { HasRoom state.old.problem buffers.new }
+    ensures step { IsWithinStep state.old state.new }
+    ensures moved { IfOk result (λ moved. moved_student state.old.problem state.old.present student course ≡ cond moved (Some state.new.present) None) }
+    ensures same { IfOk result (λ moved. moved ≡ false → state.new.present ≡ state.old.present) }
+    ensures no_worse { OnOk result (IsNoWorse state.old.problem state.old.present state.new.present) }
+{
+    let own = own_classes(alloc, state, student, course)?;
+    let mut list = other_classes(alloc, state, student, course)?;
+    match fewer_pairs(
+        state,
+        student,
+        course,
+        list.as_slice(),
+        own.as_slice(),
+        buffers,
+    ) {
+        None => Ok(false),
+        Some(size) => {
+            list.extend_from_slice(&buffers.best.as_slice()[..size])?;
+            seat(state, student, list.as_slice())?;
+            Ok(true)
+        }
+    }
+}

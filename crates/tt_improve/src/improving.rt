@@ -1,0 +1,141 @@
+ghost use Rattle.std.specs.Prelude.{◌≡◌, ◌<◌, ◌≤◌, ◌^◌, ◌∷◌, [], None, Some, IfOk, OnOk, OnErr, cond, false, length};
+ghost use Rattle.tt_state.specs.History.{IsWithinStep, desk_of, earlier, stepped, with_taken};
+ghost use Rattle.tt_choice.specs.Ready.{HasRoom};
+ghost use Rattle.tt_draw.specs.Words.{drawn};
+ghost use Rattle.tt_improve.specs.Classes.{totals_in};
+ghost use Rattle.tt_improve.specs.Objects.{objects_of};
+ghost use Rattle.tt_improve.specs.Rounds.{improved, moved_by};
+ghost use Rattle.tt_improve.specs.Standing.{IsNoWorse, IsObjectOf};
+ghost use Rattle.tt_improve.specs.UnderWay.{so_far};
+
+use crate::classes::move_class;
+use crate::courses::move_student;
+use crate::objects::{Object, objects};
+use rand_core::Rng;
+use rand_pcg::Lcg64Xsh32;
+use std::alloc::{AllocError, Global};
+use tt_choice::ChoiceBuffers;
+use tt_draw::draw;
+use tt_state::State;
+
+/// How many rounds were made, and how many of them changed something.
+#[derive(Clone, Copy, Debug, PartialEq, Eq)]
+pub struct Improved {
+    pub rounds: u32,
+    pub changed: u32,
+}
+
+/// The object that a random word draws, none where there is no object.
+fn drawn_object(objects: &[Object], word: u32) -> Option<Object>
+    requires { length objects.now ≤ 2 ^ 32 }
+    ensures { result ≡ drawn word objects.now }
+{
+    match objects.get(draw(word, objects.len() as u64) as usize) {
+        None => None,
+        Some(object) => Some(*object),
+    }
+}
+
+/// A round on an object, in the last step. Whether it changes something.
+#[tactic(auto, unfolding(crate::specs::Rounds::moved_by))]
+fn make_round(
+    alloc: Global,
+    state: &mut State,
+    object: Object,
+    buffers: &mut ChoiceBuffers,
+) -> Result<bool, AllocError>
+    requires object { IsObjectOf state.old.problem state.old.present object }
+    requires step { 0 < length (earlier state.old) }
+    requires room { HasRoom state.old.problem buffers.old }
+    ensures room { HasRoom state.old.problem buffers.new }
+    ensures step { IsWithinStep (with_taken state.old []) (with_taken state.new []) }
+    ensures moved { IfOk result (λ moved. moved_by state.old.problem state.old.present object ≡ cond moved (Some state.new.present) None) }
+    ensures same { IfOk result (λ moved. moved ≡ false → state.new.present ≡ state.old.present) }
+    ensures no_worse { OnOk result (IsNoWorse state.old.problem state.old.present state.new.present) }
+{
+    match object {
+        Object::Class { class } => move_class(state, class),
+        Object::Course { student, course } => move_student(alloc, state, student, course, buffers),
+    }
+}
+
+/// Makes rounds in the last step, until so many are made or there is no object.
+fn descend(
+    alloc: Global,
+    state: &mut State,
+    objects: &[Object],
+    buffers: &mut ChoiceBuffers,
+    rounds: u32,
+    seed: u64,
+) -> Result<Improved, AllocError>
+    requires objects { objects.now ≡ objects_of state.old.problem state.old.present }
+    requires few { length objects.now ≤ 2 ^ 32 }
+    requires room { HasRoom state.old.problem buffers.old }
+    requires step { 0 < length (earlier state.old) }
+    ensures step { IsWithinStep (with_taken state.old []) (with_taken state.new []) }
+    ensures end { IfOk result (λ n. so_far state.new.present n.rounds n.changed ≡ improved state.old.problem rounds seed state.old.present) }
+    ensures no_worse { OnOk result (IsNoWorse state.old.problem state.old.present state.new.present) }
+{
+    let mut words = Lcg64Xsh32::new(seed, 1);
+    let mut changed = 0;
+    for made in 0..rounds {
+        let Some(object) = drawn_object(objects, words.next_u32()) else {
+            return Ok(Improved {
+                rounds: made,
+                changed,
+            });
+        };
+        changed += u32::from(make_round(alloc, state, object, buffers)?);
+    }
+    Ok(Improved { rounds, changed })
+}
+
+/// Makes rounds, as one step. Where memory runs out, the step is undone.
+fn improve_in_step(
+    alloc: Global,
+    state: &mut State,
+    rounds: u32,
+    seed: u64,
+) -> Result<Improved, AllocError>
+    ensures problem { state.new.problem ≡ state.old.problem }
+    ensures earlier { OnOk result (earlier state.new ≡ state.old.present ∷ earlier state.old) }
+    ensures end { IfOk result (λ n. so_far state.new.present n.rounds n.changed ≡ improved state.old.problem rounds seed state.old.present) }
+    ensures no_worse { OnOk result (IsNoWorse state.old.problem state.old.present state.new.present) }
+    ensures present { OnErr result (state.new.present ≡ state.old.present) }
+    ensures entries { OnErr result (state.new.entries ≡ state.old.entries) }
+{
+    let objects = objects(alloc, state)?;
+    let mut buffers = ChoiceBuffers::new(alloc, state.problem())?;
+    state.begin()?;
+    match descend(alloc, state, objects.as_slice(), &mut buffers, rounds, seed) {
+        Ok(improved) => Ok(improved),
+        Err(error) => {
+            state.take_back();
+            Err(error)
+        }
+    }
+}
+
+/// Improves the present snapshot by so many rounds, or until there is no object, as one step. In a
+/// round a random word draws a placed class or a course of a student who has classes. A class gets
+/// that of its values with which the total is least, among those that aren't blocked and push no class
+/// out, where the total falls. A student's classes of a course are replaced by the choice that adds
+/// the fewest conflicting pairs, among those with which the list is a valid enrolment and each class
+/// has a seat, where it adds fewer. So neither the total nor the hard conflicts rise, and the
+/// statistics and closures stay. Where memory is wanting, only the conflict set found last may differ.
+pub fn improve(
+    alloc: Global,
+    state: &mut State,
+    rounds: u32,
+    seed: u64,
+) -> Result<Improved, AllocError>
+    ensures desk { OnOk result (desk_of state.new ≡ stepped (desk_of state.old) state.new.present) }
+    ensures end { IfOk result (λ n. so_far state.new.present n.rounds n.changed ≡ improved state.old.problem rounds seed state.old.present) }
+    ensures total { OnOk result ((totals_in state.old.problem state.new.present).total ≤ (totals_in state.old.problem state.old.present).total) }
+    ensures hard { OnOk result ((totals_in state.old.problem state.new.present).hard ≤ (totals_in state.old.problem state.old.present).hard) }
+    ensures statistics { OnOk result (state.new.present.statistics ≡ state.old.present.statistics) }
+    ensures closures { OnOk result (state.new.present.closures ≡ state.old.present.closures) }
+    ensures err { OnErr result (with_taken state.new [] ≡ with_taken state.old []) }
+{
+    improve_in_step(alloc, state, rounds, seed)
+}

@@ -1,0 +1,133 @@
+ghost use Rattle.std.specs.Prelude.{◌≡◌, ◌<◌, ◌∷◌, [], List, ℕ, IfOk, IsTrue, None, false, length, slice_index_or};
+ghost use Rattle.tt_plan.specs.Domain.{IsOfDomain};
+ghost use Rattle.tt_problem.specs.declared.parts.Parts.{Parts};
+ghost use Rattle.tt_state.specs.Snapshots.{Snapshot};
+ghost use Rattle.tt_state.specs.Values.{blocked_of};
+ghost use Rattle.tt_draw.specs.Words.{drawn};
+ghost use Rattle.tt_search.specs.Turns.{is_open, has_open_value, candidates};
+ghost use Rattle.tt_search.specs.Drawing.{AreCandidates, AreHopeful};
+
+use std::alloc::{AllocError, Global};
+use tt_bits::Value;
+use tt_clash::{Closures, blocked};
+use tt_draw::draw;
+use tt_flags::Flags;
+use tt_plan::{domain_size, spot, value_at};
+use tt_problem::Problem;
+use tt_state::State;
+
+/// The candidates of a turn, kept while classes are forced to values.
+#[derive(Drop)]
+pub(crate) struct Candidates {
+    /// By class, whether it has an open value.
+    hopeful: Vec<bool>,
+    /// By class, whether it is unplaced too, and so a candidate.
+    free: Flags,
+}
+
+/// Whether a value isn't blocked.
+#[tactic(auto, unfolding(tt_state::specs::Values::blocked_of))]
+pub(crate) fn is_open(problem: &Problem, closures: &Closures, class: u32, value: Value) -> bool
+    requires { IsOfDomain problem.now class value }
+    ensures value { result ≡ is_open problem.now closures.now class value }
+    ensures free { IsTrue result → blocked_of problem.now closures.now class value ≡ None }
+{
+    blocked(problem, closures, class, spot(problem, class, value)).is_none()
+}
+
+/// Whether a class has a value that isn't blocked.
+#[tactic(auto, using(tt_base::proofs::ListLemmas::drop_at))]
+fn has_open_value(problem: &Problem, closures: &Closures, class: u32) -> bool
+    requires { class < length problem.now.classes }
+    ensures { result ≡ has_open_value problem.now closures.now class }
+{
+    for k in 0..domain_size(problem, class) {
+        if is_open(problem, closures, class, value_at(problem, class, k)) {
+            return true;
+        }
+    }
+    false
+}
+
+/// The value that a class has in a plan.
+pub(crate) fn value_of(plan: &[Option<Value>], class: u32) -> Option<Value>
+    ensures { result ≡ slice_index_or plan.now class None }
+{
+    match plan.get(class as usize) {
+        None => None,
+        Some(value) => *value,
+    }
+}
+
+/// Whether each class has an open value.
+fn hopeful_classes(
+    alloc: Global,
+    problem: &Problem,
+    closures: &Closures,
+) -> Result<Vec<bool>, AllocError>
+    ensures whole { IfOk result (λ flags. length flags.items ≡ length problem.now.classes) }
+    ensures hopeful { IfOk result (λ flags. (class : ℕ) → class < length problem.now.classes → slice_index_or flags.items class false ≡ has_open_value problem.now closures.now class) }
+{
+    let mut flags = Vec::new(alloc);
+    for class in 0..problem.class_count() {
+        flags.push(has_open_value(problem, closures, class))?;
+    }
+    Ok(flags)
+}
+
+impl Candidates {
+    /// The candidates of the present snapshot.
+    pub(crate) fn new(alloc: Global, state: &State) -> Result<Candidates, AllocError>
+        ensures { IfOk result (λ c. AreCandidates state.now.problem state.now.present c []) }
+    {
+        let count = state.problem().class_count();
+        let hopeful = hopeful_classes(alloc, state.problem(), state.score().closures())?;
+        let free = Flags::new(alloc, count)?;
+        let mut candidates = Candidates { hopeful, free };
+        candidates.look_at_all(state);
+        Ok(candidates)
+    }
+
+    /// Looks at each class.
+    fn look_at_all(&mut self, state: &State)
+        requires kept { AreHopeful state.now.problem state.now.present.closures self.old }
+        ensures { AreCandidates state.now.problem state.now.present self.new [] }
+    {
+        for class in 0..state.problem().class_count() {
+            self.look_at(state, class);
+        }
+    }
+
+    /// Looks at a class again. One that isn't of the problem is passed over.
+    fn look_at(&mut self, state: &State, class: u32)
+        requires kept { AreHopeful state.now.problem state.now.present.closures self.old }
+        ensures kept { AreHopeful state.now.problem state.now.present.closures self.new }
+        ensures right { (late : List ℕ) → AreCandidates state.now.problem state.now.present self.old (class ∷ late)
+            → AreCandidates state.now.problem state.now.present self.new late }
+    {
+        if class >= state.problem().class_count() {
+            return;
+        }
+        let unplaced = value_of(state.score().plan(), class).is_none();
+        self.free
+            .set(class, unplaced && self.hopeful[class as usize]);
+    }
+
+    /// Looks again at a class that was forced to a value, and at those that were taken out for it.
+    pub(crate) fn follow(&mut self, state: &State, class: u32)
+        requires late { AreCandidates state.now.problem state.now.present self.old (class ∷ state.now.taken) }
+        ensures { AreCandidates state.now.problem state.now.present self.new [] }
+    {
+        self.look_at(state, class);
+        for taken in state.taken() {
+            self.look_at(state, *taken);
+        }
+    }
+
+    /// The candidate that a random word draws.
+    pub(crate) fn drawn(&self, word: u32) -> Option<u32>
+        ensures { (p : Parts) → (s : Snapshot) → AreCandidates p s self.now [] → result ≡ drawn word (candidates p s) }
+    {
+        self.free.nth(draw(word, u64::from(self.free.count())))
+    }
+}
