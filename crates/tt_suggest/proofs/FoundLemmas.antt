@@ -1,0 +1,105 @@
+-- What is found by one value of a class.
+use Rattle.std.proofs.Common.{◌≡◌, ◌∙◌, ℕ, ◌+◌, ◌<◌, ◌≤◌, Bool, true, false, Option, Some, Result, Ok, Err, List, [], ◌∷◌, ◌++◌, length, map, refl, ap, sym, arith}
+use Rattle.std.specs.Prelude.{◌&&◌, not, is_none, nat_le, OnOk}
+use Rattle.std.specs.List.{list_any}
+use Rattle.std.proofs.lemmas.Bool.{leb-true}
+use Rattle.tt_base.specs.Lists.{least_after}
+use Rattle.tt_base.proofs.ListLemmas.{least_after_none}
+use Rattle.tt_bits.specs.declared.times.Value.{Value}
+use Rattle.tt_problem.specs.declared.parts.Parts.{Parts}
+use Rattle.tt_solution.specs.Published.{moved_in}
+use Rattle.tt_solution.specs.Timetable.{Timetable}
+use Rattle.tt_state.specs.Snapshots.{Snapshot, with_value}
+use Rattle.tt_state.specs.Values.{blocked_of, conflicts_of, total_with}
+use Rattle.tt_suggest.specs.declared.branch.Branch.{Branch}
+use Rattle.tt_suggest.specs.declared.suggestion.Rank.{Rank}
+use Rattle.tt_suggest.specs.declared.suggestion.Suggested.{Suggested}
+use Rattle.tt_suggest.specs.Ranks.{rank_numbers}
+use Rattle.tt_suggest.specs.Suggestions.{rank_of, suggestion_of}
+use Rattle.tt_suggest.specs.Tree.{Node, emptied, gives_child, is_on, leaves_of, stays_at_root, tries_of}
+use Rattle.tt_suggest.specs.Walks.{AreFoundIn, child_of, leaf_of, node_of, suggestions_by, tries_by}
+use Rattle.tt_suggest.proofs.TreeLemmas.{barren_suggestions, barren_tries, child_suggestions, child_tries, leaf_leaves, leaf_tries}
+
+-- the class of a branch gives a child at a value
+abbrev pub gives : Parts → Snapshot → Branch → Value → Bool
+gives p s b v = gives_child p b.spare (node_of s b) b.class b.others.items v
+
+-- nothing is found by a value that gives no child
+pub barren_found : (p : Parts) (published : Option Timetable) (s : Snapshot) (b : Branch) (v : Value) (now : Suggested) → gives p s b v ≡ false → now.tried ≤ 1000000
+    → AreFoundIn (tries_by p s b (v ∷ [])) (suggestions_by p published s b (v ∷ [])) now now
+barren_found p published s b v now none few = record {
+  tried = omega (arith, barren_tries p s b v none);
+  best = sym (ap (least_after rank_of now.best) (barren_suggestions p published s b v none) ∙ least_after_none rank_of now.best);
+  few = few;
+}
+
+-- what is found below the child
+pub child_found : (p : Parts) (published : Option Timetable) (s : Snapshot) (b : Branch) (v : Value) (old new : Suggested) → gives p s b v ≡ true
+    → AreFoundIn (tries_of p b.spare (child_of p s b v)) (map (suggestion_of p published) (leaves_of p b.spare (child_of p s b v))) old new
+    → AreFoundIn (tries_by p s b (v ∷ [])) (suggestions_by p published s b (v ∷ [])) old new
+child_found p published s b v old new some found = record {
+  tried = omega (arith, found.tried, child_tries p s b v some);
+  best = found.best ∙ ap (least_after rank_of old.best) (sym (child_suggestions p published s b v some));
+  few = found.few;
+}
+
+-- with too many below the child there are too many by the value
+pub child_too_many : (p : Parts) (s : Snapshot) (b : Branch) (v : Value) (n : ℕ) → gives p s b v ≡ true → 1000000 < n + tries_of p b.spare (child_of p s b v) → 1000000 < n + tries_by p s b (v ∷ [])
+child_too_many p s b v n some above = omega (arith, above, child_tries p s b v some)
+
+-- the suggestion of a child where no class waits
+leaf_is : (p : Parts) (published : Option Timetable) (s : Snapshot) (b : Branch) (v : Value) (rank : Rank) → conflicts_of p s b.class v ≡ []
+    → rank_numbers rank ≡ total_with p s b.class v ∷ moved_in p published (with_value s b.class (Some v)).plan ∷ []
+    → leaf_of b v rank ≡ suggestion_of p published (child_of p s b v)
+unfolding total_with
+leaf_is p published s b v rank none ranked =
+    let total : rank.total ≡ total_with p s b.class v = cc in
+    let moved : rank.moved ≡ moved_in p published (with_value s b.class (Some v)).plan = cc in
+    let first : leaf_of b v rank ≡ suggestion_of p published (alone_at p s b v []) = rw (total, moved) refl in
+    first ∙ ap (λ others. suggestion_of p published (alone_at p s b v others)) (sym none)
+  where
+    alone_at : Parts → Snapshot → Branch → Value → List ℕ → Node
+    alone_at p s b v others = record {
+      snapshot = with_value (emptied s others) b.class (Some v);
+      path = b.path.items ++ record { class = b.class; value = v } ∷ [];
+      waiting = b.others.items ++ conflicts_of p s b.class v;
+    }
+
+-- what is found where the child is a suggestion
+pub leaf_found : (p : Parts) (published : Option Timetable) (s : Snapshot) (b : Branch) (v : Value) (rank : Rank) (old new : Suggested) → gives p s b v ≡ true → b.others.items ≡ [] → conflicts_of p s b.class v ≡ []
+    → rank_numbers rank ≡ total_with p s b.class v ∷ moved_in p published (with_value s b.class (Some v)).plan ∷ []
+    → new.tried ≡ old.tried → old.tried ≤ 1000000 → new.best ≡ least_after rank_of old.best (leaf_of b v rank ∷ [])
+    → AreFoundIn (tries_by p s b (v ∷ [])) (suggestions_by p published s b (v ∷ [])) old new
+leaf_found p published s b v rank old new some alone none ranked tried few best =
+    let waiting : (child_of p s b v).waiting ≡ [] = ap (λ xs. xs ++ conflicts_of p s b.class v) alone ∙ none in
+    let leaves : suggestions_by p published s b (v ∷ []) ≡ leaf_of b v rank ∷ [] =
+    child_suggestions p published s b v some
+    ∙ ap (map (suggestion_of p published)) (leaf_leaves p b.spare (child_of p s b v) waiting)
+    ∙ ap (λ x. x ∷ []) (sym (leaf_is p published s b v rank none ranked)) in
+    record {
+      tried = omega (arith, tried, child_tries p s b v some, leaf_tries p b.spare (child_of p s b v) waiting);
+      best = best ∙ ap (least_after rank_of old.best) (sym leaves);
+      few = omega (arith, tried, few);
+    }
+
+third : (a b c d : Bool) → (a && b && (c && d)) ≡ true → c ≡ true
+third true true true d is = refl
+third true true false d is = absurd (cc)
+third true false c d is = absurd (cc)
+third false b c d is = absurd (cc)
+
+-- no more classes wait at a child than may be placed
+pub child_spare : (p : Parts) (s : Snapshot) (b : Branch) (v : Value) → gives p s b v ≡ true → length b.others.items + length (conflicts_of p s b.class v) ≤ b.spare
+unfolding gives_child
+child_spare p s b v some =
+    leb-true _ _ (third
+    (is_none (blocked_of p s.closures b.class v))
+    (not (stays_at_root s b.path.items b.class v))
+    (nat_le (length b.others.items + length (conflicts_of p s b.class v)) b.spare)
+    (not (list_any (is_on b.path.items) (conflicts_of p s b.class v)))
+    some)
+
+-- what follows where an answer is Ok
+pub on_ok : {A B X E : Type 0} (r : Result X E) → (A → B) → OnOk r A → OnOk r B
+on_ok (Ok x) f a = f a
+on_ok (Err e) f a = a

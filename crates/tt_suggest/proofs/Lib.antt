@@ -1,0 +1,7 @@
+pub mod LeastLemmas
+pub mod TreeLemmas
+pub mod BackLemmas
+pub mod MovedLemmas
+pub mod WaitingLemmas
+pub mod FoundLemmas
+pub mod AnswerLemmas

@@ -1,0 +1,15 @@
+use Rattle.std.proofs.Common.{◌≡◌, take}
+use Rattle.std.specs.Option.{option_copied}
+use Rattle.tt_solution.specs.Published.{moved_in}
+use Rattle.tt_suggest.specs.Tree.{emptied}
+use Rattle.tt_suggest.specs.Walks.{HasGoneOn}
+use Rattle.tt_suggest.proofs.placing.empty.Given as goal
+
+abbrev pub invariant-loop-class : goal.invariant-loop-class
+invariant-loop-class l =
+    let start = l.fn.state in
+    record {
+      on : HasGoneOn start l.state;
+      moved : l.moved ≡ moved_in start.problem (option_copied l.published) l.state.present.plan;
+      present : l.state.present ≡ emptied start.present (take l.class-index l.classes);
+    }

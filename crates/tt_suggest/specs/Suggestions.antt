@@ -1,0 +1,34 @@
+-- Suggestions, and the best of them.
+use Rattle.std.specs.Prelude.{ℕ, List, [], ◌∷◌, Option, map}
+use Rattle.tt_base.specs.Lists.{first_least}
+use Rattle.tt_problem.specs.declared.parts.Parts.{Parts}
+use Rattle.tt_score.specs.Totals.{totals_of}
+use Rattle.tt_solution.specs.Timetable.{Timetable}
+use Rattle.tt_solution.specs.Published.{moved_in}
+use Rattle.tt_state.specs.Snapshots.{Snapshot}
+use Rattle.tt_suggest.specs.declared.suggestion.Suggestion.{Suggestion}
+use Rattle.tt_suggest.specs.declared.suggestion.Suggested.{Suggested}
+use Rattle.tt_suggest.specs.Tree.{Node, leaves_of, root_of, tries_of}
+
+-- the suggestion of a node: the placements that led to it, the total there, and how many published classes are moved
+abbrev pub suggestion_of : Parts → Option Timetable → Node → Suggestion
+suggestion_of p published node = record {
+  moves = node.path;
+  total = (totals_of p node.snapshot.closures node.snapshot.plan node.snapshot.lists).total;
+  moved = moved_in p published node.snapshot.plan;
+}
+
+-- the suggestions for a class by at most so many placements, in the order of a depth-first walk
+abbrev pub suggestions_of : Parts → Option Timetable → (depth : ℕ) → Snapshot → (class : ℕ) → List Suggestion
+suggestions_of p published depth s class = map (suggestion_of p published) (leaves_of p depth (root_of s class))
+
+-- the numbers by which a suggestion is chosen: the total, and how many published classes are moved
+abbrev pub rank_of : Suggestion → List ℕ
+rank_of x = x.total ∷ x.moved ∷ []
+
+-- how many values are tried for a class by at most so many placements, and the first suggestion that has the least rank
+abbrev pub suggested : Parts → Option Timetable → (depth : ℕ) → Snapshot → (class : ℕ) → Suggested
+suggested p published depth s class = record {
+  tried = tries_of p depth (root_of s class);
+  best = first_least rank_of (suggestions_of p published depth s class);
+}

@@ -1,0 +1,62 @@
+-- Proofs alone need it. Where the walk is, and what it has found.
+use Rattle.std.specs.Prelude.{ℕ, ◌≡◌, ◌+◌, ◌<◌, ◌≤◌, ◌∷◌, ◌++◌, [], All, List, Option, length, map}
+use Rattle.std.specs.List.{flat_map, sum_by}
+use Rattle.tt_base.specs.Lists.{least_after}
+use Rattle.tt_bits.specs.declared.times.Value.{Value}
+use Rattle.tt_problem.specs.declared.parts.Parts.{Parts}
+use Rattle.tt_solution.specs.Published.{moved_in}
+use Rattle.tt_solution.specs.Timetable.{Timetable}
+use Rattle.tt_state.specs.History.{Held, IsWithinStep, trail, with_taken}
+use Rattle.tt_state.specs.Snapshots.{Snapshot}
+use Rattle.tt_suggest.specs.declared.branch.Branch.{Branch}
+use Rattle.tt_suggest.specs.declared.suggestion.Rank.{Rank}
+use Rattle.tt_suggest.specs.declared.suggestion.Suggested.{Suggested}
+use Rattle.tt_suggest.specs.declared.suggestion.Suggestion.{Suggestion}
+use Rattle.tt_suggest.specs.Suggestions.{rank_of, suggestion_of}
+use Rattle.tt_suggest.specs.Tree.{Node, child_by, children_by, leaves_of, tries_of}
+
+-- the node of a branch at a snapshot
+abbrev pub node_of : Snapshot → Branch → Node
+node_of s b = record { snapshot = s; path = b.path.items; waiting = b.class ∷ b.others.items }
+
+-- the child of a branch by its class at a value
+abbrev pub child_of : Parts → Snapshot → Branch → Value → Node
+child_of p s b v = child_by p (node_of s b) b.class b.others.items v
+
+-- the suggestion of a branch whose class gets a value and pushes out nothing
+abbrev pub leaf_of : Branch → Value → Rank → Suggestion
+leaf_of b v rank = record { moves = b.path.items ++ record { class = b.class; value = v } ∷ []; total = rank.total; moved = rank.moved }
+
+-- how many values are tried below the children of a branch by some values
+unfoldable pub tries_by : Parts → Snapshot → Branch → List Value → ℕ
+tries_by p s b values = sum_by (tries_of p b.spare) (children_by p b.spare (node_of s b) b.class b.others.items values)
+
+-- the suggestions below the children of a branch by some values
+unfoldable pub suggestions_by : Parts → Option Timetable → Snapshot → Branch → List Value → List Suggestion
+suggestions_by p published s b values =
+    map (suggestion_of p published) (flat_map (leaves_of p b.spare) (children_by p b.spare (node_of s b) b.class b.others.items values))
+
+-- the branch is of the problem at this snapshot, whose moved classes it counts
+pub record IsBranchOf (p : Parts) (published : Option Timetable) (s : Snapshot) (b : Branch) : Type 0 where
+  pub class : b.class < length p.classes
+  pub others : All (λ other. other < length p.classes) b.others.items
+  pub spare : b.spare ≤ 2
+  pub moved : b.moved ≡ moved_in p published s.plan
+
+-- the second state is the first with some moments more in its last step
+pub record HasGoneOn (old new : Held) : Type 0 where
+  pub step : IsWithinStep old new
+  pub more : List Snapshot
+  pub trail : trail new ≡ trail old ++ more
+
+-- the second state is at the moment of the first
+pub record IsBack (old new : Held) : Type 0 where
+  pub step : IsWithinStep (with_taken old []) (with_taken new [])
+  pub present : new.present ≡ old.present
+  pub trail : trail new ≡ trail old
+
+-- what is found once so many values were tried that gave these suggestions
+pub record AreFoundIn (tries : ℕ) (xs : List Suggestion) (old new : Suggested) : Type 0 where
+  pub tried : new.tried ≡ old.tried + tries
+  pub best : new.best ≡ least_after rank_of old.best xs
+  pub few : new.tried ≤ 1000000

@@ -1,0 +1,146 @@
+ghost use Rattle.std.specs.Prelude.{◌≡◌, ◌+◌, ◌==◌, ◌∷◌, ◌++◌, [], ◌<◌, IsTrue, IfOk, None, is_none, length, ◌&&◌};
+ghost use Rattle.std.specs.List.{list_any};
+ghost use Rattle.tt_plan.specs.Domain.{IsOfDomain};
+ghost use Rattle.tt_state.specs.History.{with_taken};
+ghost use Rattle.tt_state.specs.Snapshots.{value_in};
+ghost use Rattle.tt_state.specs.Values.{blocked_of, conflicts_of};
+ghost use Rattle.tt_suggest.specs.Tree.{gives_child, is_on, is_value, may_follow, stays_at_root};
+ghost use Rattle.tt_suggest.specs.Walks.{node_of};
+
+use crate::suggestion::Move;
+use std::alloc::{AllocError, Global};
+use tt_bits::Value;
+use tt_clash::{Closures, blocked};
+use tt_plan::spot;
+use tt_problem::Problem;
+use tt_state::State;
+
+/// A node of the tree of placements whose snapshot is the present one and where a class waits.
+#[derive(Drop)]
+pub(crate) struct Branch {
+    /// The placements that led here.
+    pub path: Vec<Move>,
+    /// The class that gets a value next.
+    pub class: u32,
+    /// The other classes that wait, at most two.
+    pub others: Vec<u32>,
+    /// How many placements may follow the next one, at most two.
+    pub spare: u32,
+    /// How many published classes are moved.
+    pub moved: u32,
+}
+
+/// Whether a value isn't blocked.
+#[tactic(auto, unfolding(tt_state::specs::Values::blocked_of))]
+fn is_open(problem: &Problem, closures: &Closures, class: u32, value: Value) -> bool
+    requires { IsOfDomain problem.now class value }
+    ensures value { result ≡ is_none (blocked_of problem.now closures.now class value) }
+    ensures free { IsTrue result → blocked_of problem.now closures.now class value ≡ None }
+{
+    blocked(problem, closures, class, spot(problem, class, value)).is_none()
+}
+
+/// The value that a class has at present.
+fn value_now(state: &State, class: u32) -> Option<Value>
+    ensures { result ≡ value_in state.now.present class }
+{
+    match state.score().plan().get(class as usize) {
+        None => None,
+        Some(value) => *value,
+    }
+}
+
+/// Whether a value is the one that a class has.
+fn is_value(now: Option<Value>, value: Value) -> bool
+    ensures { result ≡ is_value now value }
+{
+    match now {
+        None => false,
+        Some(now) => now.time == value.time && now.room == value.room,
+    }
+}
+
+/// Whether a class was placed on a path.
+fn is_on(path: &[Move], class: u32) -> bool
+    ensures { result ≡ is_on path.now class }
+{
+    path.iter().any(|step| step.class == class)
+}
+
+/// Whether some of these classes were placed on a path.
+fn is_any_on(path: &[Move], classes: &[u32]) -> bool
+    ensures { result ≡ list_any (is_on path.now) classes.now }
+{
+    classes.iter().any(|class| is_on(path, *class))
+}
+
+impl Branch {
+    /// Whether nothing was placed yet, and the value is the one that the class has.
+    fn stays_at_root(&self, state: &State, value: Value) -> bool
+        ensures { result ≡ stays_at_root state.now.present self.now.path.items self.now.class value }
+    {
+        let at_value = is_value(value_now(state, self.class), value);
+        self.path.len() == 0 && at_value
+    }
+
+    /// Whether no more classes wait than may be placed, and none of those pushed out was placed on
+    /// the way.
+    fn may_follow(&self, conflicts: &[u32]) -> bool
+        ensures { result ≡ may_follow self.now.spare self.now.path.items self.now.others.items conflicts.now }
+    {
+        self.others.len() + conflicts.len() <= self.spare as usize
+            && !is_any_on(self.path.as_slice(), conflicts)
+    }
+
+    /// Whether no class waits once the class has a value that pushes out these.
+    pub(crate) fn is_last(&self, conflicts: &[u32]) -> bool
+        ensures { result ≡ (length self.now.others.items + length conflicts.now == 0) }
+    {
+        self.others.len() + conflicts.len() == 0
+    }
+
+    /// Whether the class at a value gives a child. Where it does, its conflict set was found last.
+    #[tactic(auto, unfolding(crate::specs::Tree::gives_child))]
+    pub(crate) fn gives_child(&self, state: &mut State, value: Value) -> bool
+        requires { IsOfDomain state.old.problem self.now.class value }
+        ensures gives { result ≡ gives_child state.old.problem self.now.spare (node_of state.old.present self.now) self.now.class self.now.others.items value }
+        ensures same { with_taken state.new [] ≡ with_taken state.old [] }
+        ensures taken { IsTrue result → state.new.taken ≡ conflicts_of state.old.problem state.old.present self.now.class value }
+    {
+        if !is_open(state.problem(), state.score().closures(), self.class, value) {
+            return false;
+        }
+        if self.stays_at_root(state, value) {
+            return false;
+        }
+        state.find_conflicts(self.class, value);
+        self.may_follow(state.taken())
+    }
+
+    /// The placements that led here, with that of the class at a value.
+    pub(crate) fn path_with(&self, alloc: Global, value: Value) -> Result<Vec<Move>, AllocError>
+        ensures { IfOk result (λ path. path.items ≡ self.now.path.items ++ record { class = self.now.class; value = value } ∷ []) }
+    {
+        let mut path = Vec::new(alloc);
+        path.extend_from_slice(self.path.as_slice())?;
+        path.push(Move {
+            class: self.class,
+            value,
+        })?;
+        Ok(path)
+    }
+
+    /// The other classes that wait, and after them some that were pushed out.
+    pub(crate) fn waiting_with(
+        &self,
+        alloc: Global,
+        conflicts: &[u32],
+    ) -> Result<Vec<u32>, AllocError>
+        ensures { IfOk result (λ waiting. waiting.items ≡ self.now.others.items ++ conflicts.now) }
+    {
+        let mut waiting = Vec::new(alloc);
+        waiting.extend_from_slice(self.others.as_slice())?;
+        waiting.extend_from_slice(conflicts)?;
+        Ok(waiting)
+    }
+}

@@ -1,0 +1,252 @@
+ghost use Rattle.std.specs.Prelude.{◌≡◌, ◌≢◌, ◌↔◌, ◌+◌, ◌==◌, true, false, ◌∷◌, [], ◌<◌, ◌≤◌, Option, Err, Ok, IfOk, OnOk, OnErr, None, Some, length, map, suc};
+ghost use Rattle.std.specs.Option.{option_copied, ForSome};
+ghost use Rattle.tt_base.specs.Lists.{least_after};
+ghost use Rattle.tt_plan.specs.Domain.{IsOfDomain};
+ghost use Rattle.tt_solution.specs.Published.{moved_in};
+ghost use Rattle.tt_solution.specs.Timetable.{IsTimetableOf};
+ghost use Rattle.tt_state.specs.History.{IsWithinStep, earlier, with_taken};
+ghost use Rattle.tt_state.specs.Snapshots.{with_value};
+ghost use Rattle.tt_state.specs.Values.{conflicts_of, total_with};
+ghost use Rattle.tt_suggest.specs.Suggestions.{rank_of, suggested, suggestion_of, suggestions_of};
+ghost use Rattle.tt_suggest.specs.Tree.{gives_child, leaves_of, root_of, tries_of};
+ghost use Rattle.tt_suggest.specs.Ranks.{is_better, rank_numbers};
+ghost use Rattle.tt_suggest.specs.Walks.{AreFoundIn, IsBack, IsBranchOf, child_of, leaf_of, node_of, suggestions_by, tries_by};
+
+use crate::branch::Branch;
+use crate::moved::{moved_now, moved_with};
+use crate::placing::go_on;
+use crate::suggestion::{Moves, Rank, SuggestEnd, Suggested, Suggestion};
+use std::alloc::{AllocError, Global};
+use tt_bits::Value;
+use tt_plan::{domain_size, value_at};
+use tt_solution::Published;
+use tt_state::State;
+
+/// The most values that are tried.
+const MOST_TRIES: u32 = 1_000_000;
+
+impl Suggested {
+    /// Whether a suggestion of this rank is better than what was found so far.
+    fn is_beaten(&self, rank: Rank) -> bool
+        ensures { result ≡ is_better (rank_numbers rank) self.now.best }
+    {
+        match &self.best {
+            None => true,
+            Some(best) => rank.is_below(&Rank {
+                total: best.total,
+                moved: best.moved,
+            }),
+        }
+    }
+
+    /// Takes the suggestion that a branch gives with its class at a value, if it is better than what
+    /// was found so far.
+    fn offer(
+        &mut self,
+        alloc: Global,
+        branch: &Branch,
+        value: Value,
+        rank: Rank,
+    ) -> Result<(), AllocError>
+        ensures tried { self.new.tried ≡ self.old.tried }
+        ensures best { OnOk result (self.new.best ≡ least_after rank_of self.old.best (leaf_of branch.now value rank ∷ [])) }
+    {
+        if self.is_beaten(rank) {
+            let moves = Moves::from_vec(branch.path_with(alloc, value)?);
+            self.best = Some(Suggestion {
+                moves,
+                total: rank.total,
+                moved: rank.moved,
+            });
+        }
+        Ok(())
+    }
+
+    /// Counts so many values more to try.
+    fn add_tries(&mut self, tries: u32) -> Result<(), SuggestEnd>
+        requires so_far { self.old.tried ≤ 1000000 }
+        requires few { tries ≤ 1000000 }
+        ensures tried { self.new.tried ≡ self.old.tried + tries }
+        ensures best { self.new.best ≡ self.old.best }
+        ensures few { OnOk result (self.new.tried ≤ 1000000) }
+        ensures too_many { OnErr result (1000000 < self.new.tried) }
+        ensures only { OnErr result (result ≡ Err SuggestEnd.TooMany) }
+    {
+        self.tried += tries;
+        if self.tried > MOST_TRIES {
+            return Err(SuggestEnd::TooMany);
+        }
+        Ok(())
+    }
+}
+
+/// The rank of the suggestion that a branch gives with its class at a value, where nothing is pushed
+/// out and no class waits then.
+fn rank_with(
+    state: &mut State,
+    published: Option<&Published>,
+    branch: &Branch,
+    value: Value,
+) -> Rank
+    requires belongs { ForSome (option_copied published) (IsTimetableOf state.old.problem) }
+    requires branch { IsBranchOf state.old.problem (option_copied published) state.old.present branch.now }
+    requires value { IsOfDomain state.old.problem branch.now.class value }
+    ensures same { state.new ≡ state.old }
+    ensures rank { rank_numbers result ≡ total_with state.old.problem state.old.present branch.now.class value ∷ moved_in state.old.problem (option_copied published.entry) (with_value state.old.present branch.now.class (Some value)).plan ∷ [] }
+{
+    let moved = moved_with(state, published, branch.moved, branch.class, Some(value));
+    let total = state.trial(branch.class, value);
+    Rank { total, moved }
+}
+
+/// Tries each value of the class of a branch, in the last step, and goes on from there as far as it
+/// may.
+#[cycle(walk)]
+fn walk(
+    alloc: Global,
+    state: &mut State,
+    published: Option<&Published>,
+    branch: &Branch,
+    found: &mut Suggested,
+) -> Result<(), SuggestEnd>
+    requires belongs { ForSome (option_copied published) (IsTimetableOf state.old.problem) }
+    requires branch { IsBranchOf state.old.problem (option_copied published) state.old.present branch.now }
+    requires step { 0 < length (earlier state.old) }
+    requires few { found.old.tried ≤ 1000000 }
+    ensures step { IsWithinStep (with_taken state.old []) (with_taken state.new []) }
+    ensures back { OnOk result (IsBack state.old state.new) }
+    ensures found { OnOk result (AreFoundIn (tries_of state.old.problem (suc branch.now.spare) (node_of state.old.present branch.now)) (map (suggestion_of state.old.problem (option_copied published.entry)) (leaves_of state.old.problem (suc branch.now.spare) (node_of state.old.present branch.now))) found.old found.new) }
+    ensures too_many { result ≡ Err SuggestEnd.TooMany → 1000000 < found.old.tried + tries_of state.old.problem (suc branch.now.spare) (node_of state.old.present branch.now) }
+{
+    let count = domain_size(state.problem(), branch.class);
+    found.add_tries(count)?;
+    for k in 0..count {
+        let value = value_at(state.problem(), branch.class, k);
+        try_value(alloc, state, published, branch, value, found)?;
+    }
+    Ok(())
+}
+
+/// Tries a value of the class of a branch, in the last step.
+#[cycle(walk)]
+fn try_value(
+    alloc: Global,
+    state: &mut State,
+    published: Option<&Published>,
+    branch: &Branch,
+    value: Value,
+    found: &mut Suggested,
+) -> Result<(), SuggestEnd>
+    requires belongs { ForSome (option_copied published) (IsTimetableOf state.old.problem) }
+    requires branch { IsBranchOf state.old.problem (option_copied published) state.old.present branch.now }
+    requires value { IsOfDomain state.old.problem branch.now.class value }
+    requires step { 0 < length (earlier state.old) }
+    requires few { found.old.tried ≤ 1000000 }
+    ensures step { IsWithinStep (with_taken state.old []) (with_taken state.new []) }
+    ensures back { OnOk result (IsBack state.old state.new) }
+    ensures found { OnOk result (AreFoundIn (tries_by state.old.problem state.old.present branch.now (value ∷ [])) (suggestions_by state.old.problem (option_copied published.entry) state.old.present branch.now (value ∷ [])) found.old found.new) }
+    ensures too_many { result ≡ Err SuggestEnd.TooMany → 1000000 < found.old.tried + tries_by state.old.problem state.old.present branch.now (value ∷ []) }
+{
+    if !branch.gives_child(state, value) {
+        return Ok(());
+    }
+    if branch.is_last(state.taken()) {
+        let rank = rank_with(state, published, branch, value);
+        return Ok(found.offer(alloc, branch, value, rank)?);
+    }
+    descend(alloc, state, published, branch, value, found)
+}
+
+/// Goes to the child of a branch by its class at a value, walks on from there, and goes back.
+#[cycle(walk)]
+fn descend(
+    alloc: Global,
+    state: &mut State,
+    published: Option<&Published>,
+    branch: &Branch,
+    value: Value,
+    found: &mut Suggested,
+) -> Result<(), SuggestEnd>
+    requires belongs { ForSome (option_copied published) (IsTimetableOf state.old.problem) }
+    requires branch { IsBranchOf state.old.problem (option_copied published) state.old.present branch.now }
+    requires value { IsOfDomain state.old.problem branch.now.class value }
+    requires taken { state.old.taken ≡ conflicts_of state.old.problem state.old.present branch.now.class value }
+    requires gives { gives_child state.old.problem branch.now.spare (node_of state.old.present branch.now) branch.now.class branch.now.others.items value ≡ true }
+    requires some { (length branch.now.others.items + length state.old.taken == 0) ≡ false }
+    requires step { 0 < length (earlier state.old) }
+    requires few { found.old.tried ≤ 1000000 }
+    ensures step { IsWithinStep (with_taken state.old []) (with_taken state.new []) }
+    ensures back { OnOk result (IsBack state.old state.new) }
+    ensures found { OnOk result (AreFoundIn (tries_of state.old.problem branch.now.spare (child_of state.old.problem state.old.present branch.now value)) (map (suggestion_of state.old.problem (option_copied published.entry)) (leaves_of state.old.problem branch.now.spare (child_of state.old.problem state.old.present branch.now value))) found.old found.new) }
+    ensures too_many { result ≡ Err SuggestEnd.TooMany → 1000000 < found.old.tried + tries_of state.old.problem branch.now.spare (child_of state.old.problem state.old.present branch.now value) }
+{
+    let mark = state.mark_now();
+    let next = go_on(alloc, state, published, branch, value)?;
+    walk(alloc, state, published, &next, found)?;
+    state.roll_back(mark);
+    Ok(())
+}
+
+/// Walks the tree of placements from the present snapshot, in the last step.
+fn suggest_step(
+    alloc: Global,
+    state: &mut State,
+    published: Option<&Published>,
+    class: u32,
+    depth: u8,
+) -> Result<Suggested, SuggestEnd>
+    requires belongs { ForSome (option_copied published) (IsTimetableOf state.old.problem) }
+    requires class { class < length state.old.problem.classes }
+    requires some { 1 ≤ depth }
+    requires few { depth ≤ 3 }
+    requires step { 0 < length (earlier state.old) }
+    ensures step { IsWithinStep (with_taken state.old []) (with_taken state.new []) }
+    ensures suggested { IfOk result (λ now. now ≡ suggested state.old.problem (option_copied published.entry) depth state.old.present class) }
+    ensures few { IfOk result (λ now. now.tried ≤ 1000000) }
+    ensures too_many { result ≡ Err SuggestEnd.TooMany → 1000000 < tries_of state.old.problem depth (root_of state.old.present class) }
+{
+    let root = Branch {
+        path: Vec::new(alloc),
+        class,
+        others: Vec::new(alloc),
+        spare: u32::from(depth) - 1,
+        moved: moved_now(state, published),
+    };
+    let mut found = Suggested {
+        tried: 0,
+        best: None,
+    };
+    walk(alloc, state, published, &root, &mut found)?;
+    Ok(found)
+}
+
+/// The best way to place or move a class by at most `depth` placements, 1 to 3, and how many values
+/// were tried to find it. A class that gets a value pushes out its conflict set, and each class
+/// that was pushed out gets a value in turn; no class that was placed on the way is pushed out again.
+/// The first value is none that is blocked, nor the one that the class has. The best is the first
+/// that has the least total, and then the fewest moved classes. `SuggestEnd::TooMany` where there
+/// are more than 1,000,000 values to try. With any answer the snapshot and the history are as before;
+/// the conflict set found last may differ.
+#[tactic(auto, using(crate::proofs::AnswerLemmas::none_by, crate::proofs::AnswerLemmas::taken_back))]
+pub fn suggest(
+    alloc: Global,
+    state: &mut State,
+    published: Option<&Published>,
+    class: u32,
+    depth: u8,
+) -> Result<Suggested, SuggestEnd>
+    requires belongs { ForSome (option_copied published) (IsTimetableOf state.old.problem) }
+    requires class { class < length state.old.problem.classes }
+    requires some { 1 ≤ depth }
+    requires few { depth ≤ 3 }
+    ensures same { with_taken state.new [] ≡ with_taken state.old [] }
+    ensures suggested { IfOk result (λ now. now ≡ suggested state.old.problem (option_copied published.entry) depth state.old.present class) }
+    ensures none { IfOk result (λ now. (now.best ≡ None) ↔ (suggestions_of state.old.problem (option_copied published.entry) depth state.old.present class ≡ [])) }
+    ensures few { IfOk result (λ now. now.tried ≤ 1000000) }
+    ensures too_many { result ≢ Err SuggestEnd.Memory → (result ≡ Err SuggestEnd.TooMany) ↔ (1000000 < tries_of state.old.problem depth (root_of state.old.present class)) }
+{
+    state.begin()?;
+    let result = suggest_step(alloc, state, published, class, depth);
+    state.take_back();
+    result
+}

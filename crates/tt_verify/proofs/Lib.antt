@@ -1,0 +1,11 @@
+pub mod SortLemmas
+pub mod SumLemmas
+pub mod SweepLemmas
+pub mod WalkLemmas
+pub mod BlockLemmas
+pub mod PairLemmas
+pub mod PlanLemmas
+pub mod HardLemmas
+pub mod CountLemmas
+pub mod SumsLemmas
+pub mod AmountLemmas

@@ -1,0 +1,43 @@
+-- How violations and sums are written.
+use Rattle.std.specs.Prelude.{ℕ, ◌+◌, ◌==◌, List, ◌++◌, codes, if◌then◌else◌}
+use Rattle.std.specs.List.{flat_map}
+use Rattle.tt_problem.specs.declared.parts.Parts.{Parts}
+use Rattle.tt_problem.specs.Places.{class_id, student_id}
+use Rattle.tt_text.specs.Fields.{field}
+use Rattle.tt_verify.specs.declared.violation.Violation.{Violation}
+use Rattle.tt_verify.specs.declared.violation.Violation.TheVariants as what
+
+-- a text and the id of a class
+unfoldable pub class_text : List ℕ → Parts → (class : ℕ) → List ℕ
+class_text text p class = field text (class_id p class)
+
+-- the line on a violation. Rules are counted from 1
+unfoldable pub line_of : Parts → Violation → List ℕ
+line_of p (what.Missing class) = class_text (codes "class ") p class ++ codes " missing\n"
+line_of p (what.Outside class) = class_text (codes "class ") p class ++ codes " outside\n"
+line_of p (what.Invalid student) = field (codes "student ") (student_id p student) ++ codes " invalid\n"
+line_of p (what.Over class students) = class_text (codes "class ") p class ++ field (codes " over ") students ++ codes "\n"
+line_of p (what.Clash class other) = class_text (codes "clash ") p class ++ class_text (codes " ") p other ++ codes "\n"
+line_of p (what.Closed class) = class_text (codes "closed ") p class ++ codes "\n"
+line_of p (what.Pair rule class other) =
+    field (codes "rule ") (rule + 1) ++ (class_text (codes " pair ") p class ++ class_text (codes " ") p other ++ codes "\n")
+line_of p (what.Amount rule amount) = field (codes "rule ") (rule + 1) ++ field (codes " amount ") amount ++ codes "\n"
+
+-- a line for each violation, in order
+unfoldable pub lines_of : Parts → List Violation → List ℕ
+lines_of p violations = flat_map (line_of p) violations
+
+-- the line on the sums
+unfoldable pub sum_line : (time room distribution student total hard : ℕ) → List ℕ
+sum_line time room distribution student total hard =
+    field (codes "sum time ") time
+    ++ field (codes " room ") room
+    ++ field (codes " distribution ") distribution
+    ++ field (codes " student ") student
+    ++ field (codes " total ") total
+    ++ field (codes " hard ") hard
+    ++ codes "\n"
+
+-- the last line, by the number of violations
+unfoldable pub verdict_line : ℕ → List ℕ
+verdict_line count = if count == 0 then codes "valid\n" else field (codes "violations ") count ++ codes "\n"

@@ -1,0 +1,124 @@
+ghost use Rattle.std.specs.Prelude.{◌≡◌, ◌++◌, IfOk, OnOk, length, vec_len};
+ghost use Rattle.tt_score.specs.Members.{AreSpotsOf};
+ghost use Rattle.tt_solution.specs.Published.{published_plan};
+ghost use Rattle.tt_solution.specs.Timetable.{IsTimetableOf};
+ghost use Rattle.tt_verify.specs.Costs.{AreSumsOf, hard_count, sums_line};
+ghost use Rattle.tt_verify.specs.Lines.{lines_of, verdict_line};
+ghost use Rattle.tt_verify.specs.Verified.{verified_text};
+ghost use Rattle.tt_verify.specs.Violations.{hard_violations, listing_faults, violations_of};
+
+use crate::clashes::add_clashes;
+use crate::classes::{add_class_faults, add_closed_faults, add_limit_faults};
+use crate::lines::{add_lines, add_sum_line, add_verdict};
+use crate::plan::{published_plan, spots_of};
+use crate::rules::add_all_rule_faults;
+use crate::students::{add_list_faults, student_counts};
+use crate::sums::{Sums, sums_of};
+use crate::violation::Violation;
+use std::alloc::{AllocError, Global};
+use tt_bits::{Spot, Value};
+use tt_problem::Problem;
+use tt_solution::Published;
+use tt_text::Reply;
+
+/// Adds what is wrong with the listed classes and with the students' lists.
+#[tactic(auto, using(std::proofs::Common::append_assoc), unfolding(crate::specs::Violations::listing_faults))]
+fn add_listing_faults(
+    alloc: Global,
+    problem: &Problem,
+    published: &Published,
+    plan: &[Option<Value>],
+    found: &mut Vec<Violation>,
+) -> Result<(), AllocError>
+    requires belongs { IsTimetableOf problem.now published.now }
+    requires whole { length plan.now ≡ length problem.now.classes }
+    ensures { OnOk result (found.new.items ≡ found.old.items ++ listing_faults problem.now published.now plan.now) }
+{
+    let counts = student_counts(alloc, problem, published)?;
+    add_class_faults(problem, published, plan, found)?;
+    add_list_faults(problem, published, found)?;
+    add_limit_faults(problem, published, &counts, found)
+}
+
+/// Adds what is counted as hard: clashes, closed rooms and required rules.
+#[tactic(auto, using(std::proofs::Common::append_assoc), unfolding(crate::specs::Violations::hard_violations))]
+fn add_hard_violations(
+    alloc: Global,
+    problem: &Problem,
+    spots: &[Option<Spot>],
+    found: &mut Vec<Violation>,
+) -> Result<(), AllocError>
+    requires whole { length spots.now ≡ length problem.now.classes }
+    requires fit { AreSpotsOf problem.now spots.now }
+    ensures { OnOk result (found.new.items ≡ found.old.items ++ hard_violations problem.now spots.now) }
+{
+    problem.validity();
+    add_clashes(alloc, spots, found)?;
+    add_closed_faults(problem, spots, found)?;
+    add_all_rule_faults(alloc, problem, spots, found)
+}
+
+/// What is wrong with a timetable, how much of it is counted as hard, and what it costs.
+#[derive(Drop)]
+struct Findings {
+    violations: Vec<Violation>,
+    hard: u64,
+    sums: Sums,
+}
+
+/// All that is found of a published timetable.
+#[tactic(auto, unfolding(crate::specs::Violations::violations_with))]
+fn findings_on(
+    alloc: Global,
+    problem: &Problem,
+    published: &Published,
+) -> Result<Findings, AllocError>
+    requires { IsTimetableOf problem.now published.now }
+    ensures violations { IfOk result (λ f. f.violations.items ≡ violations_of problem.now published.now) }
+    ensures hard { IfOk result (λ f. f.hard ≡ hard_count problem.now published.now) }
+    ensures sums { IfOk result (λ f. AreSumsOf problem.now (published_plan problem.now published.now) published.now.lists f.sums) }
+{
+    problem.validity();
+    let plan = published_plan(alloc, problem, published)?;
+    let spots = spots_of(alloc, problem, &plan)?;
+    let mut violations = Vec::new(alloc);
+    add_listing_faults(alloc, problem, published, &plan, &mut violations)?;
+    let before = violations.len();
+    add_hard_violations(alloc, problem, &spots, &mut violations)?;
+    let hard = (violations.len() - before) as u64;
+    let sums = sums_of(alloc, problem, published, &plan, &spots)?;
+    Ok(Findings {
+        violations,
+        hard,
+        sums,
+    })
+}
+
+/// Appends a line for each violation, the line on the sums, and the last line.
+#[tactic(auto, using(std::proofs::Common::append_assoc))]
+fn add_findings(out: &mut Reply, problem: &Problem, findings: &Findings) -> Result<(), AllocError>
+    ensures { OnOk result (out.new ≡ out.old ++ (lines_of problem.now findings.now.violations.items ++ sums_line findings.now.sums findings.now.hard ++ verdict_line (vec_len findings.now.violations))) }
+{
+    add_lines(out, problem, findings.violations.as_slice())?;
+    add_sum_line(out, &findings.sums, findings.hard)?;
+    add_verdict(out, findings.violations.len() as u64)
+}
+
+/// Checks a published timetable against its problem. Each listed class has the first value of its
+/// domain with the listed days, weeks, start and room, and each student the listed classes. Appends
+/// a line for each violation, the line on the sums, and `valid` or the number of violations, which
+/// it answers. Where memory is wanting, some of that may have been appended.
+pub fn verify(
+    alloc: Global,
+    problem: &Problem,
+    published: &Published,
+    out: &mut Reply,
+) -> Result<u64, AllocError>
+    requires { IsTimetableOf problem.now published.now }
+    ensures text { OnOk result (out.new ≡ out.old ++ verified_text problem.now published.now) }
+    ensures count { IfOk result (λ n. n ≡ length (violations_of problem.now published.now)) }
+{
+    let findings = findings_on(alloc, problem, published)?;
+    add_findings(out, problem, &findings)?;
+    Ok(findings.violations.len() as u64)
+}

@@ -1,0 +1,145 @@
+ghost use Rattle.std.specs.Prelude.{◌≡◌, ◌++◌, ◌<◌, [], IfSome, OnOk, length};
+ghost use Rattle.std.specs.List.{list_any};
+ghost use Rattle.tt_bits.specs.Times.{overlaps};
+ghost use Rattle.tt_clash.specs.Blocked.{is_closed};
+ghost use Rattle.tt_score.specs.Members.{AreSpotsOf};
+ghost use Rattle.tt_solution.specs.Timetable.{IsTimetableOf};
+ghost use Rattle.tt_verify.specs.Counts.{AreCounts};
+ghost use Rattle.tt_verify.specs.Violations.{class_fault, class_faults, closed_fault, closed_faults, limit_fault_with, limit_faults};
+
+use crate::violation::Violation;
+use std::alloc::AllocError;
+use tt_bits::{Spot, Time, Value};
+use tt_problem::Problem;
+use tt_solution::Published;
+
+/// Adds a class that isn't listed, or is listed and has no value.
+#[tactic(auto, unfolding(crate::specs::Violations::class_fault))]
+fn add_class_fault(
+    published: &Published,
+    plan: &[Option<Value>],
+    class: u32,
+    found: &mut Vec<Violation>,
+) -> Result<(), AllocError>
+    requires listed { class < length published.now.classes }
+    requires planned { class < length plan.now }
+    ensures { OnOk result (found.new.items ≡ found.old.items ++ class_fault published.now plan.now class) }
+{
+    if !published.has(class) {
+        found.push(Violation::Missing { class })?;
+    } else if plan[class as usize].is_none() {
+        found.push(Violation::Outside { class })?;
+    }
+    Ok(())
+}
+
+/// Adds each class that isn't listed, or is listed and has no value.
+#[tactic(auto, using(crate::proofs::WalkLemmas::pieces_more, std::proofs::Common::append_assoc))]
+pub fn add_class_faults(
+    problem: &Problem,
+    published: &Published,
+    plan: &[Option<Value>],
+    found: &mut Vec<Violation>,
+) -> Result<(), AllocError>
+    requires belongs { IsTimetableOf problem.now published.now }
+    requires whole { length plan.now ≡ length problem.now.classes }
+    ensures { OnOk result (found.new.items ≡ found.old.items ++ class_faults problem.now published.now plan.now) }
+{
+    for class in 0..problem.class_count() {
+        add_class_fault(published, plan, class, found)?;
+    }
+    Ok(())
+}
+
+/// Adds a class that so many students have, where they are more than its limit.
+#[tactic(auto, unfolding(crate::specs::Violations::limit_fault_with, crate::specs::Violations::limit_fault))]
+fn add_limit_fault(
+    problem: &Problem,
+    class: u32,
+    students: u32,
+    found: &mut Vec<Violation>,
+) -> Result<(), AllocError>
+    requires { class < length problem.now.classes }
+    ensures { OnOk result (found.new.items ≡ found.old.items ++ limit_fault_with problem.now class students) }
+{
+    if let Some(limit) = problem.class(class).limit
+        && students > limit
+    {
+        found.push(Violation::Over { class, students })?;
+    }
+    Ok(())
+}
+
+/// Adds each class that more students have than its limit allows, by how many have each class.
+#[tactic(auto, using(crate::proofs::WalkLemmas::pieces_more, std::proofs::Common::append_assoc), unfolding(crate::specs::Violations::limit_fault_at))]
+pub fn add_limit_faults(
+    problem: &Problem,
+    published: &Published,
+    counts: &[u32],
+    found: &mut Vec<Violation>,
+) -> Result<(), AllocError>
+    requires { AreCounts (length problem.now.classes) published.now.lists counts.now }
+    ensures { OnOk result (found.new.items ≡ found.old.items ++ limit_faults problem.now published.now.lists) }
+{
+    let _ = published;
+    for class in 0..problem.class_count() {
+        add_limit_fault(problem, class, counts[class as usize], found)?;
+    }
+    Ok(())
+}
+
+/// Whether the time overlaps one of some times.
+fn overlaps_some(times: &[Time], time: Time) -> bool
+    ensures { result ≡ list_any (λ t. overlaps time t) times.now }
+{
+    times.iter().any(|other| time.overlaps(other))
+}
+
+/// Whether the room of a spot is unavailable at an overlapping time.
+#[tactic(auto, using(crate::proofs::PlanLemmas::by_file), unfolding(tt_clash::specs::Blocked::is_closed))]
+fn is_closed(problem: &Problem, spot: &Spot) -> bool
+    requires { IfSome spot.now.room (λ room. room < length problem.now.rooms) }
+    ensures { result ≡ is_closed problem.now [] spot.now }
+{
+    match spot.room {
+        Some(room) => overlaps_some(problem.room(room).closed.as_slice(), spot.time),
+        None => false,
+    }
+}
+
+/// Adds a class that is placed and whose room is unavailable then.
+#[tactic(auto, unfolding(crate::specs::Violations::closed_fault))]
+fn add_closed_fault(
+    problem: &Problem,
+    spots: &[Option<Spot>],
+    class: u32,
+    found: &mut Vec<Violation>,
+) -> Result<(), AllocError>
+    requires class { class < length spots.now }
+    requires fit { AreSpotsOf problem.now spots.now }
+    ensures { OnOk result (found.new.items ≡ found.old.items ++ closed_fault problem.now spots.now class) }
+{
+    if let Some(spot) = &spots[class as usize]
+        && is_closed(problem, spot)
+    {
+        found.push(Violation::Closed { class })?;
+    }
+    Ok(())
+}
+
+/// Adds each class that is placed and whose room is unavailable then.
+#[tactic(auto, using(crate::proofs::WalkLemmas::pieces_more, std::proofs::Common::append_assoc))]
+pub fn add_closed_faults(
+    problem: &Problem,
+    spots: &[Option<Spot>],
+    found: &mut Vec<Violation>,
+) -> Result<(), AllocError>
+    requires whole { length spots.now ≡ length problem.now.classes }
+    requires fit { AreSpotsOf problem.now spots.now }
+    ensures { OnOk result (found.new.items ≡ found.old.items ++ closed_faults problem.now spots.now) }
+{
+    for class in 0..problem.class_count() {
+        add_closed_fault(problem, spots, class, found)?;
+    }
+    Ok(())
+}
