@@ -2,4 +2,8 @@
 #![tactic(auto)]
 
 #[cfg(test)]
+mod piece_tests;
+#[cfg(test)]
 mod top_tests;
+#[cfg(test)]
+mod verify_run_tests;

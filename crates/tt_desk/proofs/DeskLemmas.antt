@@ -6,12 +6,12 @@ use Rattle.std.proofs.lemmas.List.Elements.{All-append}
 use Rattle.std.proofs.Math.Seq.{drop-cons, drop-length, take-length, take-append_seam}
 use Rattle.std.specs.Prelude.{All}
 use Rattle.tt_problem.specs.declared.parts.Parts.{Parts}
-use Rattle.tt_problem.specs.Places.{class_of}
+use Rattle.tt_problem.specs.Places.{class_of, class_id}
 use Rattle.std.specs.Prelude.{◌↔◌, true, false, Bool}
 use Rattle.tt_problem.specs.Places.{student_of}
 use Rattle.tt_struct.specs.Enrolments.{is_enrolment}
 use Rattle.tt_state.specs.declared.state.Refusal.{Refusal as StateRefusal}
-use Rattle.tt_state.specs.declared.state.Refusal.TheVariants.{NotPlaced, Blocked as StateBlocked, BadSection, NoSeat as StateNoSeat, NotSectioned, NothingToUndo, Memory}
+use Rattle.tt_state.specs.declared.state.Refusal.TheVariants.{NotPlaced, Blocked as StateBlocked, BadSection, NoSeat as StateNoSeat, NotSectioned, NothingToUndo, TooMany, NothingClosed, Memory}
 use Rattle.tt_state.specs.Seats.{first_without_seat}
 use Rattle.tt_state.specs.Snapshots.{with_list, in_order}
 use Rattle.tt_state.specs.History.{Desk, Held, desk_of, with_taken}
@@ -33,7 +33,6 @@ use Rattle.tt_clash.specs.declared.Block.{Block}
 use Rattle.tt_state.specs.Values.{blocked_of, conflicts_of}
 use Rattle.tt_state.specs.Forced.{forced}
 use Rattle.tt_solution.specs.Timetable.{Timetable}
-use Rattle.tt_explain.specs.Names.{class_id}
 use Rattle.tt_desk.specs.Desk.{Session, Answer, carried_out, known_classes, step_from, with_step, with_published, not_ready, taken_lines}
 use Rattle.tt_desk.specs.Chain.{◌>>=◌}
 use Rattle.tt_desk.specs.Causes.{block_of}
@@ -124,7 +123,7 @@ module _ (s : Session) (student : ℕ) (classes list : List ℕ) (i : ℕ) (know
 -- ---- `publish`
 
 module _ (s : Session) where
-  pub not_published : is_ready s.desk.problem s.desk.present ≡ false → carried_out s Publish ≡ Err (not_ready (totals_of s.desk.problem s.desk.present.plan s.desk.present.lists))
+  pub not_published : is_ready s.desk.problem s.desk.present ≡ false → carried_out s Publish ≡ Err (not_ready (totals_of s.desk.problem s.desk.present.closures s.desk.present.plan s.desk.present.lists))
   not_published is = rw is refl
 
   pub published : is_ready s.desk.problem s.desk.present ≡ true → carried_out s Publish ≡ Ok (with_published s (timetable_of s.desk.problem s.desk.present.plan s.desk.present.lists) (published_text s.desk.problem s.desk.present.plan s.desk.present.lists ++ codes "\n"))
@@ -142,10 +141,10 @@ none_unplaced t is = eqb-true _ _ (first_of _ _ (first_of _ _ is))
 -- ---- `force`
 
 module _ (s : Session) (class time : ℕ) (room : Option ℕ) (c : ℕ) (v : Value) (known : class_of s.desk.problem class ≡ Some c) (named : find_value s.desk.problem c time room ≡ Ok v) where
-  pub force_open : blocked_of s.desk.problem c v ≡ None → carried_out s (Force class time room) ≡ Ok (with_step s (forced s.desk.problem s.desk.present c v) (taken_lines s.desk.problem (conflicts_of s.desk.problem s.desk.present c v)))
+  pub force_open : blocked_of s.desk.problem s.desk.present.closures c v ≡ None → carried_out s (Force class time room) ≡ Ok (with_step s (forced s.desk.problem s.desk.present c v) (taken_lines s.desk.problem (conflicts_of s.desk.problem s.desk.present c v)))
   force_open free = rw (known, named, free) refl
 
-  pub force_blocked : (reason : Block) → blocked_of s.desk.problem c v ≡ Some reason → carried_out s (Force class time room) ≡ Err (Blocked reason)
+  pub force_blocked : (reason : Block) → blocked_of s.desk.problem s.desk.present.closures c v ≡ Some reason → carried_out s (Force class time room) ≡ Err (Blocked reason)
   force_blocked reason is = rw (known, named, is) refl
 
 -- the state's answer says whether the value is blocked
@@ -160,6 +159,8 @@ is_blocked BadSection reason is = absurd (cc)
 is_blocked (StateNoSeat class) reason is = absurd (cc)
 is_blocked NotSectioned reason is = absurd (cc)
 is_blocked NothingToUndo reason is = absurd (cc)
+is_blocked TooMany reason is = absurd (cc)
+is_blocked NothingClosed reason is = absurd (cc)
 is_blocked Memory reason is = absurd (cc)
 
 pub not_blocked : (e : StateRefusal) (reason : Block) → block_of e ≡ None → e ≡ StateBlocked reason → ⊥

@@ -1,16 +1,22 @@
 -- What each command does on a plain desk, which keeps whole snapshots.
-use Rattle.std.specs.Prelude.{ℕ, List, [], ◌∷◌, ◌++◌, Option, None, Some, Result, Ok, Err, codes, ok_or, if◌then◌else◌}
+use Rattle.std.specs.Prelude.{ℕ, ◌==◌, nat_le, List, [], ◌∷◌, ◌++◌, length, Option, None, Some, Result, Ok, Err, codes, decimal, ok_or, option_and_then, option_map, if◌then◌else◌}
+use Rattle.std.specs.List.{flat_map, list_any}
+use Rattle.std.specs.Option.{option_map_or}
 use Rattle.std.specs.Result.{result_map_both}
 use Rattle.tt_bits.specs.declared.times.Value.{Value}
+use Rattle.tt_bits.specs.declared.words.BitWord.{BitWord}
+use Rattle.tt_bits.specs.declared.times.Time.{Time}
+use Rattle.tt_bits.specs.Sets.{days_word, weeks_word}
+use Rattle.tt_bits.specs.Times.{time_of}
 use Rattle.tt_problem.specs.declared.parts.Parts.{Parts}
-use Rattle.tt_problem.specs.Places.{class_of, student_of}
+use Rattle.tt_problem.specs.Places.{class_of, room_of, student_of, class_id}
 use Rattle.tt_plan.specs.declared.named.NoValue.{NoValue}
 use Rattle.tt_plan.specs.declared.named.NoValue.TheVariants as no_value
 use Rattle.tt_plan.specs.Named.{find_value}
 use Rattle.tt_struct.specs.Enrolments.{is_enrolment}
 use Rattle.tt_score.specs.declared.totals.Totals as totals
 use Rattle.tt_score.specs.Totals.{totals_of}
-use Rattle.tt_state.specs.Snapshots.{Snapshot, opening_snapshot, value_in, with_value, list_in, with_list, in_order}
+use Rattle.tt_state.specs.Snapshots.{Snapshot, opening_snapshot, value_in, with_value, list_in, with_list, in_order, is_open_in, with_closed, with_reopened}
 use Rattle.tt_state.specs.Seats.{first_without_seat}
 use Rattle.tt_state.specs.Values.{blocked_of, conflicts_of}
 use Rattle.tt_state.specs.Forced.{forced}
@@ -20,17 +26,23 @@ use Rattle.tt_solution.specs.Timetable.{Timetable}
 use Rattle.tt_solution.specs.Published.{timetable_of}
 use Rattle.tt_solution.specs.Text.{published_text}
 use Rattle.tt_enrol.specs.Enrolled.{AllEnrolled, enrolled, all_enrolled}
+use Rattle.tt_improve.specs.Rounds.{Improvement, improved}
 use Rattle.tt_search.specs.Recalled.{recalled}
 use Rattle.tt_search.specs.Searched.{searched, repaired}
-use Rattle.tt_explain.specs.Names.{class_id}
+use Rattle.tt_suggest.specs.declared.suggestion.Move.{Move}
+use Rattle.tt_suggest.specs.declared.suggestion.Suggestion.{Suggestion}
+use Rattle.tt_suggest.specs.declared.suggestion.Suggested.{Suggested}
+use Rattle.tt_suggest.specs.Suggestions.{suggested}
+use Rattle.tt_suggest.specs.Tree.{root_of, tries_of}
+use Rattle.tt_explain.specs.Names.{value_text}
 use Rattle.tt_explain.specs.Explain.{explain_lines}
 use Rattle.tt_explain.specs.Why.{why_lines}
 use Rattle.tt_explain.specs.Stats.{stats_lines}
 use Rattle.tt_script.specs.declared.command.Command.{Command}
-use Rattle.tt_script.specs.declared.command.Command.TheVariants.{Assign, Unassign, Force, Section, Drop, Enrol, EnrolAll, Search, Repair, Recall, Undo, Publish, Totals, Explain, Why, Stats, Quit}
+use Rattle.tt_script.specs.declared.command.Command.TheVariants.{Assign, Unassign, Force, Section, Drop, Enrol, EnrolAll, Search, Repair, Improve, Recall, Close, Reopen, Undo, Publish, Totals, Explain, Why, Stats, Suggest, Quit}
 use Rattle.tt_text.specs.Fields.{field}
 use Rattle.tt_desk.specs.declared.refusal.Refusal.{Refusal}
-use Rattle.tt_desk.specs.declared.refusal.Refusal.TheVariants.{BadLine, NoSuchClass, NoSuchStudent, NoSuchTime, RoomNotListed, NotPlaced, Blocked, NoEnrolment, NoSeat, NotSectioned, NothingToUndo, NotReady, NothingPublished}
+use Rattle.tt_desk.specs.declared.refusal.Refusal.TheVariants.{BadLine, NoSuchClass, NoSuchStudent, NoSuchTime, RoomNotListed, NoSuchRoom, NotPlaced, Blocked, NoEnrolment, NoSeat, NotSectioned, NothingToUndo, NotReady, NothingPublished, BadTime, NothingClosed, TooManyTries, TooManyClosures}
 use Rattle.tt_desk.specs.declared.refusal.Outcome.{Outcome}
 use Rattle.tt_desk.specs.declared.refusal.Outcome.TheVariants.{Skipped, Accepted, Refused, Ended}
 use Rattle.tt_desk.specs.declared.script.Line.{Line}
@@ -64,6 +76,27 @@ known_classes p (id ∷ ids) = do
   place ← known_class p id
   places ← known_classes p ids
   Ok (place ∷ places)
+
+-- the place of the room with this id
+abbrev pub known_room : Parts → ℕ → Result ℕ Refusal
+known_room p id = ok_or (room_of p id) NoSuchRoom
+
+-- the time that two words and two numbers of slots write, within the days and weeks of the problem
+abbrev pub written_time : Parts → BitWord → (start length : ℕ) → BitWord → Option Time
+written_time p days start length weeks =
+    option_and_then (λ d. option_and_then (λ w. time_of d w start length) (weeks_word weeks p.nr_weeks)) (days_word days p.nr_days)
+
+-- the same, or its refusal
+abbrev pub known_time : Parts → BitWord → (start length : ℕ) → BitWord → Result Time Refusal
+known_time p days start length weeks = ok_or (written_time p days start length weeks) BadTime
+
+-- there are fewer closures than there may be
+abbrev pub may_close : Snapshot → Result (Unit {0}) Refusal
+may_close s = if length s.closures == 10000 then Err TooManyClosures else Ok tt
+
+-- some closure of the room isn't lifted
+abbrev pub may_reopen : Snapshot → ℕ → Result (Unit {0}) Refusal
+may_reopen s room = if list_any (is_open_in room) s.closures then Ok tt else Err NothingClosed
 
 -- why there is no such value
 abbrev pub value_refusal : NoValue → Refusal
@@ -106,11 +139,15 @@ not_ready t = NotReady t.unplaced t.unsectioned t.hard
 
 -- the present snapshot, in which all classes are placed, all students are sectioned, and nothing is in conflict
 abbrev pub ready : Desk → Result Snapshot Refusal
-ready d = if is_ready d.problem d.present then Ok d.present else Err (not_ready (totals_of d.problem d.present.plan d.present.lists))
+ready d = if is_ready d.problem d.present then Ok d.present else Err (not_ready (totals_of d.problem d.present.closures d.present.plan d.present.lists))
 
 -- the timetable that is published
 abbrev pub published : Session → Result Timetable Refusal
 published s = ok_or s.published NothingPublished
+
+-- there are at most 1,000,000 values to try
+abbrev pub few_tries : ℕ → Result (Unit {0}) Refusal
+few_tries tries = if nat_le tries 1000000 then Ok tt else Err TooManyTries
 
 -- ---- what accepted commands leave
 
@@ -143,10 +180,42 @@ with_search s (end, turns) = with_step s end (field (codes "turns ") turns ++ co
 abbrev pub with_all_enrolled : Session → AllEnrolled → Answer
 with_all_enrolled s all = with_step s all.snapshot (field (codes "enrolled ") all.enrolled ++ field (codes " left ") all.left ++ codes "\n")
 
--- a line for each class that is taken out, by its id
+-- one more step leads to where the rounds of improvement ended, with how many were made and how many changed something
+abbrev pub with_improvement : Session → Improvement → Answer
+with_improvement s i = with_step s i.snapshot (field (codes "rounds ") i.rounds ++ field (codes " changed ") i.changed ++ codes "\n")
+
+-- `out D`: a class that is taken out
+abbrev pub taken_line : Parts → ℕ → List ℕ
+taken_line p class = field (codes "out ") (class_id p class) ++ codes "\n"
+
+-- a line for each class that is taken out
 abbrev pub taken_lines : Parts → List ℕ → List ℕ
-taken_lines p [] = []
-taken_lines p (class ∷ classes) = field (codes "out ") (class_id p class) ++ codes "\n" ++ taken_lines p classes
+taken_lines p classes = flat_map (taken_line p) classes
+
+-- `set D T R`: a placement
+abbrev pub set_line : Parts → Move → List ℕ
+set_line p m = field (codes "set ") (class_id p m.class) ++ codes " " ++ value_text p m.class m.value ++ codes "\n"
+
+-- the end of a line: how many published classes moved, or '-' while nothing is published
+abbrev pub moved_text : Option ℕ → List ℕ
+moved_text moved = codes " moved " ++ option_map_or decimal moved (codes "-") ++ codes "\n"
+
+-- how many published classes are moved with a suggestion, while there is a published timetable
+abbrev pub moved_then : Option Timetable → Suggestion → Option ℕ
+moved_then published x = option_map (λ t. x.moved) published
+
+-- `result total E moved M`: what a suggestion comes to
+abbrev pub result_line : Option Timetable → Suggestion → List ℕ
+result_line published x = field (codes "result total ") x.total ++ moved_text (moved_then published x)
+
+-- a line for each placement of the best suggestion and what it comes to, or `none`
+abbrev pub best_lines : Parts → Option Timetable → Option Suggestion → List ℕ
+best_lines p published None = codes "none\n"
+best_lines p published (Some x) = flat_map (set_line p) x.moves ++ result_line published x
+
+-- `tried K`: how many values were tried, and the best suggestion
+unfoldable pub suggested_lines : Parts → Option Timetable → Suggested → List ℕ
+suggested_lines p published found = field (codes "tried ") found.tried ++ codes "\n" ++ best_lines p published found.best
 
 -- ---- the commands
 
@@ -163,7 +232,7 @@ carried_out s (Unassign class) = do
 carried_out s (Force class time room) = do
   c ← known_class s.desk.problem class
   v ← known_value s.desk.problem c time room
-  free ← none_or Blocked (blocked_of s.desk.problem c v)
+  free ← none_or Blocked (blocked_of s.desk.problem s.desk.present.closures c v)
   Ok (with_step s (forced s.desk.problem s.desk.present c v) (taken_lines s.desk.problem (conflicts_of s.desk.problem s.desk.present c v)))
 carried_out s (Section student classes) = do
   list ← known_classes s.desk.problem classes
@@ -184,9 +253,19 @@ carried_out s (Search turns seed) = Ok (with_search s (searched s.desk.problem t
 carried_out s (Repair turns seed) = do
   t ← published s
   Ok (with_search s (repaired s.desk.problem t turns seed s.desk.present))
+carried_out s (Improve rounds seed) = Ok (with_improvement s (improved s.desk.problem rounds seed s.desk.present))
 carried_out s Recall = do
   t ← published s
   Ok (with_step s (recalled s.desk.problem t s.desk.present) [])
+carried_out s (Close room days start length weeks) = do
+  r ← known_room s.desk.problem room
+  t ← known_time s.desk.problem days start length weeks
+  few ← may_close s.desk.present
+  Ok (with_step s (with_closed s.desk.present r t) [])
+carried_out s (Reopen room) = do
+  r ← known_room s.desk.problem room
+  some ← may_reopen s.desk.present r
+  Ok (with_step s (with_reopened s.desk.present r) [])
 carried_out s Undo = do
   d ← undone s.desk.problem s.desk.earlier
   Ok (with_desk s d [])
@@ -204,6 +283,10 @@ carried_out s (Why class time room) = do
 carried_out s (Stats class) = do
   c ← known_class s.desk.problem class
   Ok (same s (stats_lines s.desk.problem s.desk.present c))
+carried_out s (Suggest class depth) = do
+  c ← known_class s.desk.problem class
+  few ← few_tries (tries_of s.desk.problem depth (root_of s.desk.present c))
+  Ok (same s (suggested_lines s.desk.problem s.published (suggested s.desk.problem s.published depth s.desk.present c)))
 carried_out s Quit = Ok (same s [])
 
 -- what a line leaves, what became of it, and the command's own lines

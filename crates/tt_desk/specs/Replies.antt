@@ -1,7 +1,6 @@
 -- The replies to the lines of a script.
-use Rattle.std.specs.Prelude.{ℕ, ⊤, Bool, true, false, List, [], ◌∷◌, ◌++◌, map, if◌then◌else◌, Option, option_map, codes, decimal}
+use Rattle.std.specs.Prelude.{ℕ, ⊤, Bool, true, false, List, [], ◌∷◌, ◌++◌, map, if◌then◌else◌, Option, option_map, codes}
 use Rattle.std.specs.List.{list_any}
-use Rattle.std.specs.Option.{option_map_or}
 use Rattle.tt_score.specs.declared.totals.Totals.{Totals}
 use Rattle.tt_score.specs.Totals.{totals_of}
 use Rattle.tt_solution.specs.Published.{moved_of}
@@ -9,7 +8,7 @@ use Rattle.tt_text.specs.Fields.{field}
 use Rattle.tt_desk.specs.declared.refusal.Outcome.{Outcome}
 use Rattle.tt_desk.specs.declared.refusal.Outcome.TheVariants.{Skipped, Accepted, Refused, Ended}
 use Rattle.tt_desk.specs.Refusals.{refusal_line}
-use Rattle.tt_desk.specs.Desk.{Session, Step, line_step}
+use Rattle.tt_desk.specs.Desk.{Session, Step, line_step, moved_text}
 
 -- the sums and their weighted total
 abbrev pub sums_text : Totals → List ℕ
@@ -27,13 +26,13 @@ counts_text t =
     ++ field (codes " unplaced ") t.unplaced
     ++ field (codes " unsectioned ") t.unsectioned
 
--- the line of totals, with how many published classes moved, or '-' while nothing is published
+-- the line of totals, with how many published classes moved
 abbrev pub totals_line : Totals → Option ℕ → List ℕ
-totals_line t moved = sums_text t ++ counts_text t ++ codes " moved " ++ option_map_or decimal moved (codes "-") ++ codes "\n"
+totals_line t moved = sums_text t ++ counts_text t ++ moved_text moved
 
 -- the totals of the present snapshot
 unfoldable pub present_totals : Session → Totals
-present_totals s = totals_of s.desk.problem s.desk.present.plan s.desk.present.lists
+present_totals s = totals_of s.desk.problem s.desk.present.closures s.desk.present.plan s.desk.present.lists
 
 -- how many published classes moved in the present snapshot
 unfoldable pub present_moved : Session → Option ℕ

@@ -1,15 +1,16 @@
 //! The commands by which the office changes one class or one student, and `undo`.
 
 ghost use Rattle.std.specs.Prelude.{◌≡◌, ◌<◌, [], All, Ok, Err, IfOk, IfSome, MatchOption, OnErr, length};
-ghost use Rattle.tt_desk.specs.Desk.{command_step, known_classes, value_refusal};
+ghost use Rattle.tt_desk.specs.Desk.{command_step, known_classes, value_refusal, written_time};
+ghost use Rattle.tt_problem.specs.Valid.{IsTimeOf};
 ghost use Rattle.tt_desk.specs.Causes.{MayTake, block_of};
 
 use crate::refusal::{Outcome, Refusal};
 use crate::reply::add_taken;
 use crate::session::Session;
 use std::alloc::AllocError;
+use tt_bits::{BitWord, Days, Time, Weeks};
 use tt_clash::Block;
-use tt_explain::class_id;
 use tt_plan::{NoValue, find};
 use tt_problem::Problem;
 use tt_script::{Command, Ids};
@@ -46,6 +47,22 @@ fn block_of(refusal: StateRefusal) -> Option<Block>
         StateRefusal::Blocked { reason } => Some(reason),
         _ => None,
     }
+}
+
+// The time that two words and two numbers of slots write, within the days and weeks of the problem.
+fn written_time(
+    problem: &Problem,
+    days: BitWord,
+    start: u16,
+    length: u16,
+    weeks: BitWord,
+) -> Option<Time>
+    ensures time { result ≡ written_time problem.now days start length weeks }
+    ensures within { IfSome result (IsTimeOf problem.now.nr_days problem.now.nr_weeks) }
+{
+    let days = Days::of_word(days, problem.nr_days())?;
+    let weeks = Weeks::of_word(weeks, problem.nr_weeks())?;
+    Time::new(days, weeks, start, length)
 }
 
 impl Session {
@@ -101,7 +118,7 @@ impl Session {
             Ok(()) => Ok(Outcome::Accepted),
             Err(StateRefusal::Memory) => Err(AllocError),
             Err(StateRefusal::NoSeat { class }) => Ok(Outcome::Refused(Refusal::NoSeat {
-                class: class_id(self.state.problem(), class),
+                class: self.state.problem().class_id(class),
             })),
             Err(_) => Ok(Outcome::Refused(Refusal::NoEnrolment)),
         }
@@ -119,6 +136,46 @@ impl Session {
             Ok(()) => Ok(Outcome::Accepted),
             Err(StateRefusal::Memory) => Err(AllocError),
             Err(_) => Ok(Outcome::Refused(Refusal::NotSectioned)),
+        }
+    }
+
+    /// Closes a room, by its id, at the time that two words and two numbers of slots write.
+    pub(crate) fn close(
+        &mut self,
+        room: u32,
+        days: BitWord,
+        start: u16,
+        length: u16,
+        weeks: BitWord,
+    ) -> Result<Outcome, AllocError>
+        ensures ok { IfOk result (λ outcome. command_step self.old (Command.Close room days start length weeks) ≡ record { session = self.new; outcome = outcome; lines = [] }) }
+        ensures memory { OnErr result (MayTake self.old (Command.Close room days start length weeks)) }
+    {
+        let Some(room) = self.state.problem().room_of(room) else {
+            return Ok(Outcome::Refused(Refusal::NoSuchRoom));
+        };
+        let Some(time) = written_time(self.state.problem(), days, start, length, weeks) else {
+            return Ok(Outcome::Refused(Refusal::BadTime));
+        };
+        match self.state.close(room, time) {
+            Ok(()) => Ok(Outcome::Accepted),
+            Err(StateRefusal::Memory) => Err(AllocError),
+            Err(_) => Ok(Outcome::Refused(Refusal::TooManyClosures)),
+        }
+    }
+
+    /// Lifts all closures of a room, by its id.
+    pub(crate) fn reopen(&mut self, room: u32) -> Result<Outcome, AllocError>
+        ensures ok { IfOk result (λ outcome. command_step self.old (Command.Reopen room) ≡ record { session = self.new; outcome = outcome; lines = [] }) }
+        ensures memory { OnErr result (MayTake self.old (Command.Reopen room)) }
+    {
+        let Some(room) = self.state.problem().room_of(room) else {
+            return Ok(Outcome::Refused(Refusal::NoSuchRoom));
+        };
+        match self.state.reopen(room) {
+            Ok(()) => Ok(Outcome::Accepted),
+            Err(StateRefusal::Memory) => Err(AllocError),
+            Err(_) => Ok(Outcome::Refused(Refusal::NothingClosed)),
         }
     }
 

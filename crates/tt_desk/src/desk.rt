@@ -1,4 +1,5 @@
 ghost use Rattle.std.specs.Prelude.{◌≡◌, ◌<◌, [], IfOk, OnErr, length};
+ghost use Rattle.tt_script.specs.Forms.{HasDepth};
 ghost use Rattle.tt_desk.specs.Desk.{command_step, line_step};
 ghost use Rattle.tt_desk.specs.Replies.{reply_of};
 ghost use Rattle.tt_desk.specs.Causes.{IsMemoryCause, MayTake};
@@ -18,7 +19,8 @@ impl Session {
         command: Command,
         reply: &mut Reply,
     ) -> Result<Outcome, AllocError>
-        requires { reply.old ≡ [] }
+        requires empty { reply.old ≡ [] }
+        requires depth { HasDepth command }
         ensures ok { IfOk result (λ outcome. command_step self.old command ≡ record { session = self.new; outcome = outcome; lines = reply.new }) }
         ensures memory { OnErr result (MayTake self.old command) }
     {
@@ -32,13 +34,23 @@ impl Session {
             Command::EnrolAll => self.enrol_all(alloc, reply),
             Command::Search { turns, seed } => self.search(alloc, turns, seed, reply),
             Command::Repair { turns, seed } => self.repair(alloc, turns, seed, reply),
+            Command::Improve { rounds, seed } => self.improve(alloc, rounds, seed, reply),
             Command::Recall => self.recall(),
+            Command::Close {
+                room,
+                days,
+                start,
+                length,
+                weeks,
+            } => self.close(room, days, start, length, weeks),
+            Command::Reopen { room } => self.reopen(room),
             Command::Undo => Ok(self.undo()),
             Command::Publish => self.publish(alloc, reply),
             Command::Totals => Ok(Outcome::Accepted),
             Command::Explain { class } => self.explain(class, reply),
             Command::Why { class, time, room } => self.why(class, time, room, reply),
             Command::Stats { class } => self.stats(class, reply),
+            Command::Suggest { class, depth } => self.suggest(alloc, class, depth, reply),
             Command::Quit => Ok(Outcome::Ended),
         }
     }

@@ -13,6 +13,8 @@ pub enum Refusal {
     NoSuchTime,
     /// The class has rooms and the room is none of them, or it needs none and a room is named.
     RoomNotListed,
+    /// No room has the id.
+    NoSuchRoom,
     /// The class has no value.
     NotPlaced,
     /// The value is blocked.
@@ -37,6 +39,15 @@ pub enum Refusal {
     },
     /// No timetable is published.
     NothingPublished,
+    /// The words of days or weeks have another number of characters than the problem has days or
+    /// weeks, or no 1; or the length is 0, or the end is above 65,535.
+    BadTime,
+    /// The room has no closure of the session that isn't lifted.
+    NothingClosed,
+    /// There are more than 1,000,000 values to try.
+    TooManyTries,
+    /// There are 10,000 closures, lifted ones among them.
+    TooManyClosures,
 }
 
 /// What became of a line.

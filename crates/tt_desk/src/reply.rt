@@ -1,16 +1,19 @@
 ghost use Rattle.std.specs.Prelude.{◌≡◌, ◌<◌, ◌++◌, [], OnOk, OnErr, codes, decimal, length};
-ghost use Rattle.std.specs.Option.{option_map_or};
+ghost use Rattle.std.specs.List.{flat_map};
+ghost use Rattle.std.specs.Option.{option_copied, option_map_or};
 ghost use Rattle.tt_text.specs.Fields.{field};
-ghost use Rattle.tt_desk.specs.Desk.{taken_lines};
+ghost use Rattle.tt_desk.specs.Desk.{best_lines, moved_text, moved_then, result_line, set_line, suggested_lines, taken_line, taken_lines};
 ghost use Rattle.tt_desk.specs.Refusals.{refusal_text, refusal_line};
 ghost use Rattle.tt_desk.specs.Replies.{HasReply, counts_text, reply_to, sums_text, totals_line};
 
 use crate::refusal::{Outcome, Refusal};
 use crate::session::Session;
 use std::alloc::AllocError;
-use tt_explain::{add_block, class_id};
+use tt_explain::{add_block, add_value};
 use tt_problem::Problem;
 use tt_score::Totals;
+use tt_solution::Published;
+use tt_suggest::{Move, Suggested, Suggestion};
 use tt_text::Reply;
 
 // Appends a number, or a dash where there is none.
@@ -43,9 +46,9 @@ fn add_counts(reply: &mut Reply, totals: &Totals) -> Result<(), AllocError>
     reply.field(" unsectioned ", u128::from(totals.unsectioned))
 }
 
-// Appends the end of a line of totals: how many published classes moved.
+// Appends the end of a line: how many published classes moved.
 fn add_moved(reply: &mut Reply, moved: Option<u32>) -> Result<(), AllocError>
-    ensures { OnOk result (reply.new ≡ reply.old ++ codes " moved " ++ option_map_or decimal moved (codes "-") ++ codes "\n") }
+    ensures { OnOk result (reply.new ≡ reply.old ++ moved_text moved) }
 {
     reply.text(" moved ")?;
     add_number_or_dash(reply, moved)?;
@@ -86,6 +89,7 @@ fn add_refusal(reply: &mut Reply, refusal: Refusal) -> Result<(), AllocError>
         Refusal::NoSuchStudent => reply.text("12 no such student"),
         Refusal::NoSuchTime => reply.text("13 no such time"),
         Refusal::RoomNotListed => reply.text("14 room not in the list"),
+        Refusal::NoSuchRoom => reply.text("15 no such room"),
         Refusal::NotPlaced => reply.text("16 not placed"),
         Refusal::Blocked { reason } => {
             reply.text("17 ")?;
@@ -101,6 +105,10 @@ fn add_refusal(reply: &mut Reply, refusal: Refusal) -> Result<(), AllocError>
             hard,
         } => add_not_ready(reply, unplaced, unsectioned, hard),
         Refusal::NothingPublished => reply.text("23 nothing published"),
+        Refusal::BadTime => reply.text("24 bad time"),
+        Refusal::NothingClosed => reply.text("25 nothing closed"),
+        Refusal::TooManyTries => reply.text("26 too many tries"),
+        Refusal::TooManyClosures => reply.text("27 too many closures"),
     }
 }
 
@@ -114,6 +122,15 @@ fn put_refusal(reply: &mut Reply, refusal: Refusal) -> Result<(), AllocError>
     reply.text("\n")
 }
 
+// Appends a line for a class that was taken out.
+#[tactic(auto, using(std::proofs::Common::append_assoc))]
+fn add_taken_line(reply: &mut Reply, problem: &Problem, class: u32) -> Result<(), AllocError>
+    ensures { OnOk result (reply.new ≡ reply.old ++ taken_line problem.now class) }
+{
+    reply.field("out ", u128::from(problem.class_id(class)))?;
+    reply.text("\n")
+}
+
 /// Appends a line for each class that was taken out.
 pub(crate) fn add_taken(
     reply: &mut Reply,
@@ -123,10 +140,87 @@ pub(crate) fn add_taken(
     ensures { OnOk result (reply.new ≡ reply.old ++ taken_lines problem.now classes.now) }
 {
     for class in classes {
-        reply.field("out ", u128::from(class_id(problem, *class)))?;
-        reply.text("\n")?;
+        add_taken_line(reply, problem, *class)?;
     }
     Ok(())
+}
+
+// Appends a line for a placement.
+#[tactic(auto, using(std::proofs::Common::append_assoc))]
+fn add_set(reply: &mut Reply, problem: &Problem, step: &Move) -> Result<(), AllocError>
+    ensures { OnOk result (reply.new ≡ reply.old ++ set_line problem.now step.now) }
+{
+    reply.field("set ", u128::from(problem.class_id(step.class)))?;
+    reply.text(" ")?;
+    add_value(reply, problem, step.class, step.value)?;
+    reply.text("\n")
+}
+
+// Appends a line for each of some placements.
+fn add_sets(reply: &mut Reply, problem: &Problem, moves: &[Move]) -> Result<(), AllocError>
+    ensures { OnOk result (reply.new ≡ reply.old ++ flat_map (set_line problem.now) moves.now) }
+{
+    for step in moves {
+        add_set(reply, problem, step)?;
+    }
+    Ok(())
+}
+
+// How many published classes are moved with a suggestion, while there is a published timetable.
+fn moved_then(published: Option<&Published>, suggestion: &Suggestion) -> Option<u32>
+    ensures { result ≡ moved_then (option_copied published.entry) suggestion.now }
+{
+    match published {
+        None => None,
+        Some(_) => Some(suggestion.moved),
+    }
+}
+
+// Appends the line on what a suggestion comes to.
+fn add_result(
+    reply: &mut Reply,
+    published: Option<&Published>,
+    suggestion: &Suggestion,
+) -> Result<(), AllocError>
+    ensures { OnOk result (reply.new ≡ reply.old ++ result_line (option_copied published.entry) suggestion.now) }
+{
+    let moved = moved_then(published, suggestion);
+    reply.field("result total ", suggestion.total)?;
+    add_moved(reply, moved)
+}
+
+// Appends a line for each placement of the best suggestion and what it comes to, or `none`.
+#[tactic(auto, using(std::proofs::Common::append_assoc))]
+fn add_best(
+    reply: &mut Reply,
+    problem: &Problem,
+    published: Option<&Published>,
+    best: &Option<Suggestion>,
+) -> Result<(), AllocError>
+    ensures { OnOk result (reply.new ≡ reply.old ++ best_lines problem.now (option_copied published.entry) best.now) }
+{
+    match best {
+        None => reply.text("none\n"),
+        Some(suggestion) => {
+            add_sets(reply, problem, suggestion.moves.as_slice())?;
+            add_result(reply, published, suggestion)
+        }
+    }
+}
+
+/// Appends how many values were tried, and the best suggestion.
+#[tactic(auto, using(std::proofs::Common::append_assoc), unfolding(crate::specs::Desk::suggested_lines))]
+pub(crate) fn add_suggested(
+    reply: &mut Reply,
+    problem: &Problem,
+    published: Option<&Published>,
+    found: &Suggested,
+) -> Result<(), AllocError>
+    ensures { OnOk result (reply.new ≡ reply.old ++ suggested_lines problem.now (option_copied published.entry) found.now) }
+{
+    reply.field("tried ", u128::from(found.tried))?;
+    reply.text("\n")?;
+    add_best(reply, problem, published, &found.best)
 }
 
 impl Session {

@@ -1,11 +1,13 @@
 -- The forms of a line, and the command of each.
-use Rattle.std.specs.Prelude.{ℕ, IsTrue, IsSome, List, [], ◌∷◌, Option, None, Some, option_map, if◌then◌else◌, codes, bytes_eq}
+use Rattle.std.specs.Prelude.{ℕ, ◌≤◌, ⊤, IsTrue, IsSome, List, [], ◌∷◌, Option, None, Some, option_map, if◌then◌else◌, codes, bytes_eq}
 use Rattle.std.specs.Option.{option_zip}
 use Rattle.tt_text.specs.Decimal.{decimal_of, at_most}
 use Rattle.tt_script.specs.declared.command.Command.{Command}
-use Rattle.tt_script.specs.declared.command.Command.TheVariants.{Assign, Unassign, Force, Section, Drop, Enrol, EnrolAll, Search, Repair, Recall, Undo, Publish, Totals, Explain, Why, Stats, Quit}
+use Rattle.tt_script.specs.declared.command.Command.TheVariants.{Assign, Unassign, Force, Section, Drop, Enrol, EnrolAll, Search, Repair, Improve, Recall, Close, Reopen, Undo, Publish, Totals, Explain, Why, Stats, Suggest, Quit}
 use Rattle.tt_script.specs.declared.reading.Choice.{Choice}
 use Rattle.tt_script.specs.declared.reading.Turns.{Turns}
+use Rattle.tt_script.specs.declared.reading.Closing.{Closing}
+use Rattle.tt_bits.specs.Words.{bit_word}
 
 -- ---- words
 
@@ -30,6 +32,10 @@ count_of word = at_most 1000000 (decimal_of word)
 abbrev pub seed_of : List ℕ → Option ℕ
 seed_of word = at_most 18446744073709551615 (decimal_of word)
 
+-- a number of slots: up to 65,535
+abbrev pub slot_of : List ℕ → Option ℕ
+slot_of word = at_most 65535 (decimal_of word)
+
 -- ---- what follows the word of a command
 
 -- `C T R`: a class, the number of a time, and a room
@@ -42,10 +48,30 @@ abbrev pub turns_of : List (List ℕ) → Option Turns
 turns_of (count ∷ seed ∷ []) = option_map (λ t. record { count = t.0; seed = t.1 }) (option_zip (count_of count) (seed_of seed))
 turns_of words = None
 
--- `C` or `S`: one id
+-- `ROOM DAYS START LENGTH WEEKS`: a room, and when it is closed
+abbrev pub closing_of : List (List ℕ) → Option Closing
+closing_of (room ∷ days ∷ start ∷ length ∷ weeks ∷ []) =
+    option_map (λ c. record { room = c.0; days = c.1.0; start = c.1.1.0; length = c.1.1.1.0; weeks = c.1.1.1.1 })
+    (option_zip (id_of room) (option_zip (bit_word days) (option_zip (slot_of start) (option_zip (slot_of length) (bit_word weeks)))))
+closing_of words = None
+
+-- `C`, `S` or `ROOM`: one id
 abbrev pub lone_id : List (List ℕ) → Option ℕ
 lone_id (word ∷ []) = id_of word
 lone_id words = None
+
+-- a depth: 1, 2 or 3
+abbrev pub depth_of : List ℕ → Option ℕ
+depth_of word =
+    if bytes_eq word (codes "1") then Some 1
+    else if bytes_eq word (codes "2") then Some 2
+    else if bytes_eq word (codes "3") then Some 3
+    else None
+
+-- `C DEPTH`: a class, and a depth
+abbrev pub suggest_of : List (List ℕ) → Option Command
+suggest_of (class ∷ depth ∷ []) = option_map (λ s. Suggest s.0 s.1) (option_zip (id_of class) (depth_of depth))
+suggest_of words = None
 
 -- `all`, or `S`: one id
 abbrev pub enrol_of : List (List ℕ) → Option Command
@@ -64,6 +90,19 @@ alone command (word ∷ words) = None
 
 -- ---- the table of commands
 
+-- the command that goes back, publishes, asks or ends, by its first word and those after it
+abbrev pub other_command : List ℕ → List (List ℕ) → Option Command
+other_command word words =
+    if bytes_eq word (codes "undo") then alone Undo words
+    else if bytes_eq word (codes "publish") then alone Publish words
+    else if bytes_eq word (codes "totals") then alone Totals words
+    else if bytes_eq word (codes "explain") then option_map Explain (lone_id words)
+    else if bytes_eq word (codes "why") then option_map (λ v. Why v.class v.time v.room) (choice_of words)
+    else if bytes_eq word (codes "stats") then option_map Stats (lone_id words)
+    else if bytes_eq word (codes "suggest") then suggest_of words
+    else if bytes_eq word (codes "quit") then alone Quit words
+    else None
+
 -- the command that the words of a line are, if they are in one of these forms
 abbrev pub command_of : List (List ℕ) → Option Command
 command_of [] = None
@@ -76,17 +115,24 @@ command_of (word ∷ words) =
     else if bytes_eq word (codes "enrol") then enrol_of words
     else if bytes_eq word (codes "search") then option_map (λ t. Search t.count t.seed) (turns_of words)
     else if bytes_eq word (codes "repair") then option_map (λ t. Repair t.count t.seed) (turns_of words)
+    else if bytes_eq word (codes "improve") then option_map (λ t. Improve t.count t.seed) (turns_of words)
     else if bytes_eq word (codes "recall") then alone Recall words
-    else if bytes_eq word (codes "undo") then alone Undo words
-    else if bytes_eq word (codes "publish") then alone Publish words
-    else if bytes_eq word (codes "totals") then alone Totals words
-    else if bytes_eq word (codes "explain") then option_map Explain (lone_id words)
-    else if bytes_eq word (codes "why") then option_map (λ v. Why v.class v.time v.room) (choice_of words)
-    else if bytes_eq word (codes "stats") then option_map Stats (lone_id words)
-    else if bytes_eq word (codes "quit") then alone Quit words
-    else None
+    else if bytes_eq word (codes "close") then option_map (λ c. Close c.room c.days c.start c.length c.weeks) (closing_of words)
+    else if bytes_eq word (codes "reopen") then option_map Reopen (lone_id words)
+    else other_command word words
 
 -- The first word is `section`, and the others are in its form.
 abbrev pub IsSectionLine : List (List ℕ) → Type 0
 IsSectionLine [] = ⊥
 IsSectionLine (word ∷ words) = IsTrue (bytes_eq word (codes "section")) × IsSome (section_of words)
+
+-- ---- what a command that was read holds
+
+-- a depth is 1, 2 or 3
+pub record IsDepth (depth : ℕ) : Type 0 where
+  pub some : 1 ≤ depth
+  pub few : depth ≤ 3
+
+abbrev pub HasDepth : Command → Type 0
+HasDepth (Suggest class depth) = IsDepth depth
+HasDepth _ = ⊤

@@ -1,5 +1,6 @@
 use thiserror::Error;
 use tt_base::Row;
+use tt_bits::BitWord;
 
 /// Ids in the order of a line: contracts see the list of their numbers.
 pub type Ids = Row<u32>;
@@ -48,8 +49,25 @@ pub enum Command {
         turns: u32,
         seed: u64,
     },
+    /// Improve the timetable by at most 1,000,000 rounds on one class or one course of a student each.
+    Improve {
+        rounds: u32,
+        seed: u64,
+    },
     /// Go back to the published timetable.
     Recall,
+    /// Close the room on these days in these weeks, from the slot `start` for `length` slots.
+    Close {
+        room: u32,
+        days: BitWord,
+        start: u16,
+        length: u16,
+        weeks: BitWord,
+    },
+    /// Lift all closures of the room.
+    Reopen {
+        room: u32,
+    },
     /// Go back by one step.
     Undo,
     /// Publish the timetable.
@@ -69,6 +87,11 @@ pub enum Command {
     /// Say how often the class took out others.
     Stats {
         class: u32,
+    },
+    /// Say how the class is best placed or moved by at most so many placements, 1 to 3.
+    Suggest {
+        class: u32,
+        depth: u8,
     },
     /// End the script.
     Quit,

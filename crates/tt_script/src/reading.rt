@@ -1,9 +1,10 @@
-ghost use Rattle.std.specs.Prelude.{◌≡◌, ◌↔◌, ◌∷◌, [], Some, None, IfOk, IsSome, is_some, codes, bytes_eq, false, option_map};
-ghost use Rattle.tt_script.specs.Forms.{IsSectionLine, id_of, ids_of, room_of, count_of, seed_of, choice_of, turns_of, lone_id, enrol_of, section_of, alone, command_of};
+ghost use Rattle.std.specs.Prelude.{◌≡◌, ◌↔◌, ◌∷◌, [], Some, None, IfOk, IfSome, IsSome, is_some, codes, bytes_eq, false, option_map};
+ghost use Rattle.tt_script.specs.Forms.{HasDepth, IsDepth, IsSectionLine, id_of, ids_of, room_of, count_of, seed_of, slot_of, choice_of, turns_of, closing_of, lone_id, depth_of, suggest_of, enrol_of, section_of, alone, other_command, command_of};
 ghost use Rattle.tt_text.specs.Line.{words_of};
 
 use crate::command::{Command, Ids, LineFault};
 use std::alloc::Global;
+use tt_bits::BitWord;
 use tt_text::{Words, read_decimal};
 
 // The most turns of a command.
@@ -22,6 +23,16 @@ pub struct Choice {
 pub struct Turns {
     count: u32,
     seed: u64,
+}
+
+/// The words `ROOM DAYS START LENGTH WEEKS`: a room, and when it is closed.
+#[derive(Clone, Copy)]
+pub struct Closing {
+    room: u32,
+    days: BitWord,
+    start: u16,
+    length: u16,
+    weeks: BitWord,
 }
 
 // The id, or the number of a time, that a word is.
@@ -62,6 +73,16 @@ pub fn read_seed(word: &[u8]) -> Option<u64>
     ensures { result ≡ seed_of word.now }
 {
     read_decimal(word, u64::MAX)
+}
+
+// The number of slots that a word is: a decimal number up to 65,535.
+fn read_slots(word: &[u8]) -> Option<u16>
+    ensures { result ≡ slot_of word.now }
+{
+    match read_decimal(word, 65_535) {
+        Some(slots) => Some(slots as u16),
+        None => None,
+    }
 }
 
 // The choice that three words are.
@@ -105,6 +126,38 @@ fn only_turns(mut words: Words<'_>) -> Option<Turns>
     }
 }
 
+// The room and the time that five words are.
+fn read_closing(
+    room: &[u8],
+    days: &[u8],
+    start: &[u8],
+    length: &[u8],
+    weeks: &[u8],
+) -> Option<Closing>
+    ensures { result ≡ closing_of (room.now ∷ days.now ∷ start.now ∷ length.now ∷ weeks.now ∷ []) }
+{
+    Some(Closing {
+        room: read_id(room)?,
+        days: BitWord::read(days)?,
+        start: read_slots(start)?,
+        length: read_slots(length)?,
+        weeks: BitWord::read(weeks)?,
+    })
+}
+
+// The room and the time that the words still to come are.
+fn only_closing(mut words: Words<'_>) -> Option<Closing>
+    ensures { result ≡ closing_of words.entry }
+{
+    let (Some(room), Some(days), Some(start)) = (words.next(), words.next(), words.next()) else {
+        return None;
+    };
+    match (words.next(), words.next(), words.next()) {
+        (Some(length), Some(weeks), None) => read_closing(room, days, start, length, weeks),
+        _ => None,
+    }
+}
+
 // The one id that the words still to come are.
 fn only_id(mut words: Words<'_>) -> Option<u32>
     ensures { result ≡ lone_id words.entry }
@@ -113,6 +166,36 @@ fn only_id(mut words: Words<'_>) -> Option<u32>
         (Some(word), None) => read_id(word),
         _ => None,
     }
+}
+
+// The depth that a word is: `1`, `2` or `3`.
+fn read_depth(word: &[u8]) -> Option<u8>
+    ensures depth { result ≡ depth_of word.now }
+    ensures within { IfSome result IsDepth }
+{
+    if word == b"1".as_slice() {
+        Some(1)
+    } else if word == b"2".as_slice() {
+        Some(2)
+    } else if word == b"3".as_slice() {
+        Some(3)
+    } else {
+        None
+    }
+}
+
+// The command of a `suggest` line, by the words after its first one.
+fn read_suggest(mut words: Words<'_>) -> Option<Command>
+    ensures command { result ≡ suggest_of words.entry }
+    ensures depth { IfSome result HasDepth }
+{
+    let (Some(class), Some(depth), None) = (words.next(), words.next(), words.next()) else {
+        return None;
+    };
+    Some(Command::Suggest {
+        class: read_id(class)?,
+        depth: read_depth(depth)?,
+    })
 }
 
 // The command of an `enrol` line, by the words after its first one: for all students, or for one.
@@ -139,10 +222,40 @@ fn only_word(command: Command, mut words: Words<'_>) -> Option<Command>
     }
 }
 
+// The command that goes back, publishes, asks or ends, by its first word and those after it.
+fn read_other(word: &[u8], words: Words<'_>) -> Option<Command>
+    ensures command { result ≡ other_command word.now words.entry }
+    ensures depth { IfSome result HasDepth }
+{
+    if word == b"undo".as_slice() {
+        only_word(Command::Undo, words)
+    } else if word == b"publish".as_slice() {
+        only_word(Command::Publish, words)
+    } else if word == b"totals".as_slice() {
+        only_word(Command::Totals, words)
+    } else if word == b"explain".as_slice() {
+        let class = only_id(words)?;
+        Some(Command::Explain { class })
+    } else if word == b"why".as_slice() {
+        let Choice { class, time, room } = only_choice(words)?;
+        Some(Command::Why { class, time, room })
+    } else if word == b"stats".as_slice() {
+        let class = only_id(words)?;
+        Some(Command::Stats { class })
+    } else if word == b"suggest".as_slice() {
+        read_suggest(words)
+    } else if word == b"quit".as_slice() {
+        only_word(Command::Quit, words)
+    } else {
+        None
+    }
+}
+
 // The command of a line that isn't a `section` line, by its first word and those after it.
 fn read_short(word: &[u8], words: Words<'_>) -> Option<Command>
     requires { bytes_eq word.now (codes "section") ≡ false }
-    ensures { result ≡ command_of (word.now ∷ words.entry) }
+    ensures command { result ≡ command_of (word.now ∷ words.entry) }
+    ensures depth { IfSome result HasDepth }
 {
     if word == b"assign".as_slice() {
         let Choice { class, time, room } = only_choice(words)?;
@@ -164,27 +277,34 @@ fn read_short(word: &[u8], words: Words<'_>) -> Option<Command>
     } else if word == b"repair".as_slice() {
         let Turns { count: turns, seed } = only_turns(words)?;
         Some(Command::Repair { turns, seed })
+    } else if word == b"improve".as_slice() {
+        let Turns {
+            count: rounds,
+            seed,
+        } = only_turns(words)?;
+        Some(Command::Improve { rounds, seed })
     } else if word == b"recall".as_slice() {
         only_word(Command::Recall, words)
-    } else if word == b"undo".as_slice() {
-        only_word(Command::Undo, words)
-    } else if word == b"publish".as_slice() {
-        only_word(Command::Publish, words)
-    } else if word == b"totals".as_slice() {
-        only_word(Command::Totals, words)
-    } else if word == b"explain".as_slice() {
-        let class = only_id(words)?;
-        Some(Command::Explain { class })
-    } else if word == b"why".as_slice() {
-        let Choice { class, time, room } = only_choice(words)?;
-        Some(Command::Why { class, time, room })
-    } else if word == b"stats".as_slice() {
-        let class = only_id(words)?;
-        Some(Command::Stats { class })
-    } else if word == b"quit".as_slice() {
-        only_word(Command::Quit, words)
+    } else if word == b"close".as_slice() {
+        let Closing {
+            room,
+            days,
+            start,
+            length,
+            weeks,
+        } = only_closing(words)?;
+        Some(Command::Close {
+            room,
+            days,
+            start,
+            length,
+            weeks,
+        })
+    } else if word == b"reopen".as_slice() {
+        let room = only_id(words)?;
+        Some(Command::Reopen { room })
     } else {
-        None
+        read_other(word, words)
     }
 }
 
@@ -225,6 +345,7 @@ fn read_ids(alloc: Global, mut words: Words<'_>) -> Result<Ids, LineFault>
 // The command of a `section` line, by the words after its first one.
 fn read_section(alloc: Global, mut words: Words<'_>) -> Result<Command, LineFault>
     ensures ok { IfOk result (λ command. section_of words.entry ≡ Some command) }
+    ensures depth { IfOk result HasDepth }
     ensures bad { result ≡ Err LineFault.Bad → section_of words.entry ≡ None }
     ensures memory { result ≡ Err LineFault.Memory → IsSome (section_of words.entry) }
 {
@@ -241,6 +362,7 @@ fn read_section(alloc: Global, mut words: Words<'_>) -> Result<Command, LineFaul
 /// The command that a line asks for. Only that of a `section` line in its form takes memory.
 pub fn parse(alloc: Global, line: &[u8]) -> Result<Command, LineFault>
     ensures ok { IfOk result (λ command. command_of (words_of line.now) ≡ Some command) }
+    ensures depth { IfOk result HasDepth }
     ensures bad { result ≡ Err LineFault.Bad ↔ (command_of (words_of line.now) ≡ None) }
     ensures memory { result ≡ Err LineFault.Memory → IsSectionLine (words_of line.now) }
 {

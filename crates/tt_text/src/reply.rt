@@ -1,13 +1,13 @@
 ghost use Rattle.std.specs.Prelude.{◌≡◌, ◌⊎◌, ◌++◌, [], OnErr, OnOk, decimal};
 ghost use Rattle.tt_text.specs.Fields.{field};
 
+use itoa::Buffer;
 use std::alloc::{AllocError, Global};
 use std::marker::Model;
 
 /// A reply, made piece by piece: contracts see its bytes.
 #[derive(Drop)]
 pub struct Reply {
-    alloc: Global,
     bytes: Vec<u8>,
 }
 
@@ -25,7 +25,6 @@ impl Reply {
         ensures { result ≡ [] }
     {
         Reply {
-            alloc,
             bytes: Vec::new(alloc),
         }
     }
@@ -46,13 +45,13 @@ impl Reply {
         self.append(t.as_bytes())
     }
 
-    /// Appends a number's decimal digits, with no leading zero.
+    /// Appends a number's decimal digits, with no leading zero. The digits take no memory of their own.
     pub fn number(&mut self, n: u128) -> Result<(), AllocError>
         ensures ok { OnOk result (self.new ≡ self.old ++ decimal n) }
         ensures err { OnErr result (self.new ≡ self.old) }
     {
-        let digits = n.to_string(self.alloc)?;
-        self.text(digits.as_str())
+        let mut digits = Buffer::new();
+        self.text(digits.format(n))
     }
 
     /// Appends a text and a number. Where memory is wanting, the text may have been appended.

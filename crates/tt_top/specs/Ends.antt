@@ -1,24 +1,28 @@
 -- Proofs alone need it. How the phases of a run end, and what each of them leaves.
-use Rattle.std.specs.Prelude.{◌≡◌, ◌≢◌, ◌≤◌, ◌<◌, ◌⊎◌, ℕ, Bool, true, false, ⊤, IsTrue, IsSome, List, [], length, take, codes, None, Option, unwrap_or, Result, Ok, Err, if◌then◌else◌}
+use Rattle.std.specs.Prelude.{◌≡◌, ◌≢◌, ◌≤◌, ◌<◌, ◌⊎◌, ℕ, Bool, true, false, ⊤, IsTrue, IsSome, List, [], ◌∷◌, length, take, codes, None, Some, Option, unwrap_or, Result, Ok, Err, if◌then◌else◌}
 use Rattle.std.specs.List.{concat}
 use Rattle.tt_io.specs.Causes.{Writes, one_more, AsksAll}
 use Rattle.tt_io.specs.Whole.{WritesFront}
+use Rattle.tt_io.specs.Lines.{Reader, has_line_end, leading_line, after_line, to_come, StopsIn}
 use Rattle.tt_problem.specs.declared.parts.Parts.{Parts}
 use Rattle.tt_solution.specs.Timetable.{Timetable}
 use Rattle.tt_desk.specs.Chain.{◌>>=◌}
 use Rattle.tt_desk.specs.Script.{lines_of}
-use Rattle.tt_desk.specs.Desk.{Session, opening_desk}
-use Rattle.tt_desk.specs.Replies.{replies_to, refuses}
+use Rattle.tt_desk.specs.declared.refusal.Outcome.{Outcome}
+use Rattle.tt_desk.specs.declared.refusal.Outcome.TheVariants.{Ended}
+use Rattle.tt_desk.specs.Desk.{Session, opening_desk, line_step}
+use Rattle.tt_desk.specs.Replies.{reply_of, replies_to, refuses}
 use Rattle.tt_top.specs.declared.end.End.{End}
 use Rattle.tt_top.specs.declared.end.End.TheVariants.{Files, Sink, Memory, TooLong}
 use Rattle.tt_top.specs.declared.end.Done.{Done}
-use Rattle.tt_top.specs.declared.end.Done.TheVariants.{Served, Faulty, Made, Usage}
+use Rattle.tt_top.specs.declared.end.Done.TheVariants.{Served, Faulty, Made, Verified, Usage}
 use Rattle.tt_top.specs.declared.end.Input.{Input}
 use Rattle.tt_top.specs.declared.end.Input.TheVariants.{Problem, Published}
 use Rattle.tt_top.specs.declared.end.InputFault.{InputFault}
 use Rattle.tt_top.specs.Words.{FileWords, first_words}
 use Rattle.tt_top.specs.Transcript.{Bytes, FaultyFile, Transcript, fault_line, published_in, opened, first_line, text_of}
-use Rattle.tt_top.specs.Run.{WritesFirst, WritesLess, TellFirst, is_long, opens_published, opens_script, due_status}
+use Rattle.tt_top.specs.Pieces.{whole_lines, taken_of}
+use Rattle.tt_top.specs.Run.{WritesFirst, WritesLess, TellFirst, is_long_script, opens_published, opens_script, due_status}
 
 -- ---- files with a fault
 
@@ -53,6 +57,7 @@ abbrev pub done_status : Done → ℕ
 done_status (Served refused) = if refused then 1 else 0
 done_status (Faulty input) = input_status input
 done_status Made = 0
+done_status (Verified violations) = if violations then 1 else 0
 done_status Usage = 2
 
 -- how a run ended that served a script, by whether a line was refused
@@ -112,13 +117,13 @@ abbrev pub IsFaultyAt : FileWords → ℕ → Input → Type 0
 IsFaultyAt words count Problem = count ≡ 1
 IsFaultyAt words count Published = IsSome words.published × (count ≡ 2)
 
-abbrev pub IsAsked : FileWords → ℕ → Result (Result Session InputFault) End → Type 0
-IsAsked words count (Ok (Ok s)) = count ≡ length (first_words words)
+abbrev pub IsAsked : {T : Type 0} → FileWords → ℕ → Result (Result T InputFault) End → Type 0
+IsAsked words count (Ok (Ok x)) = count ≡ length (first_words words)
 IsAsked words count (Ok (Err f)) = IsFaultyAt words count f.input
 IsAsked words count (Err end) = ⊤
 
--- The names asked for before the script are the first of these words.
-pub record AsksFirst (words : FileWords) (limit : ℕ) (holds : List ℕ → Option (List ℕ)) (before now : Option (List (List ℕ))) (result : Result (Result Session InputFault) End) : Type 0 where
+-- The names asked for before the script are the first of these words, whatever a phase makes of the files.
+pub record AsksFirst {T : Type 0} (words : FileWords) (limit : ℕ) (holds : List ℕ → Option (List ℕ)) (before now : Option (List (List ℕ))) (result : Result (Result T InputFault) End) : Type 0 where
   pub count : ℕ
   pub asked : AsksAll before now (take count (first_words words))
   pub few : count ≤ length (first_words words)
@@ -126,13 +131,47 @@ pub record AsksFirst (words : FileWords) (limit : ℕ) (holds : List ℕ → Opt
   pub later : (b : Bytes) → TellFirst holds words limit b → 1 < count → IsTrue (opens_published limit b)
   pub each : IsAsked words count result
 
--- What serving a script leaves, for these bytes of it, or none.
-abbrev pub Serves : ℕ → Option (List ℕ) → Option (List ℕ) → Session → Option (List ℕ) → Result Bool End → Type 0
-Serves limit before now d s (Ok refused) = (is_long limit s ≡ false) × (refused ≡ refuses d (lines_of (unwrap_or s []))) × Writes before now (concat (replies_to d (lines_of (unwrap_or s []))))
-Serves limit before now d s (Err Files) = now ≡ before
-Serves limit before now d s (Err Sink) = WritesFront before now (concat (replies_to d (lines_of (unwrap_or s []))))
-Serves limit before now d s (Err Memory) = WritesFirst before now (replies_to d (lines_of (unwrap_or s []))) × (WritesLess before now (concat (replies_to d (lines_of (unwrap_or s [])))) ⊎ (IsSome s × (now ≡ before)))
-Serves limit before now d s (Err TooLong) = (is_long limit s ≡ true) × (now ≡ before)
+-- the replies to the whole lines of these bytes
+abbrev pub replies_up_to : Session → (taken : List ℕ) → List (List ℕ)
+replies_up_to d taken = replies_to d (lines_of (whole_lines taken))
+
+-- What serving a script leaves, for these bytes of it, or none, where so many are left of the open file.
+abbrev pub Serves : ℕ → Option (List ℕ) → Option (List ℕ) → Session → Option (List ℕ) → (left : Option (List ℕ)) → Result Bool End → Type 0
+Serves limit before now d s left (Ok refused) = (is_long_script limit s ≡ false) × (refused ≡ refuses d (lines_of (unwrap_or s []))) × Writes before now (concat (replies_to d (lines_of (unwrap_or s []))))
+Serves limit before now d s left (Err Files) = WritesFirst before now (replies_to d (lines_of (unwrap_or s []))) × Writes before now (concat (replies_up_to d (taken_of (unwrap_or s []) left)))
+Serves limit before now d s left (Err Sink) = WritesFront before now (concat (replies_to d (lines_of (unwrap_or s []))))
+Serves limit before now d s left (Err Memory) = WritesFirst before now (replies_to d (lines_of (unwrap_or s []))) × (WritesLess before now (concat (replies_to d (lines_of (unwrap_or s [])))) ⊎ (IsSome s × (now ≡ before)))
+Serves limit before now d s left (Err TooLong) = (is_long_script limit s ≡ true) × WritesFirst before now (replies_to d (lines_of (unwrap_or s []))) × Writes before now (concat (replies_up_to d (take limit (unwrap_or s []))))
+
+-- The text was ended, or its first line was answered, and what follows it is to come.
+pub record AnswersLine (text : List ℕ) (before now : Option (List ℕ)) (d d' : Session) (reader : Reader) (left : Option (List ℕ)) (outcome : Outcome) : Type 0 where
+  pub some : 0 < length text
+  pub session : (line_step d (leading_line text)).session ≡ d'
+  pub outcome_is : (line_step d (leading_line text)).outcome ≡ outcome
+  pub written : Writes before now (reply_of (line_step d (leading_line text)))
+  pub later : to_come reader left ≡ Some (after_line text)
+  -- a line without a line end is answered only where the end of the file was met
+  pub last : reader.ended ≡ false → has_line_end text ≡ true
+
+pub record EndsScript (text : List ℕ) (before now : Option (List ℕ)) (d d' : Session) (reader : Reader) (outcome : Outcome) : Type 0 where
+  pub none : text ≡ []
+  pub session : d' ≡ d
+  pub outcome_is : outcome ≡ Ended
+  pub written : now ≡ before
+  pub met : reader.ended ≡ true
+
+-- What serving the next line of this text leaves.
+abbrev pub ServesNext : (text : List ℕ) → (before now : Option (List ℕ)) → (d d' : Session) → Reader → (left : Option (List ℕ)) → Result Outcome End → Type 0
+ServesNext text before now d d' reader left (Ok outcome) = EndsScript text before now d d' reader outcome ⊎ AnswersLine text before now d d' reader left outcome
+ServesNext text before now d d' reader left (Err Files) = (now ≡ before) × StopsIn text [] left
+ServesNext text before now d d' reader left (Err Sink) = (0 < length text) × WritesFront before now (reply_of (line_step d (leading_line text)))
+ServesNext text before now d d' reader left (Err Memory) = (now ≡ before) × (0 < length text) × (0 < length (reply_of (line_step d (leading_line text))))
+ServesNext text before now d d' reader left (Err TooLong) = (now ≡ before) × ((b : ℕ) × StopsIn text (b ∷ []) left)
+
+-- how many bytes past the limit were read
+abbrev pub past_limit : {T : Type 0} → Result T End → ℕ
+past_limit (Err TooLong) = 1
+past_limit _ = 0
 
 -- What making a problem and writing its first line leave, where the text gives this.
 abbrev pub OpensMade : Option (List ℕ) → Option (List ℕ) → Result Session FaultyFile → Result (Result Session InputFault) End → Type 0

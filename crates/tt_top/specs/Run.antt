@@ -4,20 +4,26 @@ use Rattle.std.specs.List.{concat}
 use Rattle.tt_io.specs.Causes.{Writes, one_more, AsksAll}
 use Rattle.tt_io.specs.Whole.{WritesFront, WritesPast}
 use Rattle.tt_read.specs.Tables.{problem_of}
-use Rattle.tt_top.specs.Words.{FileWords, Form, Files, Demo, Make, first_words, file_words, usage_line}
-use Rattle.tt_top.specs.Transcript.{Bytes, Transcript, opened, transcript, demo_transcript, make_transcript, text_of, first_line}
+use Rattle.tt_top.specs.Pieces.{has_quit, taken_of, text_up_to}
+use Rattle.tt_top.specs.Words.{FileWords, Form, Files, Verify, Demo, Make, first_words, file_words, usage_line}
+use Rattle.tt_top.specs.Transcript.{Bytes, Transcript, opened, transcript, verify_transcript, demo_transcript, make_transcript, text_of, first_line}
 
 -- the most bytes of a file
 abbrev pub file_limit : ℕ
 file_limit = 134217728
 
--- the files and the output at one moment: the names asked for and the bytes written, where they are told, and how many calls
--- on each have failed
+-- the files and the output at one moment: the names asked for, the bytes left of the open file and the bytes written, where
+-- they are told, and how many calls on each have failed; where no file is open, none is told to be left
 pub record Moment : Type 0 where
   pub asked : Option (List (List ℕ))
+  pub left : Option (List ℕ)
   pub written : Option (List ℕ)
   pub files : ℕ
   pub sink : ℕ
+
+-- what is left of the open file, where one is open and it is told
+abbrev pub left_open : Bool → Option (List ℕ) → Option (List ℕ)
+left_open is_open left = if is_open then left else None
 
 -- what a run meets: the bytes that the files hold under a name, where they are told, and the moments before it and after it
 pub record Outside : Type 0 where
@@ -31,6 +37,11 @@ pub record Outside : Type 0 where
 abbrev pub is_long : ℕ → Option (List ℕ) → Bool
 is_long limit None = false
 is_long limit (Some bytes) = nat_lt limit (length bytes)
+
+-- there is a script, and it goes on beyond the limit, with no whole line `quit` before it
+abbrev pub is_long_script : ℕ → Option (List ℕ) → Bool
+is_long_script limit None = false
+is_long_script limit (Some script) = nat_lt limit (length script) && not (has_quit (take limit script))
 
 -- The published file is opened only where the problem is within the limit and has no fault.
 abbrev pub opens_published : ℕ → Bytes → Bool
@@ -64,7 +75,7 @@ abbrev pub due_status : ℕ → Bytes → ℕ
 due_status limit b =
     if is_long limit (Some b.problem) then 8
     else if opens_published limit b && is_long limit b.published then 8
-    else if opens_script limit b && is_long limit b.script then 8
+    else if opens_script limit b && is_long_script limit b.script then 8
     else (transcript b).status
 
 -- Where the bytes written are told after a call, they were told before, and grew by the first of these pieces, each whole.
@@ -87,6 +98,14 @@ pub record IsTranscript (words : FileWords) (limit : ℕ) (o : Outside) (status 
   -- where memory is wanting, less than the whole is written, or the first line where there is a script
   pub wanting : (b : Bytes) → Tell o.holds words limit b → status ≡ 7
       → WritesLess o.before.written o.now.written (text_of (transcript b)) ⊎ (IsSome b.script × Writes o.before.written o.now.written (first_line (opened b.problem b.published)))
+
+-- Where a call on the files failed, or a file is too long, nothing was written, or the first line and the reply to each line
+-- that was taken whole. A byte past the limit doesn't count as taken. Nothing is written only where the script wasn't asked for.
+pub record EndsAtLine (words : FileWords) (limit : ℕ) (o : Outside) (status : ℕ) : Type 0 where
+  pub failed : (b : Bytes) (script : List ℕ) → Tell o.holds words limit b → b.script ≡ Some script → status ≡ 5
+      → Writes o.before.written o.now.written [] ⊎ Writes o.before.written o.now.written (text_up_to b (taken_of script o.now.left))
+  pub too_long : (b : Bytes) (script : List ℕ) → Tell o.holds words limit b → b.script ≡ Some script → status ≡ 8
+      → Writes o.before.written o.now.written [] ⊎ Writes o.before.written o.now.written (text_up_to b (take limit script))
 
 -- A status of 0 to 4, or 8, is the one that is due.
 pub record IsDue (words : FileWords) (limit : ℕ) (o : Outside) (status : ℕ) : Type 0 where
@@ -127,6 +146,7 @@ pub record IsStatus (status : ℕ) : Type 0 where
 -- What a run with files does, where a file has at most so many bytes.
 pub record IsFileRun (words : FileWords) (limit : ℕ) (o : Outside) (status : ℕ) : Type 0 where
   pub transcript : IsTranscript words limit o status
+  pub line : EndsAtLine words limit o status
   pub due : IsDue words limit o status
   pub complete : IsComplete words limit o status
   pub causes : HasCauses o status
@@ -152,11 +172,42 @@ pub record IsUsage (o : Outside) (status : ℕ) : Type 0 where
   pub plain : IsPlainRun (record { pieces = usage_line ∷ []; status = 2 }) o status
   pub no_memory : status ≢ 7
 
+-- ---- the clauses of a run that checks a solution file
+
+-- the status of such a run that neither a failed call nor want of memory ends
+abbrev pub verify_status : ℕ → Bytes → ℕ
+verify_status limit b =
+    if is_long limit (Some b.problem) then 8
+    else if opens_published limit b && is_long limit b.published then 8
+    else (verify_transcript b).status
+
+-- What is written is the transcript: all of it or nothing, but for a failed write.
+pub record IsVerifyTranscript (words : FileWords) (limit : ℕ) (o : Outside) (status : ℕ) : Type 0 where
+  pub whole : (b : Bytes) → TellFirst o.holds words limit b → status ≤ 4 → Writes o.before.written o.now.written (text_of (verify_transcript b))
+  pub front : (b : Bytes) → TellFirst o.holds words limit b → WritesFront o.before.written o.now.written (text_of (verify_transcript b))
+  -- a run that ends for another cause than a failed write has written nothing
+  pub nothing : (status ≡ 5) ⊎ ((status ≡ 7) ⊎ (status ≡ 8)) → Writes o.before.written o.now.written []
+
+-- A status of 0 to 4, or 8, is the one that is due; where no count rose, it is that one, or says that memory is wanting.
+pub record IsVerifyDue (words : FileWords) (limit : ℕ) (o : Outside) (status : ℕ) : Type 0 where
+  pub due : (b : Bytes) → TellFirst o.holds words limit b → (status ≤ 4) ⊎ (status ≡ 8) → status ≡ verify_status limit b
+  pub complete : (b : Bytes) → TellFirst o.holds words limit b → o.now.files ≢ one_more o.before.files → o.now.sink ≢ one_more o.before.sink
+      → (status ≡ verify_status limit b) ⊎ (status ≡ 7)
+
+-- What a run does that checks a solution file, where a file has at most so many bytes.
+pub record IsVerifyRun (words : FileWords) (limit : ℕ) (o : Outside) (status : ℕ) : Type 0 where
+  pub transcript : IsVerifyTranscript words limit o status
+  pub due : IsVerifyDue words limit o status
+  pub causes : HasCauses o status
+  pub names : AsksInOrder words limit o status
+  pub statuses : IsStatus status
+
 -- ---- all forms
 
 -- What a run does whose words have this form, or none.
 abbrev pub IsRun : Option Form → ℕ → Outside → ℕ → Type 0
 IsRun (Some (Files words)) limit o status = IsFileRun words limit o status
+IsRun (Some (Verify words)) limit o status = IsVerifyRun words limit o status
 IsRun (Some (Demo seed classes turns)) limit o status = IsPlainRun (demo_transcript seed classes turns) o status
 IsRun (Some (Make seed classes)) limit o status = IsPlainRun (make_transcript seed classes) o status
 IsRun None limit o status = IsUsage o status

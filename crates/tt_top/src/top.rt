@@ -1,6 +1,6 @@
 ghost use Rattle.std.specs.Prelude.{◌≢◌, [], ◌∷◌, Err, map, string_bytes};
 ghost use Rattle.tt_top.specs.Words.{form_of, usage_line};
-ghost use Rattle.tt_top.specs.Run.{IsRun, file_limit};
+ghost use Rattle.tt_top.specs.Run.{IsRun, file_limit, left_open};
 ghost use Rattle.tt_top.specs.Ends.{HasEndCause, WritesPlain, status_of};
 
 use crate::end::{Done, End, status};
@@ -8,6 +8,7 @@ use crate::file_run::run_files;
 use crate::form::{Form, read_form};
 use crate::plain_run::{demo, make};
 use crate::serve::hand_on;
+use crate::verify_run::verify_files;
 use std::alloc::Global;
 use tt_io::{Files, Sink};
 
@@ -15,7 +16,7 @@ use tt_io::{Files, Sink};
 const FILE_LIMIT: u64 = 134_217_728;
 
 const USAGE: &[u8] =
-    b"usage: uttab run PROBLEM SCRIPT [PUBLISHED] | check PROBLEM | demo SEED CLASSES TURNS | make SEED CLASSES\n";
+    b"usage: uttab run PROBLEM SCRIPT [PUBLISHED] | check PROBLEM | demo SEED CLASSES TURNS | make SEED CLASSES | verify PROBLEM SOLUTION\n";
 
 // A run whose words are in no form.
 fn usage<S: Sink>(out: &mut S) -> Result<Done, End>
@@ -38,8 +39,8 @@ pub fn run_within<F: Files, S: Sink>(
     ensures form { IsRun (form_of (map string_bytes words.now)) limit
         (record {
           holds = F.holds files.old;
-          before = record { asked = F.asked files.old; written = S.written out.old; files = F.faults files.old; sink = S.faults out.old };
-          now = record { asked = F.asked files.new; written = S.written out.new; files = F.faults files.new; sink = S.faults out.new };
+          before = record { asked = F.asked files.old; left = left_open (F.is_open files.old) (F.left files.old); written = S.written out.old; files = F.faults files.old; sink = S.faults out.old };
+          now = record { asked = F.asked files.new; left = left_open (F.is_open files.new) (F.left files.new); written = S.written out.new; files = F.faults files.new; sink = S.faults out.new };
         })
         result }
 {
@@ -51,6 +52,9 @@ pub fn run_within<F: Files, S: Sink>(
                 script,
             },
         ) => run_files(limit, alloc, problem, published, script, files, out),
+        Some(Form::Verify { problem, solution }) => {
+            verify_files(limit, alloc, problem, solution, files, out)
+        }
         Some(
             Form::Demo {
                 seed,
@@ -67,18 +71,21 @@ pub fn run_within<F: Files, S: Sink>(
 /// Does what the words of the command line say, and answers the status with which the program ends:
 ///
 /// - 0: the script was read to its end or to `quit`, and no command was refused, or the problem that
-///   was asked for was made; 1: some command was refused;
+///   was asked for was made, or the solution file has no violation; 1: some command was refused, or
+///   there is a violation;
 /// - 2: the words are in no form, and the usage line was written;
-/// - 3: the problem has a fault, which was written; 4: the published timetable has one;
+/// - 3: the problem has a fault, which was written; 4: the published timetable has one, or
+///   the solution file;
 /// - 5 and 6: a call on the files or the output failed, and ended the run;
-/// - 7: memory is wanting; 8: a file has more than 134,217,728 bytes.
+/// - 7: memory is wanting; 8: a file has more than 134,217,728 bytes, of a script before a line
+///   `quit`.
 pub fn run<F: Files, S: Sink>(alloc: Global, words: &[String], files: &mut F, out: &mut S) -> u8
     // What is written is the transcript of a plain desk, or a front of it, and each status has its cause.
     ensures form { IsRun (form_of (map string_bytes words.now)) file_limit
         (record {
           holds = F.holds files.old;
-          before = record { asked = F.asked files.old; written = S.written out.old; files = F.faults files.old; sink = S.faults out.old };
-          now = record { asked = F.asked files.new; written = S.written out.new; files = F.faults files.new; sink = S.faults out.new };
+          before = record { asked = F.asked files.old; left = left_open (F.is_open files.old) (F.left files.old); written = S.written out.old; files = F.faults files.old; sink = S.faults out.old };
+          now = record { asked = F.asked files.new; left = left_open (F.is_open files.new) (F.left files.new); written = S.written out.new; files = F.faults files.new; sink = S.faults out.new };
         })
         result }
 {

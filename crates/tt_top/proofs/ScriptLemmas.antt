@@ -1,0 +1,345 @@
+-- How the lines of a script that is read piece by piece are answered.
+use Rattle.std.proofs.Common.{◌≡◌, ◌≢◌, ◌≤◌, ◌<◌, ◌+◌, ◌-◌, ℕ, Bool, true, false, List, [], ◌∷◌, ◌++◌, None, Some, Option, Ok, Err, refl, sym, ap, ◌∙◌, subst, append_assoc, arith, inl, inr, take, length}
+use Rattle.std.specs.Prelude.{Result, IfOk, OnOk, ◌||◌, ◌&&◌, ◌⊎◌, nat_lt, not}
+use Rattle.std.specs.List.{concat, list_any}
+use Rattle.std.specs.Io.KnownBytes.{IsAtEnd}
+use Rattle.std.proofs.lemmas.List.{append-nil, length-append}
+use Rattle.std.proofs.lemmas.List.Folds.{concat-append, list_any-append}
+use Rattle.std.proofs.lemmas.Bool.Decides.{nat_tests}
+use Rattle.std.proofs.Math.Seq.{take-append-add}
+use Rattle.tt_io.specs.Causes.{Writes}
+use Rattle.tt_io.specs.Whole.{Grows, WritesFront}
+use Rattle.tt_io.specs.Lines.{Reader, new_reader, has_line_end, leading_line, after_line, to_come, Counts, StopsIn}
+use Rattle.tt_io.proofs.WrittenLemmas.{Writes-append, nothing_written}
+use Rattle.tt_script.specs.declared.command.Command.TheVariants.{Assign, Unassign, Force, Section, Drop, Enrol, EnrolAll, Search, Repair, Improve, Recall, Close, Reopen, Undo, Publish, Totals, Explain, Why, Stats, Suggest, Quit}
+use Rattle.tt_desk.specs.declared.refusal.Refusal.{Refusal}
+use Rattle.tt_desk.specs.declared.refusal.Refusal.TheVariants.{BadLine}
+use Rattle.tt_desk.specs.declared.refusal.Outcome.{Outcome}
+use Rattle.tt_desk.specs.declared.refusal.Outcome.TheVariants.{Skipped, Accepted, Refused, Ended}
+use Rattle.tt_desk.specs.declared.script.Line.{Line}
+use Rattle.tt_desk.specs.declared.script.Line.TheVariants.{Empty, Bad, Good}
+use Rattle.tt_desk.specs.Script.{lines_of, line_of}
+use Rattle.tt_desk.specs.Refusals.{refusal_line}
+use Rattle.tt_desk.specs.Desk.{Session, Answer, carried_out, step_from, step_of, line_step}
+use Rattle.tt_desk.specs.Replies.{is_end, is_refused, reply_of, replies_to, refuses}
+use Rattle.tt_top.specs.declared.end.End.{End}
+use Rattle.tt_top.specs.declared.end.End.TheVariants.{Files, Sink, Memory, TooLong}
+use Rattle.tt_top.specs.Pieces.{whole_lines, ends_script, has_quit, taken_of}
+use Rattle.tt_top.specs.Run.{is_long_script}
+use Rattle.tt_top.specs.Ends.{Serves, ServesNext, AnswersLine, EndsScript}
+use Rattle.tt_top.proofs.ServeLemmas.{HasSent, HasSent-more, HasSent-all, HasSent-first, HasSent-less, HasSent-front, HasSent-same, replies-next, replies-last, refuses-next, refused_more, reply_is_next}
+use Rattle.tt_top.proofs.PieceLemmas.{first_of_lines, cut_at_end, leading_one, IsWhole, whole_empty, whole_more, lines_more, whole_is, taken_front, limit_front}
+
+-- ---- the line that ends a script
+
+answered_on : (s : Session) (r : Result Answer Refusal) → is_end (step_from s r).outcome ≡ false
+answered_on s (Ok a) = refl
+answered_on s (Err e) = refl
+
+quit_step : (d : Session) (l : Line) → is_end (step_of d l).outcome ≡ ends_script l
+quit_step d Empty = refl
+quit_step d Bad = refl
+quit_step d (Good (Assign class time room)) = answered_on d (carried_out d (Assign class time room))
+quit_step d (Good (Unassign class)) = answered_on d (carried_out d (Unassign class))
+quit_step d (Good (Force class time room)) = answered_on d (carried_out d (Force class time room))
+quit_step d (Good (Section student classes)) = answered_on d (carried_out d (Section student classes))
+quit_step d (Good (Drop student)) = answered_on d (carried_out d (Drop student))
+quit_step d (Good (Enrol student)) = answered_on d (carried_out d (Enrol student))
+quit_step d (Good EnrolAll) = answered_on d (carried_out d EnrolAll)
+quit_step d (Good (Search turns seed)) = answered_on d (carried_out d (Search turns seed))
+quit_step d (Good (Repair turns seed)) = answered_on d (carried_out d (Repair turns seed))
+quit_step d (Good (Improve rounds seed)) = answered_on d (carried_out d (Improve rounds seed))
+quit_step d (Good Recall) = answered_on d (carried_out d Recall)
+quit_step d (Good (Close room days start slots weeks)) = answered_on d (carried_out d (Close room days start slots weeks))
+quit_step d (Good (Reopen room)) = answered_on d (carried_out d (Reopen room))
+quit_step d (Good Undo) = answered_on d (carried_out d Undo)
+quit_step d (Good Publish) = answered_on d (carried_out d Publish)
+quit_step d (Good Totals) = answered_on d (carried_out d Totals)
+quit_step d (Good (Explain class)) = answered_on d (carried_out d (Explain class))
+quit_step d (Good (Why class time room)) = answered_on d (carried_out d (Why class time room))
+quit_step d (Good (Stats class)) = answered_on d (carried_out d (Stats class))
+quit_step d (Good (Suggest class depth)) = answered_on d (carried_out d (Suggest class depth))
+quit_step d (Good Quit) = refl
+
+-- a line ends a script exactly where it is `quit`
+quit_ends : (d : Session) (line : List ℕ) → is_end (line_step d line).outcome ≡ ends_script (line_of line)
+unfolding line_step
+quit_ends d line = quit_step d (line_of line)
+
+abbrev quits : List (List ℕ) → Bool
+quits lines = list_any (λ line. ends_script (line_of line)) lines
+
+-- ---- how far a script is served
+
+-- What was served so far ends where a line ends, and the rest is served as if it were read alone.
+pub record AtLine (d : Session) (script : List ℕ) (before : Option (List ℕ)) (d' : Session) (now : Option (List ℕ)) (rest : List ℕ) : Type 0 where
+  pub done : List ℕ
+  pub parts : script ≡ done ++ rest
+  pub whole : IsWhole done
+  pub no_quit : list_any (λ line. ends_script (line_of line)) (lines_of done) ≡ false
+  pub follows : (lines : List (List ℕ)) → replies_to d (lines_of done ++ lines) ≡ replies_to d (lines_of done) ++ replies_to d' lines
+  pub written : Writes before now (concat (replies_to d (lines_of done)))
+
+-- The replies so far, and those to what is still to come, are the replies to the script.
+pub record IsServed (limit : ℕ) (d : Session) (script : List ℕ) (before : Option (List ℕ)) (d' : Session) (refused : Bool) (now : Option (List ℕ)) (reader : Reader) (left : Option (List ℕ)) : Type 0 where
+  pub rest : List ℕ
+  pub later : to_come reader left ≡ Some rest
+  pub sent : HasSent before now (replies_to d (lines_of script)) (replies_to d' (lines_of rest))
+  pub refused_is : (refused || refuses d' (lines_of rest)) ≡ refuses d (lines_of script)
+  pub at_line : reader.ended ≡ false → AtLine d script before d' now rest
+  pub met : reader.ended ≡ true → IsAtEnd left
+  pub counts : Counts 0 reader.taken 0 (Some script) left
+  pub most : reader.taken ≤ limit
+
+-- nothing is served yet
+pub served_none : (limit : ℕ) (d : Session) (script : List ℕ) (before left : Option (List ℕ)) (reader : Reader) → reader ≡ new_reader → left ≡ Some script → IsServed limit d script before d false before reader left
+served_none limit d script before left reader is told = rw (is, told) (record {
+  rest = script;
+  later = refl;
+  sent = record { sent = []; parts = refl; written = nothing_written before before refl };
+  refused_is = refl;
+  at_line = λ _. record { done = []; parts = refl; whole = whole_empty; no_quit = refl; follows = λ lines. refl; written = nothing_written before before refl };
+  met = λ ended. absurd (cc ended);
+  counts = omega arith;
+  most = omega arith;
+})
+
+-- one more line
+line_served : (d : Session) (script : List ℕ) (before : Option (List ℕ)) (mid_d : Session) (mid : Option (List ℕ)) (rest : List ℕ) (d' : Session) (now : Option (List ℕ)) (outcome : Outcome)
+    → AtLine d script before mid_d mid rest → has_line_end rest ≡ true → (line_step mid_d (leading_line rest)).session ≡ d' → (line_step mid_d (leading_line rest)).outcome ≡ outcome → is_end outcome ≡ false
+    → Writes mid now (reply_of (line_step mid_d (leading_line rest))) → AtLine d script before d' now (after_line rest)
+line_served d script before mid_d mid rest d' now outcome at ends leaves becomes goes writes =
+    let line = leading_line rest in
+    let reply = reply_of (line_step mid_d line) in
+    let lines_are : lines_of (at.done ++ (line ++ 10 ∷ [])) ≡ lines_of at.done ++ line ∷ [] = lines_more at.done line at.whole (leading_one rest) in
+    let one : replies_to mid_d (line ∷ []) ≡ reply ∷ [] = replies-next mid_d d' (line ∷ []) line [] outcome refl leaves becomes goes in
+    let replies_are : replies_to d (lines_of (at.done ++ (line ++ 10 ∷ []))) ≡ replies_to d (lines_of at.done) ++ reply ∷ [] = ap (replies_to d) lines_are ∙ at.follows (line ∷ []) ∙ ap (λ t. replies_to d (lines_of at.done) ++ t) one in
+    record {
+      done = at.done ++ (line ++ 10 ∷ []);
+      parts = at.parts ∙ ap (λ t. at.done ++ t) (cut_at_end rest ends ∙ sym (append_assoc line (10 ∷ []) (after_line rest))) ∙ sym (append_assoc at.done (line ++ 10 ∷ []) (after_line rest));
+      whole = whole_more at.done line at.whole (leading_one rest);
+      no_quit = ap (list_any (λ l. ends_script (line_of l))) lines_are ∙ list_any-append (λ l. ends_script (line_of l)) (lines_of at.done) (line ∷ []) ∙ rw (at.no_quit, ← quit_ends mid_d line, becomes, goes) refl;
+      follows = λ lines.
+          ap (λ t. replies_to d (t ++ lines)) lines_are ∙ ap (replies_to d) (append_assoc (lines_of at.done) (line ∷ []) lines) ∙ at.follows (line ∷ lines)
+          ∙ ap (λ t. replies_to d (lines_of at.done) ++ t) (replies-next mid_d d' (line ∷ lines) line lines outcome refl leaves becomes goes)
+          ∙ sym (append_assoc (replies_to d (lines_of at.done)) (reply ∷ []) (replies_to d' lines)) ∙ ap (λ t. t ++ replies_to d' lines) (sym replies_are);
+      written = subst (λ (t : List (List ℕ)). Writes before now (concat t)) (sym replies_are)
+          (subst (λ (t : List ℕ). Writes before now t) (sym (concat-append (replies_to d (lines_of at.done)) (reply ∷ []) ∙ ap (λ t. concat (replies_to d (lines_of at.done)) ++ t) (append-nil reply))) (Writes-append before mid now _ reply at.written writes));
+    }
+
+counts_then : (script : List ℕ) (mid now past : ℕ) (left_mid left : Option (List ℕ)) → Counts 0 mid 0 (Some script) left_mid → Counts mid now past left_mid left → Counts 0 now past (Some script) left
+counts_then script mid now past None left first second = absurd first
+counts_then script mid now past (Some xs) None first second = absurd second
+counts_then script mid now past (Some xs) (Some ys) first second = omega (arith, first, second)
+
+-- the end of the file stays met
+met_then : (old new : Bool) (left left' : Option (List ℕ)) → (old ≡ true → IsAtEnd left) → (old ≡ true → left' ≡ left) → (new ≡ true → (old ≡ true) ⊎ IsAtEnd left') → new ≡ true → IsAtEnd left'
+met_then old new left left' met same ended is = elim (ended is) [ inl was ↦ rw (same was) (met was) | inr end ↦ end ]
+
+-- one that goes on was not ended before
+was_going : (old new : Bool) → (old ≡ true → new ≡ true) → new ≡ false → old ≡ false
+was_going true new stays goes = absurd (cc (sym (stays refl) ∙ goes))
+was_going false new stays goes = refl
+
+-- ---- one more line
+
+-- How a reader moves in a step, but for what it gives: so many bytes past the limit are read.
+pub record Moves (limit past : ℕ) (reader reader' : Reader) (left left' : Option (List ℕ)) : Type 0 where
+  pub ended : reader'.ended ≡ true → (reader.ended ≡ true) ⊎ IsAtEnd left'
+  pub stays : reader.ended ≡ true → reader'.ended ≡ true
+  pub same : reader.ended ≡ true → left' ≡ left
+  pub taken : Counts reader.taken reader'.taken past left left'
+  pub most : reader'.taken ≤ limit
+
+module _ (limit : ℕ) (d : Session) (script : List ℕ) (before : Option (List ℕ)) (mid_d : Session) (refused : Bool) (mid : Option (List ℕ)) (reader : Reader) (left : Option (List ℕ)) (served : IsServed limit d script before mid_d refused mid reader left) where
+  -- a line that doesn't end the script
+  pub served_more : (d' : Session) (now : Option (List ℕ)) (reader' : Reader) (left' : Option (List ℕ)) (outcome : Outcome)
+      → ServesNext served.rest mid now mid_d d' reader' left' (Ok outcome) → Moves limit 0 reader reader' left left' → is_end outcome ≡ false → IsServed limit d script before d' (refused || is_refused outcome) now reader' left'
+  served_more d' now reader' left' outcome next moves goes = elim next [
+    | inl e ↦ absurd (let f : is_end outcome ≡ true = ap is_end e.outcome_is in cc (sym f ∙ goes))
+    | inr a ↦
+        let line = leading_line served.rest in
+        let cut = first_of_lines served.rest a.some in
+        record {
+          rest = after_line served.rest;
+          later = a.later;
+          sent = HasSent-more before mid now _ _ (reply_of (line_step mid_d line)) _ served.sent a.written (replies-next mid_d d' (lines_of served.rest) line (lines_of (after_line served.rest)) outcome cut a.session a.outcome_is goes);
+          refused_is = refused_more refused (is_refused outcome) _ _ _ served.refused_is (refuses-next mid_d d' (lines_of served.rest) line (lines_of (after_line served.rest)) outcome cut a.session a.outcome_is goes);
+          at_line = λ on. line_served d script before mid_d mid served.rest d' now outcome (served.at_line (was_going reader.ended reader'.ended moves.stays on)) (a.last on) a.session a.outcome_is goes a.written;
+          met = met_then reader.ended reader'.ended left left' served.met moves.same moves.ended;
+          counts = counts_then script reader.taken reader'.taken 0 left left' served.counts moves.taken;
+          most = moves.most;
+        }
+  ]
+
+-- ---- the end of a script
+
+-- where the end of the file was met, the script isn't longer than the limit
+short_script : (limit : ℕ) (script : List ℕ) (taken : ℕ) (left : Option (List ℕ)) → Counts 0 taken 0 (Some script) left → IsAtEnd left → taken ≤ limit → is_long_script limit (Some script) ≡ false
+short_script limit script taken None counts end most = absurd counts
+short_script limit script taken (Some xs) counts end most =
+    let is : nat_lt limit (length script) ≡ false = let len : length script ≡ taken = (let none : length xs ≡ 0 = ap length end in omega (arith, counts, none)) in grind (arith, nat_tests, len, most) in
+    rw is refl
+
+-- the end of the file, after all lines
+ended_here : (limit : ℕ) (d : Session) (script : List ℕ) (before : Option (List ℕ)) (mid_d : Session) (refused : Bool) (mid : Option (List ℕ)) (reader : Reader) (left : Option (List ℕ)) (served : IsServed limit d script before mid_d refused mid reader left)
+    → (d' : Session) (now : Option (List ℕ)) (reader' : Reader) (left' : Option (List ℕ)) (outcome : Outcome) → EndsScript served.rest mid now mid_d d' reader' outcome → Moves limit 0 reader reader' left left'
+    → Serves limit before now d (Some script) left' (Ok (refused || is_refused outcome))
+ended_here limit d script before mid_d refused mid reader left served d' now reader' left' outcome e moves =
+    let met = met_then reader.ended reader'.ended left left' served.met moves.same moves.ended e.met in
+    let counts = counts_then script reader.taken reader'.taken 0 left left' served.counts moves.taken in
+    let refused_is = rw e.none at served.refused_is in
+    let sent = rw e.none at served.sent in
+    (short_script limit script reader'.taken left' counts met moves.most, rw e.outcome_is refused_is, HasSent-all before now _ (HasSent-same before mid now _ _ sent e.written))
+
+-- what is served ends with `quit` within the limit
+quits_within : (limit : ℕ) (script done rest : List ℕ) → script ≡ done ++ rest → IsWhole done → length done ≤ limit → list_any (λ line. ends_script (line_of line)) (lines_of done) ≡ true → is_long_script limit (Some script) ≡ false
+quits_within limit script done rest parts whole few quits_is =
+    let more = take (limit - length done) rest in
+    let front : take limit script ≡ done ++ more =
+    (let n : limit ≡ length done + (limit - length done) = omega (arith, few) in
+    ap (take limit) parts ∙ ap (λ k. take k (done ++ rest)) n ∙ take-append-add done rest (limit - length done)) in
+    let lines_are : lines_of (whole_lines (take limit script)) ≡ lines_of done ++ lines_of (whole_lines more) = ap (λ t. lines_of (whole_lines t)) front ∙ ap lines_of (whole.kept more) ∙ whole.lines (whole_lines more) in
+    let has : has_quit (take limit script) ≡ true = ap (list_any (λ l. ends_script (line_of l))) lines_are ∙ list_any-append (λ l. ends_script (line_of l)) (lines_of done) (lines_of (whole_lines more)) ∙ rw quits_is refl in
+    by (nat_lt limit (length script)) (has_quit (take limit script)) has
+  where
+    by : (a b : Bool) → b ≡ true → (a && not b) ≡ false
+    by true b is = ap not is
+    by false b is = refl
+
+only_end : (outcome : Outcome) → is_end outcome ≡ true → is_refused outcome ≡ false
+only_end Skipped is = refl
+only_end Accepted is = refl
+only_end (Refused r) is = absurd (cc is)
+only_end Ended is = refl
+
+refuses-last : (d : Session) (lines : List (List ℕ)) (line : List ℕ) (rest : List (List ℕ)) (outcome : Outcome) → lines ≡ line ∷ rest → (line_step d line).outcome ≡ outcome → is_end outcome ≡ true → refuses d lines ≡ (is_refused outcome || false)
+refuses-last d lines line rest outcome cut becomes ends = rw (cut, becomes, ends) refl
+
+lengths : (limit taken : ℕ) (done rest hand script : List ℕ) (left : Option (List ℕ)) (reader : Reader) → reader.ended ≡ false → reader.hand ≡ hand → script ≡ done ++ rest → to_come reader left ≡ Some rest → Counts 0 taken 0 (Some script) left → taken ≤ limit → length done ≤ limit
+lengths limit taken done rest hand script None reader on hand_is parts later counts most = absurd counts
+lengths limit taken done rest hand script (Some xs) reader on hand_is parts later counts most =
+    let e : Some (reader.hand ++ xs) ≡ Some rest = rw on at later in
+    let is : reader.hand ++ xs ≡ rest = cc in
+    omega (arith, ap length parts, length-append done rest, ap length is, length-append reader.hand xs, counts, most)
+
+-- `quit`, as the last line that was answered
+quit_here : (limit : ℕ) (d : Session) (script : List ℕ) (before : Option (List ℕ)) (mid_d : Session) (refused : Bool) (mid : Option (List ℕ)) (reader : Reader) (left : Option (List ℕ)) (served : IsServed limit d script before mid_d refused mid reader left)
+    → (d' : Session) (now : Option (List ℕ)) (reader' : Reader) (left' : Option (List ℕ)) (outcome : Outcome) → AnswersLine served.rest mid now mid_d d' reader' left' outcome → Moves limit 0 reader reader' left left' → is_end outcome ≡ true
+    → Serves limit before now d (Some script) left' (Ok (refused || is_refused outcome))
+quit_here limit d script before mid_d refused mid reader left served d' now reader' left' outcome a moves ends =
+    let line = leading_line served.rest in
+    let cut = first_of_lines served.rest a.some in
+    let counts = counts_then script reader.taken reader'.taken 0 left left' served.counts moves.taken in (
+      by reader'.ended refl,
+      refused_is refused (is_refused outcome) _ _ (only_end outcome ends) (refuses-last mid_d (lines_of served.rest) line _ outcome cut a.outcome_is ends) served.refused_is,
+      HasSent-all before now _ (HasSent-more before mid now _ _ (reply_of (line_step mid_d line)) _ served.sent a.written (replies-last mid_d d' (lines_of served.rest) line _ outcome cut a.session a.outcome_is ends)),
+    )
+  where
+    refused_is : (so_far one later all : Bool) → one ≡ false → later ≡ (one || false) → (so_far || later) ≡ all → (so_far || one) ≡ all
+    refused_is so_far true later all goes is sum = absurd (cc goes)
+    refused_is so_far false later all goes is sum = ap (λ t. so_far || t) (sym is) ∙ sum
+
+    by : (on : Bool) → reader'.ended ≡ on → is_long_script limit (Some script) ≡ false
+    by true is = short_script limit script reader'.taken left' (counts_then script reader.taken reader'.taken 0 left left' served.counts moves.taken) (met_then reader.ended reader'.ended left left' served.met moves.same moves.ended is) moves.most
+    by false is =
+        let at = served.at_line (was_going reader.ended reader'.ended moves.stays is) in
+        let line = leading_line served.rest in
+        let one = leading_one served.rest in
+        let done = at.done ++ (line ++ 10 ∷ []) in
+        let parts : script ≡ done ++ after_line served.rest = at.parts ∙ ap (λ t. at.done ++ t) (cut_at_end served.rest (a.last is) ∙ sym (append_assoc line (10 ∷ []) (after_line served.rest))) ∙ sym (append_assoc at.done (line ++ 10 ∷ []) (after_line served.rest)) in
+        let last : list_any (λ l. ends_script (line_of l)) (lines_of done) ≡ true =
+        ap (list_any (λ l. ends_script (line_of l))) (lines_more at.done line at.whole one) ∙ list_any-append (λ l. ends_script (line_of l)) (lines_of at.done) (line ∷ []) ∙ rw (at.no_quit, ← quit_ends mid_d line, a.outcome_is, ends) refl in
+        quits_within limit script done (after_line served.rest) parts (whole_more at.done line at.whole one)
+        (lengths limit reader'.taken done (after_line served.rest) reader'.hand script left' reader' is refl parts a.later (counts_then script reader.taken reader'.taken 0 left left' served.counts moves.taken) moves.most)
+        last
+
+module _ (limit : ℕ) (d : Session) (script : List ℕ) (before : Option (List ℕ)) (mid_d : Session) (refused : Bool) (mid : Option (List ℕ)) (reader : Reader) (left : Option (List ℕ)) (served : IsServed limit d script before mid_d refused mid reader left) where
+  -- a script that is ended, by its end or by `quit`
+  pub served_end : (d' : Session) (now : Option (List ℕ)) (reader' : Reader) (left' : Option (List ℕ)) (outcome : Outcome)
+      → ServesNext served.rest mid now mid_d d' reader' left' (Ok outcome) → Moves limit 0 reader reader' left left' → is_end outcome ≡ true → Serves limit before now d (Some script) left' (Ok (refused || is_refused outcome))
+  served_end d' now reader' left' outcome next moves ends = elim next [
+    | inl e ↦ ended_here limit d script before mid_d refused mid reader left served d' now reader' left' outcome e moves
+    | inr a ↦ quit_here limit d script before mid_d refused mid reader left served d' now reader' left' outcome a moves ends
+  ]
+
+  -- what was answered of a script of which a read fails
+  failed_here : (now : Option (List ℕ)) (left' : Option (List ℕ)) → now ≡ mid → AtLine d script before mid_d mid served.rest → StopsIn served.rest [] left' → Serves limit before now d (Some script) left' (Err Files)
+  failed_here now left' same at stops =
+      let taken : taken_of script left' ≡ at.done ++ stops.part =
+      ap (taken_of script) stops.left_is ∙ ap (λ t. taken_of t (Some stops.rest)) (at.parts ∙ ap (λ t. at.done ++ t) stops.parts ∙ sym (append_assoc at.done stops.part stops.rest)) ∙ taken_front (at.done ++ stops.part) stops.rest in
+      let whole : whole_lines (taken_of script left') ≡ at.done = ap whole_lines taken ∙ whole_is at.done stops.part at.whole stops.no_end in
+      (rw same (HasSent-first before mid _ _ served.sent), rw (whole, same) at.written)
+
+  -- what was answered of a script that goes on beyond the limit
+  too_long_here : (now : Option (List ℕ)) (reader' : Reader) (left' : Option (List ℕ)) (b : ℕ) → now ≡ mid → AtLine d script before mid_d mid served.rest → StopsIn served.rest (b ∷ []) left' → Moves limit 1 reader reader' left left' → limit ≤ reader'.taken
+      → Serves limit before now d (Some script) left' (Err TooLong)
+  too_long_here now reader' left' b same at stops moves least =
+      let parts : script ≡ (at.done ++ stops.part) ++ (b ∷ stops.rest) = at.parts ∙ ap (λ t. at.done ++ t) stops.parts ∙ sym (append_assoc at.done stops.part (b ∷ stops.rest)) in
+      let counts : Counts 0 reader'.taken 1 (Some script) (Some stops.rest) = subst (λ (t : Option (List ℕ)). Counts 0 reader'.taken 1 (Some script) t) stops.left_is (counts_then script reader.taken reader'.taken 1 left left' served.counts moves.taken) in
+      let count : length (at.done ++ stops.part) ≡ limit = omega (arith, ap length parts, length-append (at.done ++ stops.part) (b ∷ stops.rest), counts, moves.most, least) in
+      let front : take limit script ≡ at.done ++ stops.part = ap (take limit) parts ∙ limit_front limit (at.done ++ stops.part) (b ∷ stops.rest) count in
+      let whole : whole_lines (take limit script) ≡ at.done = ap whole_lines front ∙ whole_is at.done stops.part at.whole stops.no_end in
+      let no_quit : has_quit (take limit script) ≡ false = ap (λ t. list_any (λ l. ends_script (line_of l)) (lines_of t)) whole ∙ at.no_quit in
+      let long : nat_lt limit (length script) ≡ true = (let more : limit < length script = omega (arith, counts, moves.most, least) in grind (arith, nat_tests, more)) in
+      (rw (long, no_quit) refl, rw same (HasSent-first before mid _ _ served.sent), rw (whole, same) at.written)
+
+  -- a script that is not served to its end
+  pub served_err : (d' : Session) (now : Option (List ℕ)) (reader' : Reader) (left' : Option (List ℕ)) (past : ℕ) (e : End)
+      → ServesNext served.rest mid now mid_d d' reader' left' (Err e) → Moves limit past reader reader' left left' → ((e ≡ Files) ⊎ (e ≡ TooLong) → reader.ended ≡ false) → (e ≡ TooLong → (past ≡ 1) × (limit ≤ reader'.taken))
+      → Serves limit before now d (Some script) left' (Err e)
+  served_err d' now reader' left' past Files next moves on long = failed_here now left' next.0 (served.at_line (on (inl refl))) next.1
+  served_err d' now reader' left' past Sink next moves on long =
+      let n = reply_is_next mid_d (lines_of served.rest) (leading_line served.rest) (lines_of (after_line served.rest)) (first_of_lines served.rest next.0) in
+      HasSent-front before mid now _ _ (reply_of (line_step mid_d (leading_line served.rest))) n.0 served.sent next.1 n.1
+  served_err d' now reader' left' past Memory next moves on long =
+      let n = reply_is_next mid_d (lines_of served.rest) (leading_line served.rest) (lines_of (after_line served.rest)) (first_of_lines served.rest next.1) in
+      let sent = HasSent-same before mid now _ _ served.sent next.0 in
+      (HasSent-first before now _ _ sent, inl (HasSent-less before now _ _ (reply_of (line_step mid_d (leading_line served.rest))) n.0 sent n.1 next.2))
+  served_err d' now reader' left' past TooLong next moves on long =
+      too_long_here now reader' left' next.1.0 next.0 (served.at_line (on (inr refl))) next.1.1 (subst (λ (n : ℕ). Moves limit n reader reader' left left') (long refl).0 moves) (long refl).1
+
+-- ---- the answer to the next line
+
+-- a line that is too long is bad, whatever it holds
+pub long_step : (d : Session) (line : List ℕ) → 65536 < length line → line_step d line ≡ record { session = d; outcome = Refused BadLine; lines = [] }
+unfolding line_step
+long_step d line long =
+    let is : nat_lt 65536 (length line) ≡ true = grind (arith, nat_tests, long) in
+    rw is refl
+
+-- what the answer to a line leaves, whatever becomes of it
+pub next_answered : (text : List ℕ) (before now : Option (List ℕ)) (d d' : Session) (reader : Reader) (left : Option (List ℕ)) (r : Result Outcome End)
+    → 0 < length text → to_come reader left ≡ Some (after_line text) → (reader.ended ≡ false → has_line_end text ≡ true)
+    → OnOk r ((line_step d (leading_line text)).session ≡ d') → IfOk r (λ outcome. (line_step d (leading_line text)).outcome ≡ outcome) → OnOk r (Writes before now (reply_of (line_step d (leading_line text))))
+    → (r ≡ Err Memory → now ≡ before) → (r ≡ Err Memory → 0 < length (reply_of (line_step d (leading_line text)))) → (r ≡ Err Sink → WritesFront before now (reply_of (line_step d (leading_line text))))
+    → r ≢ Err Files → r ≢ Err TooLong → ServesNext text before now d d' reader left r
+next_answered text before now d d' reader left (Ok outcome) some later last session outcome_is written memory replies front no_files no_limit =
+    inr (record { some = some; session = session; outcome_is = outcome_is; written = written; later = later; last = last })
+next_answered text before now d d' reader left (Err Files) some later last session outcome_is written memory replies front no_files no_limit = absurd (no_files refl)
+next_answered text before now d d' reader left (Err Sink) some later last session outcome_is written memory replies front no_files no_limit = (some, front refl)
+next_answered text before now d d' reader left (Err Memory) some later last session outcome_is written memory replies front no_files no_limit = (memory refl, some, replies refl)
+next_answered text before now d d' reader left (Err TooLong) some later last session outcome_is written memory replies front no_files no_limit = absurd (no_limit refl)
+
+-- the same of a line that is too long
+pub next_refused : (text : List ℕ) (before now : Option (List ℕ)) (d : Session) (reader : Reader) (left : Option (List ℕ)) (r : Result Outcome End)
+    → 65536 < length (leading_line text) → 0 < length text → to_come reader left ≡ Some (after_line text) → (reader.ended ≡ false → has_line_end text ≡ true)
+    → IfOk r (λ outcome. outcome ≡ Refused BadLine) → OnOk r (Writes before now (refusal_line BadLine))
+    → (r ≡ Err Memory → now ≡ before) → (r ≡ Err Memory → 0 < length (refusal_line BadLine)) → (r ≡ Err Sink → WritesFront before now (refusal_line BadLine))
+    → r ≢ Err Files → r ≢ Err TooLong → ServesNext text before now d d reader left r
+next_refused text before now d reader left (Ok outcome) long some later last outcome_is written memory replies front no_files no_limit =
+    let step = long_step d (leading_line text) long in
+    inr (record { some = some; session = ap (λ s. s.session) step; outcome_is = ap (λ s. s.outcome) step ∙ sym outcome_is; written = rw step written; later = later; last = last })
+next_refused text before now d reader left (Err Files) long some later last outcome_is written memory replies front no_files no_limit = absurd (no_files refl)
+next_refused text before now d reader left (Err Sink) long some later last outcome_is written memory replies front no_files no_limit = (some, rw (long_step d (leading_line text) long) (front refl))
+next_refused text before now d reader left (Err Memory) long some later last outcome_is written memory replies front no_files no_limit = (memory refl, some, rw (long_step d (leading_line text) long) (replies refl))
+next_refused text before now d reader left (Err TooLong) long some later last outcome_is written memory replies front no_files no_limit = absurd (no_limit refl)
+
+-- what only grew, twice
+pub grows_then : (a b c : Option (List ℕ)) → Grows a b → Grows b c → Grows a c
+grows_then a b c first second = (first.0 ++ second.0, Writes-append a b c first.0 second.0 first.1 second.1)
+
+-- a text with a long line isn't empty
+pub some_of : (text : List ℕ) → 65536 < length (leading_line text) → 0 < length text
+some_of [] long = absurd (omega (arith, long))
+some_of (b ∷ bs) long = omega arith
