@@ -1,9 +1,0 @@
-use Rattle.std.proofs.Common.{◌≡◌, drop}
-use Rattle.std.specs.List.{list_any}
-use Rattle.tt_plan.specs.Domain.{domain_of}
-use Rattle.tt_search.specs.Turns.{has_open_value, is_open}
-use Rattle.tt_search.proofs.turn.has_open_value.Given as goal
-
-abbrev pub invariant-loop-k : goal.invariant-loop-k
-invariant-loop-k l =
-    list_any (is_open l.problem l.class) (drop l.k (domain_of l.problem l.class)) ≡ has_open_value l.problem l.class
