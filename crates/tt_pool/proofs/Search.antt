@@ -1,5 +1,5 @@
 -- A walk that looks for an item.
-use Rattle.std.proofs.Common.{◌≡◌, ◌≢◌, ◌∙◌, sym, ap, ℕ, ◌+◌, ◌-◌, ◌<◌, ◌≤◌, List, length, get_or, map, arith, false, below_more, inl, inr, [], ◌∷◌}
+use Rattle.std.proofs.Common.{◌≡◌, ◌∙◌, sym, ap, ℕ, ◌+◌, ◌-◌, ◌<◌, ◌≤◌, List, length, get_or, map, arith, Bool, true, false, below_more, inl, inr, [], ◌∷◌}
 use Rattle.std.specs.Prelude.{◌==◌}
 use Rattle.std.specs.List.{position_or_len}
 use Rattle.std.proofs.lemmas.Bool.{cases_eq, eq-eqb, ne_eqb}
@@ -19,36 +19,35 @@ item-get_or nodes chain k lt =
 length-items : (nodes : List Node) (chain : Chain) → length (map (item_of nodes) (chain_of nodes chain)) ≡ chain.len
 length-items nodes chain = length-map (chain_of nodes chain) (item_of nodes) ∙ length-path nodes chain.len chain.first.0
 
-none_before : (nodes : List Node) (chain : Chain) (at before node item : ℕ) → IsSearched nodes chain.first.0 at before node item → at ≤ chain.len
-    → (k : ℕ) → k < at → (get_or (map (item_of nodes) (chain_of nodes chain)) k 0 == item) ≡ false
-none_before nodes chain at before node item s le k lt =
-    rw (item-get_or nodes chain k (omega arith)) (ne_eqb _ _ (s.others k lt))
+none_before : (nodes : List Node) (chain : Chain) (at before node : ℕ) (f : ℕ → Bool) → IsSearched nodes chain.first.0 at before node f → at ≤ chain.len
+    → (k : ℕ) → k < at → f (get_or (map (item_of nodes) (chain_of nodes chain)) k 0) ≡ false
+none_before nodes chain at before node f s le k lt = ap f (item-get_or nodes chain k (omega arith)) ∙ s.others k lt
 
-pub place_found : (nodes : List Node) (chain : Chain) (at before node item : ℕ) → IsSearched nodes chain.first.0 at before node item
-    → at < chain.len → item_of nodes node ≡ item
-    → at ≡ position_or_len (λ x. x == item) (map (item_of nodes) (chain_of nodes chain))
-place_found nodes chain at before node item s lt is =
+pub place_found : (nodes : List Node) (chain : Chain) (at before node : ℕ) (f : ℕ → Bool) → IsSearched nodes chain.first.0 at before node f
+    → at < chain.len → f (item_of nodes node) ≡ true
+    → at ≡ position_or_len f (map (item_of nodes) (chain_of nodes chain))
+place_found nodes chain at before node f s lt is =
     let all = length-items nodes chain in
-    sym (position_or_len_is (λ (x : ℕ). x == item) (map (item_of nodes) (chain_of nodes chain)) at 0 (omega arith)
-    (none_before nodes chain at before node item s (omega arith))
-    (λ here. rw (item-get_or nodes chain at lt) (eq-eqb _ _ (ap (item_of nodes) (sym s.node_is) ∙ is))))
+    sym (position_or_len_is f (map (item_of nodes) (chain_of nodes chain)) at 0 (omega arith)
+    (none_before nodes chain at before node f s (omega arith))
+    (λ here. ap f (item-get_or nodes chain at lt) ∙ ap (λ (n : ℕ). f (item_of nodes n)) (sym s.node_is) ∙ is))
 
-pub place_none : (nodes : List Node) (chain : Chain) (at before node item : ℕ) → IsSearched nodes chain.first.0 at before node item
+pub place_none : (nodes : List Node) (chain : Chain) (at before node : ℕ) (f : ℕ → Bool) → IsSearched nodes chain.first.0 at before node f
     → at ≤ chain.len → chain.len ≤ at
-    → chain.len ≡ position_or_len (λ x. x == item) (map (item_of nodes) (chain_of nodes chain))
-place_none nodes chain at before node item s le ge =
+    → chain.len ≡ position_or_len f (map (item_of nodes) (chain_of nodes chain))
+place_none nodes chain at before node f s le ge =
     let all = length-items nodes chain in
     let e : chain.len ≡ at = omega arith in
-    e ∙ sym (position_or_len_is (λ (x : ℕ). x == item) (map (item_of nodes) (chain_of nodes chain)) at 0 (omega arith)
-    (none_before nodes chain at before node item s le)
+    e ∙ sym (position_or_len_is f (map (item_of nodes) (chain_of nodes chain)) at 0 (omega arith)
+    (none_before nodes chain at before node f s le)
     (λ here. absurd (omega arith)))
 
-pub searched_more : (nodes : List Node) (first at before node item : ℕ) → IsSearched nodes first at before node item → item_of nodes node ≢ item
-    → IsSearched nodes first (at + 1) node (next_of nodes node) item
-searched_more nodes first at before node item s ne = record {
+pub searched_more : (nodes : List Node) (first at before node : ℕ) (f : ℕ → Bool) → IsSearched nodes first at before node f → f (item_of nodes node) ≡ false
+    → IsSearched nodes first (at + 1) node (next_of nodes node) f
+searched_more nodes first at before node f s fails = record {
   before_is = λ some. let e : at + 1 - 1 ≡ at = omega arith in rw e s.node_is;
   node_is = ap (next_of nodes) s.node_is ∙ sym (after_more nodes at first);
-  others = below_more _ _ s.others (λ e. ne (ap (item_of nodes) s.node_is ∙ e));
+  others = below_more _ _ s.others (ap (λ (n : ℕ). f (item_of nodes n)) (sym s.node_is) ∙ fails);
 }
 
 -- an item that stands in a list has a first place there

@@ -105,14 +105,10 @@ impl Pool {
         ensures lists { self.new.lists ≡ slice_set self.old.lists list (insert (list_at self.old list) (position_or_len (nat_lt item) (list_at self.old list)) item) }
         ensures spare { self.new.spare + 1 ≡ self.old.spare }
     {
-        let mut at = 0;
-        for other in self.items(list) {
-            if item < other {
-                break;
-            }
-            at += 1;
-        }
-        self.insert(list, at, item);
+        let nodes = self.nodes.as_mut_slice();
+        let lists = self.lists.as_mut_slice();
+        let place = place_above(nodes, lists[list as usize], item);
+        self.free = put_in(nodes, lists, self.free, list, place, item);
     }
 
     /// Takes the item at a place out of a list.
@@ -260,6 +256,28 @@ fn place_of(nodes: &[Node], chain: Chain, item: u32) -> Place
     for at in 0..chain.len {
         let here = nodes[node.0 as usize];
         if here.item == item {
+            return Place { at, before };
+        }
+        before = node;
+        node = here.next;
+    }
+    Place {
+        at: chain.len,
+        before,
+    }
+}
+
+/// The place of the first node in a chain whose item is above this one, and the end where none is.
+fn place_above(nodes: &[Node], chain: Chain, item: u32) -> Place
+    requires { IsChain nodes.now (chain_of nodes.now chain) }
+    ensures place { IsPlace nodes.now chain result }
+    ensures at { result.at ≡ position_or_len (nat_lt item) (map (item_of nodes.now) (chain_of nodes.now chain)) }
+{
+    let mut before = chain.first;
+    let mut node = chain.first;
+    for at in 0..chain.len {
+        let here = nodes[node.0 as usize];
+        if item < here.item {
             return Place { at, before };
         }
         before = node;
@@ -431,6 +449,22 @@ mod tests {
         assert_eq!(rt; pool.len(1), 1);
         assert_eq!(rt; pool.len(0), 1);
         assert_eq!(rt; pool.spare(), 1);
+        Ok(())
+    }
+
+    #[test]
+    fn items_go_into_their_order(rt: HostRuntime) -> Result<(), Fail> {
+        let mut pool = Pool::new(rt.alloc(), 1, 4)?;
+        pool.insert_in_order(0, 5);
+        pool.insert_in_order(0, 9);
+        pool.insert_in_order(0, 2);
+        pool.insert_in_order(0, 7);
+        let mut items = pool.items(0);
+        assert_eq!(rt; items.next(), Some(2));
+        assert_eq!(rt; items.next(), Some(5));
+        assert_eq!(rt; items.next(), Some(7));
+        assert_eq!(rt; items.next(), Some(9));
+        assert_eq!(rt; items.next(), None);
         Ok(())
     }
 
