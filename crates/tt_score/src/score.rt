@@ -11,7 +11,7 @@ use crate::totals::{Totals, weighted};
 use crate::trial::costs_with;
 use std::alloc::{AllocError, Global};
 use tt_bits::{Time, Value};
-use tt_clash::{Closures, conflicts};
+use tt_clash::{Closures, conflicts, conflicts_within};
 use tt_measure::Measure;
 use tt_occupancy::Occupancy;
 use tt_problem::sums::cells_of;
@@ -36,7 +36,7 @@ pub struct Score {
 }
 
 impl Score {
-    ghost use Rattle.std.specs.Prelude.{◌≡◌, ◌<◌, ◌≤◌, ◌++◌, ◌∷◌, All, Some, None, IsSome, IfSome, IfOk, OnOk, OnErr, [], false, true, length, slice_index, replicate, slice_get, slice_set, slice_index_or, option_and_then, take};
+    ghost use Rattle.std.specs.Prelude.{◌≡◌, ◌↔◌, ◌<◌, ◌≤◌, ◌++◌, ◌∷◌, All, Some, None, IsSome, IfSome, IfOk, OnOk, OnErr, [], false, true, length, slice_index, replicate, slice_get, slice_set, slice_index_or, option_and_then, take};
     ghost use Rattle.std.specs.Option.{option_map_or};
     ghost use Rattle.tt_problem.specs.declared.parts.Parts.{Parts};
     ghost use Rattle.tt_problem.specs.declared.parts.Rule.{Rule};
@@ -415,6 +415,48 @@ impl Score {
             self.groups.as_mut_slice(),
             class,
             spot,
+            marks,
+            order,
+        )
+    }
+
+    /// The same as `conflicts`, where no more than `most` classes have to go, else none: it gives up
+    /// as soon as it knows.
+    pub fn conflicts_within(
+        &mut self,
+        problem: &Problem,
+        class: u32,
+        value: Value,
+        most: u32,
+        marks: &mut [bool],
+        order: &mut [u32],
+    ) -> Option<u32>
+        requires fits { Fits problem.now self.old }
+        requires value { IsOfDomain problem.now class value }
+        requires open { option_and_then (blocked_by problem.now (closures_of self.old) class) (spot_at_value problem.now class value) ≡ None }
+        requires marks { length marks.old ≡ length problem.now.classes }
+        requires unmarked { All (λ marked. marked ≡ false) marks.old }
+        requires order { length order.old ≡ length problem.now.classes }
+        ensures none { (result ≡ None)
+            ↔ (most < length (option_map_or (conflict_set problem.now (rule_amounts problem.now) (spots_of problem.now (plan_of self.old)) class) (spot_at_value problem.now class value) [])) }
+        ensures set { IfSome result (λ count. take count order.new
+            ≡ option_map_or (conflict_set problem.now (rule_amounts problem.now) (spots_of problem.now (plan_of self.old)) class) (spot_at_value problem.now class value) []) }
+        ensures few { IfSome result (λ count. count ≤ length order.new) }
+        ensures marks { marks.new ≡ marks.old }
+        ensures plan { plan_of self.new ≡ plan_of self.old }
+        ensures lists { student_lists self.new ≡ student_lists self.old }
+        ensures closures { closures_of self.new ≡ closures_of self.old }
+        ensures fits { Fits problem.now self.new }
+    {
+        let spot = tt_plan::spot(problem, class, value);
+        conflicts_within(
+            problem,
+            self.occupancy.spots(),
+            &self.occupancy,
+            self.groups.as_mut_slice(),
+            class,
+            spot,
+            most,
             marks,
             order,
         )

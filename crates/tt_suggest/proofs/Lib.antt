@@ -3,5 +3,6 @@ pub mod TreeLemmas
 pub mod BackLemmas
 pub mod MovedLemmas
 pub mod WaitingLemmas
+pub mod FollowLemmas
 pub mod FoundLemmas
 pub mod AnswerLemmas

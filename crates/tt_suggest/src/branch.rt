@@ -1,4 +1,4 @@
-ghost use Rattle.std.specs.Prelude.{◌≡◌, ◌+◌, ◌==◌, ◌∷◌, ◌++◌, [], ◌<◌, IsTrue, IfOk, None, is_none, length, ◌&&◌};
+ghost use Rattle.std.specs.Prelude.{◌≡◌, ◌+◌, ◌==◌, ◌∷◌, ◌++◌, [], ◌<◌, ◌↔◌, IsTrue, IfOk, IfSome, None, length};
 ghost use Rattle.std.specs.List.{list_any};
 ghost use Rattle.tt_plan.specs.Domain.{IsOfDomain};
 ghost use Rattle.tt_state.specs.History.{with_taken};
@@ -10,9 +10,6 @@ ghost use Rattle.tt_suggest.specs.Walks.{node_of};
 use crate::suggestion::Move;
 use std::alloc::{AllocError, Global};
 use tt_bits::Value;
-use tt_clash::{Closures, blocked};
-use tt_plan::spot;
-use tt_problem::Problem;
 use tt_state::State;
 
 /// A node of the tree of placements whose snapshot is the present one and where a class waits.
@@ -28,16 +25,6 @@ pub(crate) struct Branch {
     pub spare: u32,
     /// How many published classes are moved.
     pub moved: u32,
-}
-
-/// Whether a value isn't blocked.
-#[tactic(auto, unfolding(tt_state::specs::Values::blocked_of))]
-fn is_open(problem: &Problem, closures: &Closures, class: u32, value: Value) -> bool
-    requires { IsOfDomain problem.now class value }
-    ensures value { result ≡ is_none (blocked_of problem.now closures.now class value) }
-    ensures free { IsTrue result → blocked_of problem.now closures.now class value ≡ None }
-{
-    blocked(problem, closures, class, spot(problem, class, value)).is_none()
 }
 
 /// The value that a class has at present.
@@ -83,13 +70,31 @@ impl Branch {
         self.path.len() == 0 && at_value
     }
 
-    /// Whether no more classes wait than may be placed, and none of those pushed out was placed on
-    /// the way.
-    fn may_follow(&self, conflicts: &[u32]) -> bool
-        ensures { result ≡ may_follow self.now.spare self.now.path.items self.now.others.items conflicts.now }
+    /// How many classes the class at a value may push out, so that no more wait than may be placed.
+    fn most_conflicts(&self) -> Option<u32>
+        ensures none { (result ≡ None) ↔ (self.now.spare < length self.now.others.items) }
+        ensures value { IfSome result (λ most. most + length self.now.others.items ≡ self.now.spare) }
     {
-        self.others.len() + conflicts.len() <= self.spare as usize
-            && !is_any_on(self.path.as_slice(), conflicts)
+        let most = (self.spare as usize).checked_sub(self.others.len())?;
+        Some(most as u32)
+    }
+
+    /// Whether no more classes wait than may be placed, once the class has a value that isn't blocked,
+    /// and none of those pushed out was placed on the way. Where it is so, its conflict set was found
+    /// last.
+    #[tactic(auto, using(crate::proofs::FollowLemmas::follows_none, crate::proofs::FollowLemmas::follows_within))]
+    fn may_follow(&self, state: &mut State, value: Value) -> bool
+        requires value { IsOfDomain state.old.problem self.now.class value }
+        requires open { blocked_of state.old.problem state.old.present.closures self.now.class value ≡ None }
+        ensures follows { result ≡ may_follow self.now.spare self.now.path.items self.now.others.items (conflicts_of state.old.problem state.old.present self.now.class value) }
+        ensures same { with_taken state.new [] ≡ with_taken state.old [] }
+        ensures taken { IsTrue result → state.new.taken ≡ conflicts_of state.old.problem state.old.present self.now.class value }
+    {
+        let Some(most) = self.most_conflicts() else {
+            return false;
+        };
+        state.find_conflicts_within(self.class, value, most)
+            && !is_any_on(self.path.as_slice(), state.taken())
     }
 
     /// Whether no class waits once the class has a value that pushes out these.
@@ -107,14 +112,13 @@ impl Branch {
         ensures same { with_taken state.new [] ≡ with_taken state.old [] }
         ensures taken { IsTrue result → state.new.taken ≡ conflicts_of state.old.problem state.old.present self.now.class value }
     {
-        if !is_open(state.problem(), state.score().closures(), self.class, value) {
+        if state.blocked(self.class, value).is_some() {
             return false;
         }
         if self.stays_at_root(state, value) {
             return false;
         }
-        state.find_conflicts(self.class, value);
-        self.may_follow(state.taken())
+        self.may_follow(state, value)
     }
 
     /// The placements that led here, with that of the class at a value.

@@ -1,0 +1,53 @@
+use Rattle.std.proofs.Common.{◌≡◌, ◌<◌, ℕ, List, None, length, take, subst, arith}
+use Rattle.std.specs.Prelude.{◌↔◌, IfSome}
+use Rattle.tt_plan.specs.Domain.{spot_at_value}
+use Rattle.std.proofs.lemmas.List.{with_items_is}
+use Rattle.tt_clash.specs.Blocked.{blocked_by}
+use Rattle.tt_score.proofs.ConflictLemmas.{rooms-of, held-by, free-alone, groups-same, set-agree}
+use Rattle.tt_score.proofs.score.Score.conflicts_within.Goals as goal
+
+pub conflicts_within-requires-clause-rooms : goal.conflicts_within-requires-clause-rooms
+conflicts_within-requires-clause-rooms c =
+    let e = c.spots.ensures in
+    let kept = c.requires.fits.kept in
+    rw e (rooms-of c.args.problem.now c.args.self.now.occupancy.spots kept.valid.travel_rooms kept.of_classes)
+
+pub conflicts_within-requires-clause-groups : goal.conflicts_within-requires-clause-groups
+conflicts_within-requires-clause-groups c =
+    rw (c.spots.ensures, c.as_mut_slice.ensures.value) (held-by c.args.problem.now c.args.self.now.occupancy.spots c.args.self.now.groups.items c.requires.fits.grouped)
+
+pub conflicts_within-requires-clause-free : goal.conflicts_within-requires-clause-free
+conflicts_within-requires-clause-free c =
+    let none : blocked_by c.args.problem.now c.args.self.now.closures c.args.class c.spot-spot.result ≡ None = rw c.spot-spot.ensures.spot at c.requires.open in
+    rw c.as_mut_slice.ensures.value (free-alone c.args.problem.now c.args.self.now.closures c.args.self.now.occupancy.spots c.args.self.now.groups.items c.args.class c.spot-spot.result c.requires.fits.grouped none)
+
+pub returns-clause-none : goal.returns-clause-none
+returns-clause-none c =
+    let s = c.args.self.now in
+    let same = set-agree c.args.problem.now s.groups.items c.as_mut_slice.result.now s.plan.items s.occupancy.spots c.spots.result.now c.args.class c.spot-spot.result
+    (spot_at_value c.args.problem.now c.args.class c.args.value) c.requires.fits.grouped c.as_mut_slice.ensures.value c.spots.ensures c.requires.fits.kept.spots c.spot-spot.ensures.spot in
+    subst (λ (l : List ℕ). (c.conflicts_within.result ≡ None) ↔ (c.args.most < length l)) same c.conflicts_within.ensures.none
+
+pub returns-clause-set : goal.returns-clause-set
+returns-clause-set c =
+    let s = c.args.self.now in
+    let same = set-agree c.args.problem.now s.groups.items c.as_mut_slice.result.now s.plan.items s.occupancy.spots c.spots.result.now c.args.class c.spot-spot.result
+    (spot_at_value c.args.problem.now c.args.class c.args.value) c.requires.fits.grouped c.as_mut_slice.ensures.value c.spots.ensures c.requires.fits.kept.spots c.spot-spot.ensures.spot in
+    subst (λ (l : List ℕ). IfSome c.conflicts_within.result (λ count. take count c.conflicts_within.new.order ≡ l)) same c.conflicts_within.ensures.set
+
+pub returns-clause-fits : goal.returns-clause-fits
+returns-clause-fits c =
+    let p = c.args.problem.now in
+    let s = c.args.self.now in
+    let fits = c.requires.fits in
+    let held = rw c.spots.ensures at c.conflicts_within.ensures.groups in
+    let same = rw c.as_mut_slice.ensures.value at c.conflicts_within.ensures.same in
+    let grouped = groups-same p s.occupancy.spots s.groups.items c.conflicts_within.new.groups fits.grouped held same in
+    rw (with_items_is s.groups c.conflicts_within.new.groups (omega (arith, grouped.count, fits.grouped.count, s.groups.ok.0)))
+    (record {
+      kept = fits.kept;
+      grouped = grouped;
+      roster = fits.roster;
+      placed = fits.placed;
+      counted = fits.counted;
+    })
