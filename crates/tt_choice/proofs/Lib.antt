@@ -2,7 +2,9 @@ pub mod PairLemmas
 pub mod ToCome
 pub mod Work
 pub mod Walked
-pub mod FoundLemmas
+pub mod EachLemmas
+pub mod OpenLemmas
+pub mod VainLemmas
 pub mod Steps
 pub mod Order
 pub mod CourseLemmas

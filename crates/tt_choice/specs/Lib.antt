@@ -5,6 +5,7 @@ pub mod Situations
 pub mod Standings
 pub mod Found
 pub mod Ahead
+pub mod Open
 pub mod Tables
 pub mod Ready
 pub mod Seating

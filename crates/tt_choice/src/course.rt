@@ -1,15 +1,16 @@
-ghost use Rattle.std.specs.Prelude.{◌≡◌, ◌+◌, ◌<◌, ◌≤◌, ◌++◌, ◌∷◌, [], None, length, IfSome, All};
+ghost use Rattle.std.specs.Prelude.{◌≡◌, ◌+◌, ◌-◌, ◌<◌, ◌≤◌, ◌++◌, ◌∷◌, [], None, false, length, take, IfNone, IfSome, All};
 ghost use Rattle.tt_choice.specs.Least.{pairs_added, least_choice};
 ghost use Rattle.tt_choice.specs.Passed.{better, passed};
-ghost use Rattle.tt_choice.specs.Ahead.{IsLeastOf, AreSure};
+ghost use Rattle.tt_choice.specs.Ahead.{AreSure, IsSure};
 ghost use Rattle.tt_problem.specs.Spans.{IsSpanWithin};
-ghost use Rattle.tt_choice.specs.Tables.{AreInOrder, AreTables};
+ghost use Rattle.tt_choice.specs.Tables.{AreTables};
 ghost use Rattle.tt_choice.specs.Choices.{choices_at, choices_of, choices_of_course};
 ghost use Rattle.tt_choice.specs.Ready.{HasRoom};
 ghost use Rattle.tt_choice.specs.Situations.{situation_of};
 ghost use Rattle.tt_choice.specs.Standings.{situation_in};
-ghost use Rattle.tt_choice.specs.Found.{chosen, chosen_by, has_fewer, is_orphan, may_follow, pairs_if_open, IsFoundIn};
+ghost use Rattle.tt_choice.specs.Found.{chosen, chosen_by, has_fewer, IsFoundIn, IsInVain};
 
+use crate::ahead::{is_open, look_ahead, may_come, sure_across};
 use crate::buffers::ChoiceBuffers;
 use crate::standing::Standing;
 use tt_problem::Span;
@@ -32,24 +33,6 @@ fn is_fewer(found: Option<Found>, pairs: u64) -> bool
     }
 }
 
-/// Whether the parent of a class stands before it, and is neither in the front nor already taken.
-#[tactic(auto, using(tt_base::proofs::ListLemmas::listed_turned))]
-fn is_orphan(standing: &Standing, taken: &[u32], front: &[u32], class: u32) -> bool
-    ensures { result ≡ is_orphan (situation_in standing.now taken.now) front.now class }
-{
-    match standing.parent_of(class) {
-        None => false,
-        Some(parent) => parent < class && !front.contains(&parent) && !taken.contains(&parent),
-    }
-}
-
-/// Whether a class may stand next after a front.
-fn may_follow(standing: &Standing, taken: &[u32], front: &[u32], class: u32) -> bool
-    ensures { result ≡ may_follow (situation_in standing.now taken.now) front.now class }
-{
-    standing.has_seat(class) && !is_orphan(standing, taken, front, class)
-}
-
 /// How many pairs a front adds together with one more class.
 fn pairs_with(standing: &Standing, taken: &[u32], front: &[u32], pairs: u64, class: u32) -> u64
     requires pairs { pairs ≡ pairs_added (situation_in standing.now taken.now) front.now }
@@ -63,29 +46,64 @@ fn pairs_with(standing: &Standing, taken: &[u32], front: &[u32], pairs: u64, cla
         + standing.pairs_with(front, class) as u64
 }
 
-/// How many pairs a front adds together with one more class, and `None` where no choice that goes
-/// on so can be taken for the best: the class may not follow, or the pairs, together with those that
-/// are sure to come, are no fewer.
+/// Whether a choice that goes on from a front with a class of each later subpart may be taken for the
+/// best. `ahead` pairs of these classes are sure to come, beside those with the front.
+fn leads_on(
+    standing: &Standing,
+    taken: &[u32],
+    front: &[u32],
+    rest: &[Span],
+    pairs: u64,
+    ahead: u64,
+    found: Option<Found>,
+) -> bool
+    requires pairs { pairs ≡ pairs_added (situation_in standing.now taken.now) front.now }
+    requires sure { IsSure (situation_in standing.now taken.now) rest.now ahead }
+    requires few_front { length front.now ≤ 20000 }
+    requires few_rest { length rest.now ≤ 20000 }
+    requires few_pairs { pairs ≤ 17000000000 }
+    requires few_ahead { ahead ≤ 16400000000 }
+    ensures { result ≡ false → IsInVain (situation_in standing.now taken.now) found front.now rest.now }
+{
+    let sure = pairs + ahead;
+    if !is_fewer(found, sure) {
+        return false;
+    }
+    if !is_open(standing, taken, front, rest) {
+        return false;
+    }
+    let across = sure_across(standing, front, rest);
+    is_fewer(found, sure + across)
+}
+
+/// How many pairs a front adds, from how many it adds without its last class, and `None` where no
+/// choice that goes on from it can be taken for the best.
 fn pairs_through(
     standing: &Standing,
     taken: &[u32],
     front: &[u32],
+    rest: &[Span],
     pairs: u64,
-    class: u32,
-    found: Option<Found>,
     ahead: u64,
+    found: Option<Found>,
 ) -> Option<u64>
-    requires pairs { pairs ≡ pairs_added (situation_in standing.now taken.now) front.now }
+    requires some { 0 < length front.now }
+    requires pairs { pairs ≡ pairs_added (situation_in standing.now taken.now) (take (length front.now - 1) front.now) }
+    requires sure { IsSure (situation_in standing.now taken.now) rest.now ahead }
     requires few_taken { length taken.now ≤ 800000 }
-    requires few { length front.now ≤ 20000 }
-    requires few_ahead { ahead ≤ 16000000000 }
-    ensures { result ≡ pairs_if_open (situation_in standing.now taken.now) found front.now class ahead }
+    requires few_front { length front.now ≤ 20000 }
+    requires few_rest { length rest.now ≤ 20000 }
+    requires few_ahead { ahead ≤ 16400000000 }
+    ensures some { IfSome result (λ more. more ≡ pairs_added (situation_in standing.now taken.now) front.now) }
+    ensures none { IfNone result (IsInVain (situation_in standing.now taken.now) found front.now rest.now) }
 {
-    if !may_follow(standing, taken, front, class) {
+    let last = front.len() - 1;
+    let class = front[last];
+    if !may_come(standing, taken, front, rest, class) {
         return None;
     }
-    let more = pairs_with(standing, taken, front, pairs, class);
-    if is_fewer(found, more + ahead) {
+    let more = pairs_with(standing, taken, &front[..last], pairs, class);
+    if leads_on(standing, taken, front, rest, more, ahead, found) {
         Some(more)
     } else {
         None
@@ -118,42 +136,9 @@ fn keep(
     }
 }
 
-/// The fewest pairs that a class of a span with a seat has with the classes already taken.
-fn least_pairs(standing: &Standing, taken: &[u32], span: Span) -> u64
-    ensures least { IsLeastOf (situation_in standing.now taken.now) span result }
-    ensures few { result ≤ length taken.now }
-{
-    let mut least = taken.len() as u64;
-    for class in span.first..span.after {
-        if standing.has_seat(class) {
-            let pairs = standing.pairs_with_taken(taken, class) as u64;
-            if pairs < least {
-                least = pairs;
-            }
-        }
-    }
-    least
-}
-
-/// Writes how many pairs with the classes already taken are sure to come, from each subpart on.
-fn look_ahead(standing: &Standing, taken: &[u32], subparts: &[Span], ahead: &mut [u64])
-    requires few { length subparts.now ≤ 20000 }
-    requires few_taken { length taken.now ≤ 800000 }
-    requires long { length subparts.now < length ahead.old }
-    ensures { AreSure (situation_in standing.now taken.now) subparts.now ahead.new }
-{
-    let mut place = subparts.len();
-    ahead[place] = 0;
-    while place > 0 {
-        let sure = ahead[place];
-        place -= 1;
-        ahead[place] = least_pairs(standing, taken, subparts[place]) + sure;
-    }
-}
-
 /// Passes all choices of a configuration of these subparts, and keeps the best. `front` has the
-/// classes chosen so far, `class` is the next to be tried. A class without a seat is passed over,
-/// and so is one with which the front adds no fewer pairs than the best.
+/// classes chosen so far, `class` is the next to be tried. A class with which the front leads on to
+/// no better choice is passed over.
 fn pass(
     standing: &Standing,
     taken: &[u32],
@@ -166,7 +151,6 @@ fn pass(
     requires sure { AreSure (situation_in standing.now taken.now) subparts.now ahead.now }
     requires some { 0 < length subparts.now }
     requires spans { All (λ s. s.after ≤ 20000) subparts.now }
-    requires order { AreInOrder subparts.now }
     requires few { length subparts.now ≤ 20000 }
     requires few_taken { length taken.now ≤ 800000 }
     requires front { length subparts.now ≤ length front.old }
@@ -181,18 +165,18 @@ fn pass(
     let mut class = subparts[0].first;
     'walk: loop {
         if class < subparts[depth].after {
+            front[depth] = class;
             match pairs_through(
                 standing,
                 taken,
-                &front[..depth],
+                &front[..depth + 1],
+                &subparts[depth + 1..],
                 pairs,
-                class,
-                found,
                 ahead[depth + 1],
+                found,
             ) {
                 None => class += 1,
                 Some(more) => {
-                    front[depth] = class;
                     if depth + 1 < subparts.len() {
                         depth += 1;
                         pairs = more;
@@ -212,6 +196,35 @@ fn pass(
             class += 1;
         }
     }
+}
+
+/// Passes all choices of a configuration, and keeps the best. Where a subpart has no class that could
+/// be in a choice, there is none to pass.
+fn pass_open(
+    standing: &Standing,
+    taken: &[u32],
+    subparts: &[Span],
+    ahead: &mut [u64],
+    front: &mut [u32],
+    best: &mut [u32],
+    found: Option<Found>,
+) -> Option<Found>
+    requires some { 0 < length subparts.now }
+    requires spans { All (λ s. s.after ≤ 20000) subparts.now }
+    requires few { length subparts.now ≤ 20000 }
+    requires few_taken { length taken.now ≤ 800000 }
+    requires ahead { length subparts.now < length ahead.old }
+    requires front { length subparts.now ≤ length front.old }
+    requires room { length subparts.now ≤ length best.old }
+    requires found { IfSome found (IsFoundIn (situation_in standing.now taken.now) best.old) }
+    ensures best { chosen best.new result ≡ passed (situation_in standing.now taken.now) (chosen best.old found) (choices_of subparts.now) }
+    ensures found { IfSome result (IsFoundIn (situation_in standing.now taken.now) best.new) }
+{
+    if !is_open(standing, taken, &[], subparts) {
+        return found;
+    }
+    look_ahead(standing, taken, subparts, ahead);
+    pass(standing, taken, subparts, ahead, front, best, found)
 }
 
 /// How many pairs a front adds, from how many it adds together with one more class.
@@ -250,8 +263,7 @@ fn least_choice(
     for place in course.first..course.after {
         let config = configs[place as usize];
         let parts = &subparts[config.first as usize..config.after as usize];
-        look_ahead(standing, taken, parts, ahead);
-        found = pass(standing, taken, parts, ahead, front, best, found);
+        found = pass_open(standing, taken, parts, ahead, front, best, found);
     }
     match found {
         None => None,

@@ -2,6 +2,7 @@
 //! those that a student may take.
 #![tactic(auto)]
 
+mod ahead;
 mod buffers;
 mod course;
 mod seating;
