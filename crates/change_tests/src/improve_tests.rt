@@ -1,6 +1,7 @@
 use std::alloc::Global;
 use std::test::Fail;
 use tt_improve::{Improved, improve};
+use tt_io::Silent;
 use tt_plan::find;
 use tt_read::read;
 use tt_state::State;
@@ -76,7 +77,7 @@ fn totals(state: &State) -> (u128, u64, u32) {
 
 // Whether so many of some rounds change something.
 fn changes(alloc: Global, state: &mut State, rounds: u32, seed: u64, changed: u32) -> bool {
-    improve(alloc, state, rounds, seed) == Ok(Improved { rounds, changed })
+    improve(alloc, state, rounds, seed, &mut Silent) == Ok(Improved { rounds, changed })
 }
 
 // Whether the first of the rounds gives the class its least value, and no later one changes it.
@@ -99,7 +100,7 @@ fn goes_back(state: &mut State) -> bool {
 
 // Whether the rounds stop at once where there is no object, and are a step nonetheless.
 fn makes_no_round(alloc: Global, state: &mut State) -> bool {
-    improve(alloc, state, 5, 1)
+    improve(alloc, state, 5, 1, &mut Silent)
         == Ok(Improved {
             rounds: 0,
             changed: 0,

@@ -8,16 +8,18 @@ use crate::refusal::{Outcome, Refusal};
 use crate::script::{Line, read_line};
 use crate::session::Session;
 use std::alloc::{AllocError, Global};
+use tt_io::Watcher;
 use tt_script::Command;
 use tt_text::Reply;
 
 impl Session {
     // Carries a command out, or says why it is refused. Its own lines are put into an empty reply.
-    fn carry_out(
+    fn carry_out<W: Watcher>(
         &mut self,
         alloc: Global,
         command: Command,
         reply: &mut Reply,
+        watcher: &mut W,
     ) -> Result<Outcome, AllocError>
         requires empty { reply.old ≡ [] }
         requires depth { HasDepth command }
@@ -31,10 +33,10 @@ impl Session {
             Command::Section { student, classes } => self.section(student, classes),
             Command::Drop { student } => self.drop_student(student),
             Command::Enrol { student } => self.enrol(alloc, student),
-            Command::EnrolAll => self.enrol_all(alloc, reply),
-            Command::Search { turns, seed } => self.search(alloc, turns, seed, reply),
-            Command::Repair { turns, seed } => self.repair(alloc, turns, seed, reply),
-            Command::Improve { rounds, seed } => self.improve(alloc, rounds, seed, reply),
+            Command::EnrolAll => self.enrol_all(alloc, reply, watcher),
+            Command::Search { turns, seed } => self.search(alloc, turns, seed, reply, watcher),
+            Command::Repair { turns, seed } => self.repair(alloc, turns, seed, reply, watcher),
+            Command::Improve { rounds, seed } => self.improve(alloc, rounds, seed, reply, watcher),
             Command::Recall => self.recall(),
             Command::Close {
                 room,
@@ -57,13 +59,15 @@ impl Session {
 
     /// Does what a line asks for, or says why it is refused. The reply, whatever it held, has the
     /// command's own lines then, which `finish_reply` makes whole. Only a line that has a reply
-    /// may find memory wanting, and then nothing is said of the session and the reply.
+    /// may find memory wanting, and then nothing is said of the session and the reply. The watcher is
+    /// told how far a long command has come, and when it is over.
     #[tactic(auto, unfolding(crate::specs::Desk::line_step, crate::specs::Causes::IsMemoryCause), using(crate::proofs::ReplyLemmas::cause_replies))]
-    pub fn answer(
+    pub fn answer<W: Watcher>(
         &mut self,
         alloc: Global,
         line: &[u8],
         reply: &mut Reply,
+        watcher: &mut W,
     ) -> Result<Outcome, AllocError>
         ensures ok { IfOk result (λ outcome. line_step self.old line.now ≡ record { session = self.new; outcome = outcome; lines = reply.new }) }
         ensures memory { OnErr result (IsMemoryCause self.old line.now) }
@@ -73,7 +77,11 @@ impl Session {
         match read_line(alloc, line)? {
             Line::Empty => Ok(Outcome::Skipped),
             Line::Bad => Ok(Outcome::Refused(Refusal::BadLine)),
-            Line::Good(command) => self.carry_out(alloc, command, reply),
+            Line::Good(command) => {
+                let outcome = self.carry_out(alloc, command, reply, watcher);
+                watcher.end();
+                outcome
+            }
         }
     }
 }

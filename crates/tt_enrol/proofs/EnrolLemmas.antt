@@ -1,5 +1,5 @@
 -- What is found for a student, and which refusals remain.
-use Rattle.std.proofs.Common.{◌≡◌, ℕ, ◌<◌, ◌≤◌, Bool, true, List, [], Option, Some, None, Ok, Err, map, length, get_or, refl, sym, ap, ◌∙◌, inl, inr}
+use Rattle.std.proofs.Common.{◌≡◌, ℕ, ◌<◌, List, [], Some, None, Ok, Err, length, get_or, refl, sym, ap, ◌∙◌}
 use Rattle.std.specs.Prelude.{IfErr, OnErr}
 use Rattle.std.specs.declared.result.Result.{Result}
 use Rattle.std.specs.Option.{option_map}

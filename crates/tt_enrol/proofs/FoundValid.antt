@@ -1,9 +1,8 @@
 -- The classes found for a student, course after course, are a valid enrolment with seats.
-use Rattle.std.proofs.Common.{◌≡◌, ℕ, zero, suc, ◌+◌, ◌<◌, Bool, true, false, List, [], ◌∷◌, ◌++◌, Option, Some, None, map, length, arith, refl, sym, ap, ◌∙◌, append_assoc, append-nil, nat_eq}
+use Rattle.std.proofs.Common.{◌≡◌, ℕ, ◌+◌, ◌<◌, Bool, true, false, List, [], ◌∷◌, ◌++◌, Option, Some, None, map, length, arith, refl, sym, ap, ◌∙◌, append_assoc, append-nil, nat_eq}
 use Rattle.std.specs.Prelude.{◌&&◌, ◌||◌, IfSome, slice_get, fold}
 use Rattle.std.specs.List.{list_all, AllByRecursion, IsDistinct}
 use Rattle.std.specs.Option.{option_map, option_map_or}
-use Rattle.std.proofs.lemmas.Bool.{and_parts}
 use Rattle.std.proofs.lemmas.Bool.Decides.{nat_tests}
 use Rattle.std.proofs.lemmas.List.Elements.{recursion_from_All, All-from_recursion}
 use Rattle.std.proofs.lemmas.List.Folds.{list_all-append, list_any-append}
@@ -11,13 +10,12 @@ use Rattle.std.proofs.lemmas.Map.Keys.{IsDistinct-head, IsDistinct-tail}
 use Rattle.std.proofs.lemmas.Option.{none-some}
 use Rattle.tt_base.specs.Lists.{is_listed}
 use Rattle.tt_problem.specs.declared.parts.Span.{Span}
-use Rattle.tt_problem.specs.declared.parts.ClassPart.{ClassPart}
 use Rattle.tt_problem.specs.declared.parts.StudentPart.{StudentPart}
 use Rattle.tt_problem.specs.declared.parts.Parts.{Parts}
 use Rattle.tt_problem.specs.Places.{course_of}
 use Rattle.tt_problem.specs.Valid.{IsValid, IsValidStudent}
-use Rattle.tt_struct.specs.Enrolments.{count_in, takes, is_of_courses, has_parent_of, has_parent, is_enrolment_of}
-use Rattle.tt_state.specs.Seats.{has_seat, first_without_seat}
+use Rattle.tt_struct.specs.Enrolments.{count_in, takes, is_of_courses, has_parent, is_enrolment_of}
+use Rattle.tt_state.specs.Seats.{has_seat}
 use Rattle.tt_state.specs.Snapshots.{Snapshot}
 use Rattle.tt_choice.specs.Choices.{choices_at}
 use Rattle.tt_choice.specs.Least.{Situation, is_allowed, least_choice}

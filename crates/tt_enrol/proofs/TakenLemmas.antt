@@ -1,5 +1,5 @@
 -- How many classes are taken, and from which choices.
-use Rattle.std.proofs.Common.{◌≡◌, ℕ, ◌+◌, ◌*◌, ◌<◌, ◌≤◌, List, Some, refl, arith}
+use Rattle.std.proofs.Common.{◌≡◌, ℕ, ◌+◌, ◌*◌, ◌<◌, ◌≤◌, List, Some, arith}
 use Rattle.std.specs.Prelude.{slice_get}
 use Rattle.tt_problem.specs.declared.parts.StudentPart.{StudentPart}
 use Rattle.tt_problem.specs.declared.parts.Parts.{Parts}

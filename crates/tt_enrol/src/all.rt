@@ -7,6 +7,7 @@ ghost use Rattle.tt_enrol.specs.Steps.{with_counts};
 use crate::enrolling::{Buffers, find};
 use std::alloc::{AllocError, Global};
 use tt_choice::seat;
+use tt_io::{Progress, Watcher};
 use tt_state::State;
 
 /// How many students got an enrolment, and how many were left as they were.
@@ -92,7 +93,12 @@ fn enrol_next(
 }
 
 /// Enrols each student who has a course and no class, in the last step, where there is an enrolment.
-fn enrol_each(state: &mut State, buffers: &mut Buffers) -> Result<Enrolled, AllocError>
+/// The watcher is told of each student.
+fn enrol_each<W: Watcher>(
+    state: &mut State,
+    buffers: &mut Buffers,
+    watcher: &mut W,
+) -> Result<Enrolled, AllocError>
     requires step { 0 < length (earlier state.old) }
     requires room { HasRoom state.old.problem buffers.old }
     ensures all { IfOk result (λ n. with_counts state.new.present n.enrolled n.left ≡ all_enrolled state.old.problem state.old.present) }
@@ -102,15 +108,25 @@ fn enrol_each(state: &mut State, buffers: &mut Buffers) -> Result<Enrolled, Allo
         enrolled: 0,
         left: 0,
     };
-    for student in 0..state.problem().student_count() {
+    let students = state.problem().student_count();
+    for student in 0..students {
         so_far = enrol_next(state, buffers, student, so_far)?;
+        watcher.tell(Progress::Students {
+            done: student + 1,
+            of: students,
+        });
     }
     Ok(so_far)
 }
 
 /// Gives each student who has a course and no class the least enrolment, in the problem's order and
-/// all as one step. A student for whom there is none is left without.
-pub fn enrol_all(alloc: Global, state: &mut State) -> Result<Enrolled, AllocError>
+/// all as one step. A student for whom there is none is left without. The watcher is told of each
+/// student.
+pub fn enrol_all<W: Watcher>(
+    alloc: Global,
+    state: &mut State,
+    watcher: &mut W,
+) -> Result<Enrolled, AllocError>
     ensures desk { OnOk result (desk_of state.new ≡ stepped (desk_of state.old) (all_enrolled state.old.problem state.old.present).snapshot) }
     ensures enrolled { IfOk result (λ n. n.enrolled ≡ (all_enrolled state.old.problem state.old.present).enrolled) }
     ensures left { IfOk result (λ n. n.left ≡ (all_enrolled state.old.problem state.old.present).left) }
@@ -119,7 +135,7 @@ pub fn enrol_all(alloc: Global, state: &mut State) -> Result<Enrolled, AllocErro
 {
     let mut buffers = Buffers::new(alloc, state.problem())?;
     state.begin()?;
-    match enrol_each(state, &mut buffers) {
+    match enrol_each(state, &mut buffers, watcher) {
         Ok(counts) => Ok(counts),
         Err(error) => {
             state.take_back();

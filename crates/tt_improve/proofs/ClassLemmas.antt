@@ -1,5 +1,5 @@
 -- A class that moves to a lower value.
-use Rattle.std.proofs.Common.{◌≡◌, ℕ, ◌+◌, ◌<◌, ◌≤◌, Bool, true, false, cond, List, [], ◌∷◌, Option, Some, None, length, drop, refl, sym, ap, ◌∙◌, arith, nat_lt}
+use Rattle.std.proofs.Common.{◌≡◌, ℕ, nat_le, ◌+◌, ◌<◌, ◌≤◌, Bool, true, false, cond, List, [], ◌∷◌, Option, Some, None, length, drop, refl, sym, ap, ◌∙◌, arith, nat_lt}
 use Rattle.std.specs.Prelude.{◌&&◌, ◌==◌, IfSome, slice_get, option_and_then, if◌then◌else◌}
 use Rattle.std.specs.Option.{is_none, option_map}
 use Rattle.std.specs.List.{filter}
@@ -46,6 +46,24 @@ best_next Of free total bound best v of h = by (nat_lt (total v) best.total) (fr
         record { low = omega (arith, lt, h.low); found = (of, e, omega (arith, lt, h.low)) }
     by true false b e = h
     by false is b e = h
+
+-- no class is within none
+pub none_within : (n : ℕ) → nat_le n 0 ≡ (n == 0)
+none_within n = by (nat_le n 0) (n == 0) refl refl
+  where
+    by : (a b : Bool) → nat_le n 0 ≡ a → (n == 0) ≡ b → a ≡ b
+    by true true p q = refl
+    by false false p q = refl
+    by true false p q = grind (arith, nat_tests)
+    by false true p q = grind (arith, nat_tests)
+
+-- a value that isn't free isn't better
+pub not_better : (free : Value → Bool) (total : Value → ℕ) (best : Best) (v : Value) → free v ≡ false → best ≡ better free total best v
+not_better free total best v shut = by (nat_lt (total v) best.total)
+  where
+    by : (low : Bool) → best ≡ cond (low && free v) (record { total = total v; value = Some v }) best
+    by true = rw shut refl
+    by false = refl
 
 -- the walk goes on over the values that are left
 pub walk_next : (free : Value → Bool) (total : Value → ℕ) (domain : List Value) (k : ℕ) (v : Value) (start best now : Best) → slice_get domain k ≡ Some v → now ≡ better free total best v

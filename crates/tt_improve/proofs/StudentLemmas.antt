@@ -1,5 +1,5 @@
 -- A student whose classes of a course are replaced by a choice that adds fewer pairs.
-use Rattle.std.proofs.Common.{◌≡◌, ℕ, suc, ◌+◌, ◌<◌, ◌≤◌, Bool, true, false, cond, List, [], ◌∷◌, ◌++◌, Option, Some, None, length, get_or, count_by, sum_by, take, drop, subst, append-nil, refl, sym, ap, ◌∙◌, arith, nat_eq, nat_lt, mul-le-mul_left, length-append}
+use Rattle.std.proofs.Common.{◌≡◌, ℕ, suc, ◌+◌, ◌<◌, ◌≤◌, Bool, true, false, cond, List, [], ◌∷◌, ◌++◌, Option, Some, None, length, get_or, count_by, sum_by, take, subst, refl, sym, ap, ◌∙◌, arith, nat_eq, nat_lt, mul-le-mul_left, length-append}
 use Rattle.std.specs.Prelude.{◌&&◌, ◌||◌, not, IfSome, slice_get, slice_set, option_and_then}
 use Rattle.std.specs.List.{list_all, filter, AllByRecursion}
 use Rattle.std.specs.Option.{option_map, option_map_or}
@@ -27,7 +27,7 @@ use Rattle.tt_roster.specs.Conflicts.{are_in_conflict, conflicts_in, student_con
 use Rattle.tt_roster.specs.Lists.{Ascends, list_of}
 use Rattle.tt_roster.proofs.TimeLemmas.{in_conflict-sym, in_conflict-none}
 use Rattle.tt_score.proofs.PlanLemmas.{spot_in}
-use Rattle.tt_state.specs.Seats.{count_with, first_without_seat, has_seat, limit_of, may_have, others_with}
+use Rattle.tt_state.specs.Seats.{count_with, has_seat, limit_of, may_have, others_with}
 use Rattle.tt_state.specs.Snapshots.{Snapshot, in_order, list_in, with_list}
 use Rattle.tt_state.specs.Sound.{IsSound}
 use Rattle.tt_state.proofs.SeatLemmas.{length-ordered, few_ascending}

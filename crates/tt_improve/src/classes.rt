@@ -10,8 +10,7 @@ ghost use Rattle.tt_improve.specs.Standing.{IsLower, IsNoWorse, IsPlacedIn};
 
 use std::alloc::AllocError;
 use tt_bits::Value;
-use tt_clash::blocked;
-use tt_plan::{domain_size, spot, value_at};
+use tt_plan::{domain_size, value_at};
 use tt_state::State;
 
 /// The best value so far, if there is one, and its total. Only a total below this is better.
@@ -22,7 +21,7 @@ struct Best {
 }
 
 /// Whether a value isn't blocked, and its conflict set is empty.
-#[tactic(auto, unfolding(tt_state::specs::Values::blocked_of))]
+#[tactic(auto, using(crate::proofs::ClassLemmas::none_within))]
 fn is_free(state: &mut State, class: u32, value: Value) -> bool
     requires { IsOfDomain state.old.problem class value }
     ensures problem { state.new.problem ≡ state.old.problem }
@@ -30,22 +29,14 @@ fn is_free(state: &mut State, class: u32, value: Value) -> bool
     ensures entries { state.new.entries ≡ state.old.entries }
     ensures free { result ≡ is_free state.old.problem state.old.present class value }
 {
-    let problem = state.problem();
-    if blocked(
-        problem,
-        state.score().closures(),
-        class,
-        spot(problem, class, value),
-    )
-    .is_some()
-    {
+    if state.blocked(class, value).is_some() {
         return false;
     }
-    state.find_conflicts(class, value);
-    state.taken().is_empty()
+    state.find_conflicts_within(class, value, 0)
 }
 
-/// The best once a value was looked at. Whether it is free is asked only where it may tell.
+/// The best once a value was looked at. The total is asked for only where the value is free.
+#[tactic(auto, using(crate::proofs::ClassLemmas::not_better))]
 fn look_at(state: &mut State, class: u32, value: Value, best: Best) -> Best
     requires { IsOfDomain state.old.problem class value }
     ensures problem { state.new.problem ≡ state.old.problem }
@@ -53,8 +44,11 @@ fn look_at(state: &mut State, class: u32, value: Value, best: Best) -> Best
     ensures entries { state.new.entries ≡ state.old.entries }
     ensures better { result ≡ better (is_free state.old.problem state.old.present class) (total_with state.old.problem state.old.present class) best value }
 {
+    if !is_free(state, class, value) {
+        return best;
+    }
     let total = state.trial(class, value);
-    if total < best.total && is_free(state, class, value) {
+    if total < best.total {
         Best {
             total,
             value: Some(value),

@@ -16,6 +16,7 @@ use rand_pcg::Lcg64Xsh32;
 use std::alloc::{AllocError, Global};
 use tt_choice::ChoiceBuffers;
 use tt_draw::draw;
+use tt_io::{Progress, Watcher};
 use tt_state::State;
 
 /// How many rounds were made, and how many of them changed something.
@@ -59,14 +60,16 @@ fn make_round(
     }
 }
 
-/// Makes rounds in the last step, until so many are made or there is no object.
-fn descend(
+/// Makes rounds in the last step, until so many are made or there is no object. The watcher is told of
+/// each.
+fn descend<W: Watcher>(
     alloc: Global,
     state: &mut State,
     objects: &[Object],
     buffers: &mut ChoiceBuffers,
     rounds: u32,
     seed: u64,
+    watcher: &mut W,
 ) -> Result<Improved, AllocError>
     requires objects { objects.now ≡ objects_of state.old.problem state.old.present }
     requires few { length objects.now ≤ 2 ^ 32 }
@@ -86,16 +89,21 @@ fn descend(
             });
         };
         changed += u32::from(make_round(alloc, state, object, buffers)?);
+        watcher.tell(Progress::Rounds {
+            made: made + 1,
+            of: rounds,
+        });
     }
     Ok(Improved { rounds, changed })
 }
 
 /// Makes rounds, as one step. Where memory runs out, the step is undone.
-fn improve_in_step(
+fn improve_in_step<W: Watcher>(
     alloc: Global,
     state: &mut State,
     rounds: u32,
     seed: u64,
+    watcher: &mut W,
 ) -> Result<Improved, AllocError>
     ensures problem { state.new.problem ≡ state.old.problem }
     ensures earlier { OnOk result (earlier state.new ≡ state.old.present ∷ earlier state.old) }
@@ -107,7 +115,15 @@ fn improve_in_step(
     let objects = objects(alloc, state)?;
     let mut buffers = ChoiceBuffers::new(alloc, state.problem())?;
     state.begin()?;
-    match descend(alloc, state, objects.as_slice(), &mut buffers, rounds, seed) {
+    match descend(
+        alloc,
+        state,
+        objects.as_slice(),
+        &mut buffers,
+        rounds,
+        seed,
+        watcher,
+    ) {
         Ok(improved) => Ok(improved),
         Err(error) => {
             state.take_back();
@@ -123,11 +139,13 @@ fn improve_in_step(
 /// the fewest conflicting pairs, among those with which the list is a valid enrolment and each class
 /// has a seat, where it adds fewer. So neither the total nor the hard conflicts rise, and the
 /// statistics and closures stay. Where memory is wanting, only the conflict set found last may differ.
-pub fn improve(
+/// The watcher is told of each round.
+pub fn improve<W: Watcher>(
     alloc: Global,
     state: &mut State,
     rounds: u32,
     seed: u64,
+    watcher: &mut W,
 ) -> Result<Improved, AllocError>
     ensures desk { OnOk result (desk_of state.new ≡ stepped (desk_of state.old) state.new.present) }
     ensures end { IfOk result (λ n. so_far state.new.present n.rounds n.changed ≡ improved state.old.problem rounds seed state.old.present) }
@@ -137,5 +155,5 @@ pub fn improve(
     ensures closures { OnOk result (state.new.present.closures ≡ state.old.present.closures) }
     ensures err { OnErr result (with_taken state.new [] ≡ with_taken state.old []) }
 {
-    improve_in_step(alloc, state, rounds, seed)
+    improve_in_step(alloc, state, rounds, seed, watcher)
 }

@@ -20,6 +20,7 @@ use crate::turn::{Move, next_move};
 use rand_core::Rng;
 use rand_pcg::Lcg64Xsh32;
 use std::alloc::{AllocError, Global};
+use tt_io::{Progress, Watcher};
 use tt_solution::Published;
 use tt_state::State;
 
@@ -75,14 +76,16 @@ fn make(state: &mut State, next: Move) -> Result<(), AllocError>
     }
 }
 
-/// Makes turns in the last step, until so many are made or there is no candidate.
-fn walk(
+/// Makes turns in the last step, until so many are made or there is no candidate. The watcher is told
+/// of each.
+fn walk<W: Watcher>(
     state: &mut State,
     published: Option<&Published>,
     candidates: &mut Candidates,
     moved: &mut MovedClasses,
     turns: u32,
     seed: u64,
+    watcher: &mut W,
 ) -> Result<Walked, AllocError>
     requires belongs { ForSome (option_copied published) (IsTimetableOf state.old.problem) }
     requires candidates { AreCandidates state.old.problem state.old.present candidates.old [] }
@@ -102,18 +105,24 @@ fn walk(
         candidates.follow(state, next.class);
         moved.follow(state, published, next.class);
         best = better(best, moment(state, moved.count));
+        watcher.tell(Progress::Turns {
+            made: made + 1,
+            of: turns,
+            unplaced: best.rank.unplaced,
+        });
     }
     Ok(Walked { best, made: turns })
 }
 
 /// Searches or repairs, as one step. Where memory runs out, the step is undone.
 #[tactic(auto, using(crate::proofs::FullLemmas::end_same))]
-fn seek(
+fn seek<W: Watcher>(
     alloc: Global,
     state: &mut State,
     published: Option<&Published>,
     turns: u32,
     seed: u64,
+    watcher: &mut W,
 ) -> Result<u32, AllocError>
     requires { ForSome (option_copied published) (IsTimetableOf state.old.problem) }
     ensures problem { state.new.problem ≡ state.old.problem }
@@ -126,7 +135,15 @@ fn seek(
     let mut candidates = Candidates::new(alloc, state)?;
     let mut moved = MovedClasses::new(alloc, state, published)?;
     state.begin()?;
-    match walk(state, published, &mut candidates, &mut moved, turns, seed) {
+    match walk(
+        state,
+        published,
+        &mut candidates,
+        &mut moved,
+        turns,
+        seed,
+        watcher,
+    ) {
         Ok(walked) => {
             state.roll_back(walked.best.mark);
             Ok(walked.made)
@@ -143,28 +160,37 @@ fn seek(
 /// as one step. In a turn a random word draws one of the unplaced classes that have a value which
 /// isn't blocked, and the class is forced to its best: the least by the weight of the classes it
 /// pushes out and their counters, the total with it, and the place in its domain. The answer is the
-/// number of turns. Where memory is wanting, only the conflict set found last may differ.
+/// number of turns. Where memory is wanting, only the conflict set found last may differ. The watcher
+/// is told of each turn.
 #[tactic(auto, using(crate::proofs::FirstLemmas::ends_at_first))]
-pub fn search(alloc: Global, state: &mut State, turns: u32, seed: u64) -> Result<u32, AllocError>
+pub fn search<W: Watcher>(
+    alloc: Global,
+    state: &mut State,
+    turns: u32,
+    seed: u64,
+    watcher: &mut W,
+) -> Result<u32, AllocError>
     ensures desk { OnOk result (desk_of state.new ≡ stepped (desk_of state.old) state.new.present) }
     ensures end { IfOk result (λ made. searched state.old.problem turns seed state.old.present ≡ (state.new.present, made)) }
     ensures first { OnOk result ((place : ℕ) × IsFirstLeast (rank_of state.old.problem None) (way_of state.old.problem None turns seed state.old.present) place state.new.present) }
     ensures err { OnErr result (with_taken state.new [] ≡ with_taken state.old []) }
 {
-    seek(alloc, state, None, turns, seed)
+    seek(alloc, state, None, turns, seed, watcher)
 }
 
 /// The same as a search, but for two differences: a value that isn't the published one of its class
 /// comes after those that are, where their weights are the same; and of the snapshots on the way
 /// the fewer published classes are moved the better, before the total. The answer is the number of
-/// turns. Where memory is wanting, only the conflict set found last may differ.
+/// turns. Where memory is wanting, only the conflict set found last may differ. The watcher is told of
+/// each turn.
 #[tactic(auto, using(crate::proofs::FirstLemmas::ends_at_first))]
-pub fn repair(
+pub fn repair<W: Watcher>(
     alloc: Global,
     state: &mut State,
     published: &Published,
     turns: u32,
     seed: u64,
+    watcher: &mut W,
 ) -> Result<u32, AllocError>
     requires { IsTimetableOf state.old.problem published.now }
     ensures desk { OnOk result (desk_of state.new ≡ stepped (desk_of state.old) state.new.present) }
@@ -172,5 +198,5 @@ pub fn repair(
     ensures first { OnOk result ((place : ℕ) × IsFirstLeast (rank_of state.old.problem (Some published.now)) (way_of state.old.problem (Some published.now) turns seed state.old.present) place state.new.present) }
     ensures err { OnErr result (with_taken state.new [] ≡ with_taken state.old []) }
 {
-    seek(alloc, state, Some(published), turns, seed)
+    seek(alloc, state, Some(published), turns, seed, watcher)
 }

@@ -1,4 +1,5 @@
-ghost use Rattle.std.specs.Prelude.{◌≡◌, ◌+◌, ◌*◌, ◌/◌, ◌≤◌, ◌<◌, ◌^◌, ◌∷◌, [], None, Some, IfSome, length};
+ghost use Rattle.std.specs.Prelude.{◌≡◌, ◌+◌, ◌*◌, ◌/◌, ◌≤◌, ◌<◌, ◌^◌, ◌∷◌, [], false, None, Some, IfSome, IsTrue, length};
+ghost use Rattle.tt_state.specs.History.{with_taken};
 ghost use Rattle.std.specs.Option.{option_copied, option_map, ForSome};
 ghost use Rattle.tt_base.specs.Lists.{least_after};
 ghost use Rattle.tt_solution.specs.Timetable.{IsTimetableOf};
@@ -60,9 +61,29 @@ fn weight_of(state: &State, class: u32, value: Value) -> u128
     weight
 }
 
-/// The best offer once a value that isn't blocked was looked at. The total is asked for only where
-/// it may tell.
-#[tactic(auto, unfolding(crate::specs::Full::full_price), using(crate::proofs::ChoiceLemmas::stays, crate::proofs::ChoiceLemmas::takes))]
+/// Finds the conflict set of a class at a value that isn't blocked, unless it has more classes than a
+/// weight, and so weighs more. Whether it was found.
+#[tactic(auto, unfolding(crate::specs::Turns::weight_of), using(crate::proofs::ChoiceLemmas::few_weigh))]
+fn find_lighter(state: &mut State, class: u32, value: Value, weight: u128) -> bool
+    requires { IsOpenValue state.old.problem state.old.present.closures class value }
+    ensures found { IsTrue result → state.new ≡ with_taken state.old (conflicts_of state.old.problem state.old.present class value) }
+    ensures heavier { result ≡ false → weight < weight_of state.old.problem state.old.present class value }
+    ensures problem { state.new.problem ≡ state.old.problem }
+    ensures present { state.new.present ≡ state.old.present }
+    ensures entries { state.new.entries ≡ state.old.entries }
+{
+    match u32::try_from(weight) {
+        Ok(most) => state.find_conflicts_within(class, value, most),
+        Err(_) => {
+            state.find_conflicts(class, value);
+            true
+        }
+    }
+}
+
+/// The best offer once a value that isn't blocked was looked at. Its conflict set is
+/// given up once it weighs more, and the total is asked for only where it may tell.
+#[tactic(auto, unfolding(crate::specs::Full::full_price), using(crate::proofs::ChoiceLemmas::stays, crate::proofs::ChoiceLemmas::takes, crate::proofs::ChoiceLemmas::stays_lighter))]
 fn look_at(
     state: &mut State,
     published: Option<&Published>,
@@ -79,11 +100,11 @@ fn look_at(
     ensures priced { IsPriced (full_price state.old.problem (option_copied published.entry) state.old.present class) (IsOpenValue state.old.problem state.old.present.closures class) result }
     ensures better { offered result ≡ least_after (full_price state.old.problem (option_copied published.entry) state.old.present class) (offered best) (value ∷ []) }
 {
-    state.find_conflicts(class, value);
-    let weight = weight_of(state, class, value);
     let strays = is_stray(state.problem(), published, class, value);
     match best {
         None => {
+            state.find_conflicts(class, value);
+            let weight = weight_of(state, class, value);
             let total = state.trial(class, value);
             let price = Price {
                 weight,
@@ -93,6 +114,10 @@ fn look_at(
             Some(Offer { price, value })
         }
         Some(least) => {
+            if !find_lighter(state, class, value, least.price.weight) {
+                return Some(least);
+            }
+            let weight = weight_of(state, class, value);
             if least.price.beats(weight, strays) {
                 return Some(least);
             }

@@ -1,4 +1,4 @@
-use Rattle.std.proofs.Common.{◌≡◌, ◌<◌, ◌≤◌, ◌++◌, ℕ, List, [], Some, length, map, take, get_or, arith, ap, sym, ◌∙◌, subst, length-take}
+use Rattle.std.proofs.Common.{◌≡◌, ◌<◌, ◌≤◌, ◌++◌, ℕ, List, [], Some, length, map, take, arith, ap, sym, ◌∙◌, subst, length-take}
 use Rattle.std.specs.Prelude.{slice_get}
 use Rattle.tt_problem.specs.declared.parts.Parts.{Parts}
 use Rattle.tt_problem.specs.Valid.{IsValid}

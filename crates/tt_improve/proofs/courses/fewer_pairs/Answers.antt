@@ -1,4 +1,4 @@
-use Rattle.std.proofs.Common.{◌≡◌, ℕ, List, Some, None, length, take, ap, sym, ◌∙◌, subst, arith, length-take}
+use Rattle.std.proofs.Common.{◌≡◌, ℕ, List, Some, None, take, ap, sym, ◌∙◌, subst, arith, length-take}
 use Rattle.std.specs.Prelude.{not}
 use Rattle.tt_problem.specs.Valid.{IsValid}
 use Rattle.tt_problem.proofs.SpanLemmas.{few_subparts}

@@ -17,7 +17,7 @@ use Rattle.tt_search.proofs.seeking.walk.Goals as goal
 
 pub loop-made-init : goal.loop-made-init
 unfolding full_end
-loop-made-init c =
+loop-made-init g c =
     let start = c.args.state.now in
     let aim = option_copied c.args.published in
     let whole : c.args.turns - 0 ≡ c.args.turns = omega arith in
@@ -30,18 +30,18 @@ loop-made-init c =
     }
 
 pub next_move-requires-clause-candidates : goal.next_move-requires-clause-candidates
-next_move-requires-clause-candidates c = c.loop-made.invariant.candidates
+next_move-requires-clause-candidates g c = c.loop-made.invariant.candidates
 
 pub make-requires-clause-open : goal.make-requires-clause-open
-make-requires-clause-open c = rw (c.next_move.ensures.problem, c.next_move.ensures.present) c.in-Some.ensures.open
+make-requires-clause-open g c = rw (c.next_move.ensures.problem, c.next_move.ensures.present) c.in-Some.ensures.open
 
 pub make-requires-clause-step : goal.make-requires-clause-step
-make-requires-clause-step c =
+make-requires-clause-step g c =
     let same : earlier c.next_move.new.state ≡ earlier c.args.state.now = rw (c.next_move.ensures.present, c.next_move.ensures.entries) c.loop-made.invariant.step.earlier in
     rw same c.requires.step
 
 pub loop-made-preserved : goal.loop-made-preserved
-loop-made-preserved c =
+loop-made-preserved g c =
     let start = c.args.state.now in
     let aim = option_copied c.args.published in
     let before = c.loop-made.state in
@@ -72,7 +72,7 @@ loop-made-preserved c =
     }
 
 pub follow-requires : goal.follow-requires
-follow-requires c =
+follow-requires g c =
     let before = c.loop-made.state in
     let after = c.make.new.state in
     let problem : after.problem ≡ before.problem = c.in_ok-make.ensures.step.problem ∙ c.next_move.ensures.problem in
@@ -81,7 +81,7 @@ follow-requires c =
     record { late = rw (problem, present, taken) (candidates_forced before.problem before.present c.in-Some.next.class c.in-Some.next.value c.loop-made.candidates c.loop-made.invariant.candidates) }
 
 pub follow-requires-in-loop-made-clause-late : goal.follow-requires-in-loop-made-clause-late
-follow-requires-in-loop-made-clause-late c =
+follow-requires-in-loop-made-clause-late g c =
     let start = c.args.state.now in
     let aim = option_copied c.args.published in
     let before = c.loop-made.state in
@@ -93,16 +93,16 @@ follow-requires-in-loop-made-clause-late c =
     rw (problem, present, taken) (moved_forced start.problem aim before.present c.in-Some.next.class c.in-Some.next.value c.loop-made.moved c.loop-made.invariant.moved)
 
 pub returns-in_default-clause-step : goal.returns-in_default-clause-step
-returns-in_default-clause-step c =
+returns-in_default-clause-step g c =
     within_next _ _ _ c.loop-made.invariant.step (within_still (with_taken c.loop-made.state []) (with_taken c.next_move.new.state []) c.next_move.ensures.problem c.next_move.ensures.present c.next_move.ensures.entries refl)
 
 pub returns-in_err-make-clause-step : goal.returns-in_err-make-clause-step
-returns-in_err-make-clause-step c =
+returns-in_err-make-clause-step g c =
     within_next _ _ _ c.loop-made.invariant.step
     (within_next _ _ _ (within_still (with_taken c.loop-made.state []) (with_taken c.next_move.new.state []) c.next_move.ensures.problem c.next_move.ensures.present c.next_move.ensures.entries refl) c.in_err-make.ensures.step)
 
 pub returns-in_default-clause-way : goal.returns-in_default-clause-way
-returns-in_default-clause-way c =
+returns-in_default-clause-way g c =
     let start = c.args.state.now in
     let aim = option_copied c.args.published in
     let before = c.loop-made.state in
@@ -113,7 +113,7 @@ returns-in_default-clause-way c =
     rw same_trail (rw onward_is at c.loop-made.invariant.way)
 
 pub returns-clause-way : goal.returns-clause-way
-returns-clause-way c =
+returns-clause-way g c =
     let start = c.args.state.now in
     let aim = option_copied c.args.published in
     let all : c.args.turns ≤ c.loop-made.made = omega arith in

@@ -11,7 +11,7 @@ use Rattle.tt_search.specs.UnderWay.{IsUnderWay}
 use Rattle.tt_search.proofs.seeking.walk.Given as goal
 
 abbrev pub invariant-loop-made : goal.invariant-loop-made
-invariant-loop-made l =
+invariant-loop-made g l =
     let start = l.fn.state in
     let aim = option_copied l.published in
     record {
