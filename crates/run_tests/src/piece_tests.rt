@@ -3,7 +3,7 @@ ghost use Rattle.std.specs.Prelude.{◌||◌, is_some, None};
 
 use std::alloc::{AllocError, Global};
 use std::test::Fail;
-use tt_io::{Failed, Files, MemFiles, MemSink, SureFiles, SureSink};
+use tt_io::{Failed, Files, MemFiles, MemSink, Silent, SureFiles, SureSink};
 use tt_top::{run, run_within};
 
 const ONE_CLASS: &str =
@@ -61,7 +61,7 @@ fn ends_so(
     let mut out = MemSink::new(alloc);
     out.fail_at(write)?;
     let words = words_of(alloc)?;
-    let ended = run(alloc, &words, &mut files, &mut out);
+    let ended = run(alloc, &words, &mut files, &mut out, &mut Silent);
     Ok(ended == status && out.bytes() == Some(output.as_bytes()))
 }
 
@@ -124,7 +124,14 @@ fn ends_within(
     files.limit_reads(most.max(1));
     let mut out = SureSink::new(alloc);
     let words = words_of(alloc)?;
-    let ended = run_within(SIZE as u64, alloc, &words, &mut files, &mut out);
+    let ended = run_within(
+        SIZE as u64,
+        alloc,
+        &words,
+        &mut files,
+        &mut out,
+        &mut Silent,
+    );
     Ok(ended == status && out.bytes() == Some(output.as_bytes()))
 }
 
@@ -194,7 +201,7 @@ fn long_status(alloc: Global, limit: u64, out: &mut SureSink) -> Result<u8, Allo
         left: None,
     };
     let words = words_of(alloc)?;
-    Ok(run_within(limit, alloc, &words, &mut files, out))
+    Ok(run_within(limit, alloc, &words, &mut files, out, &mut Silent))
 }
 
 // A script that is made as it is read is answered to its end, or up to the limit.

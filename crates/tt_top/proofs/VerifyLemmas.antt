@@ -106,7 +106,7 @@ module _ (words : FileWords) (limit : ℕ) (o : Outside) where
           front = λ b told. none_written _ _ _ same;
           nothing = λ _. nothing_written _ _ same;
         })
-        early_due (asks_early words limit o e asks) (same_cause Files _ _ e files) (other_end Sink e _ _ kept no_sink) (end_is_no_usage e)
+        early_due (asks_early words limit o e (λ _. same) asks) (same_cause Files _ _ e files) (other_end Sink e _ _ kept no_sink) (end_is_no_usage e)
 
   -- ---- where this was found
 
@@ -128,13 +128,19 @@ module _ (words : FileWords) (limit : ℕ) (o : Outside) where
           nothing = λ is. nothing_written _ _ (by e memory no_files no_limit is);
         })
         (λ b told which. elim which [ inl le ↦ absurd (over_four e le) | inr is ↦ absurd (by_limit e no_limit is) ])
-        (asks_early words limit o e (asked_failed _ _ _ _ _ l e asks)) (no_cause Files e _ _ l files no_files) (same_cause Sink _ _ e sink) (end_is_no_usage e)
+        (asks_early words limit o e (λ ne. kept e memory no_files no_limit ne) (asked_failed _ _ _ _ _ l e asks)) (no_cause Files e _ _ l files no_files) (same_cause Sink _ _ e sink) (end_is_no_usage e)
       where
         by : (e : End) → (e ≡ Memory → o.now.written ≡ o.before.written) → e ≢ Files → e ≢ TooLong → (end_status e ≡ 5) ⊎ ((end_status e ≡ 7) ⊎ (end_status e ≡ 8)) → o.now.written ≡ o.before.written
         by Files memory no_files no_limit is = absurd (no_files refl)
         by Sink memory no_files no_limit is = absurd (elim is [ inl five ↦ omega arith | inr more ↦ elim more [ inl seven ↦ omega arith | inr eight ↦ omega arith ] ])
         by Memory memory no_files no_limit is = memory refl
         by TooLong memory no_files no_limit is = absurd (no_limit refl)
+
+        kept : (e : End) → (e ≡ Memory → o.now.written ≡ o.before.written) → e ≢ Files → e ≢ TooLong → e ≢ Sink → o.now.written ≡ o.before.written
+        kept Files memory no_files no_limit ne = absurd (no_files refl)
+        kept Sink memory no_files no_limit ne = absurd (ne refl)
+        kept Memory memory no_files no_limit ne = memory refl
+        kept TooLong memory no_files no_limit ne = absurd (no_limit refl)
 
         by_limit : (e : End) → e ≢ TooLong → end_status e ≡ 8 → ⊥
         by_limit Files no_limit is = omega arith

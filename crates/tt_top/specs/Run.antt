@@ -137,6 +137,8 @@ pub record AsksInOrder (words : FileWords) (limit : ℕ) (o : Outside) (status :
   pub last : (b : Bytes) → TellFirst o.holds words limit b → length (first_words words) < count → IsTrue (opens_script limit b)
   pub after_line : (b : Bytes) → TellFirst o.holds words limit b → length (first_words words) < count
       → WritesPast o.before.written o.now.written (first_line (opened b.problem b.published))
+  -- a run that ends early without having asked for a script has written nothing, whatever the files tell, but for a failed write
+  pub quiet : 5 ≤ status → status ≢ 6 → count ≤ length (first_words words) → Writes o.before.written o.now.written []
 
 -- the statuses that a run with files can have
 pub record IsStatus (status : ℕ) : Type 0 where

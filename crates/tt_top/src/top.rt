@@ -10,7 +10,7 @@ use crate::plain_run::{demo, make};
 use crate::serve::hand_on;
 use crate::verify_run::verify_files;
 use std::alloc::Global;
-use tt_io::{Files, Sink};
+use tt_io::{Files, Sink, Watcher};
 
 // The most bytes of a file.
 const FILE_LIMIT: u64 = 134_217_728;
@@ -29,12 +29,13 @@ fn usage<S: Sink>(out: &mut S) -> Result<Done, End>
 }
 
 /// Does the same as [`run`], with another limit on the bytes of a file.
-pub fn run_within<F: Files, S: Sink>(
+pub fn run_within<F: Files, S: Sink, W: Watcher>(
     limit: u64,
     alloc: Global,
     words: &[String],
     files: &mut F,
     out: &mut S,
+    watcher: &mut W,
 ) -> u8
     ensures form { IsRun (form_of (map string_bytes words.now)) limit
         (record {
@@ -51,7 +52,9 @@ pub fn run_within<F: Files, S: Sink>(
                 published,
                 script,
             },
-        ) => run_files(limit, alloc, problem, published, script, files, out),
+        ) => run_files(
+            limit, alloc, problem, published, script, files, out, watcher,
+        ),
         Some(Form::Verify { problem, solution }) => {
             verify_files(limit, alloc, problem, solution, files, out)
         }
@@ -61,7 +64,7 @@ pub fn run_within<F: Files, S: Sink>(
                 classes,
                 turns,
             },
-        ) => demo(alloc, seed, classes, turns, out),
+        ) => demo(alloc, seed, classes, turns, out, watcher),
         Some(Form::Make { seed, classes }) => make(alloc, seed, classes, out),
         None => usage(out),
     };
@@ -79,7 +82,13 @@ pub fn run_within<F: Files, S: Sink>(
 /// - 5 and 6: a call on the files or the output failed, and ended the run;
 /// - 7: memory is wanting; 8: a file has more than 134,217,728 bytes, of a script before a line
 ///   `quit`.
-pub fn run<F: Files, S: Sink>(alloc: Global, words: &[String], files: &mut F, out: &mut S) -> u8
+pub fn run<F: Files, S: Sink, W: Watcher>(
+    alloc: Global,
+    words: &[String],
+    files: &mut F,
+    out: &mut S,
+    watcher: &mut W,
+) -> u8
     // What is written is the transcript of a plain desk, or a front of it, and each status has its cause.
     ensures form { IsRun (form_of (map string_bytes words.now)) file_limit
         (record {
@@ -89,5 +98,5 @@ pub fn run<F: Files, S: Sink>(alloc: Global, words: &[String], files: &mut F, ou
         })
         result }
 {
-    run_within(FILE_LIMIT, alloc, words, files, out)
+    run_within(FILE_LIMIT, alloc, words, files, out, watcher)
 }

@@ -5,25 +5,44 @@ mod arguments;
 mod reason;
 
 use arguments::arguments;
-use reason::reason_of;
+use reason::{Reason, shown_name, words_of};
+use std::alloc::Global;
+use std::io::{Error, IsTerminal};
 use std::process::ExitCode;
-use tt_io::{RealFiles, StdSink};
+use tt_io::{RealFiles, StdSink, StdWatcher};
 use tt_top::run;
+
+// Says on standard error how a run ended whose output doesn't say it, where this is the name that was
+// asked for last, and this the error of the call that failed. Where standard error takes nothing, the
+// status alone says it.
+fn tell(rt: &impl Eprint, alloc: Global, status: u8, name: Option<&str>, error: Option<Error>) {
+    let words = match error {
+        Some(error) => words_of(alloc, error).ok(),
+        None => None,
+    };
+    let cause = match &words {
+        Some(words) => words.as_str(),
+        None => "a call failed",
+    };
+    if let Some(reason) = Reason::of(status, shown_name(name), cause) {
+        let _ = rt.eprintln(reason);
+    }
+}
 
 fn main(rt: HostRuntime) -> ExitCode {
     let alloc = rt.alloc();
+    let mut files = RealFiles::new(alloc, rt);
+    let mut out = StdSink::new(rt);
+    let mut watcher = StdWatcher::new(rt, rt.stderr().is_terminal());
     let status = match arguments(&rt, alloc) {
-        Ok(words) => run(
-            alloc,
-            &words,
-            &mut RealFiles::new(rt),
-            &mut StdSink::new(rt),
-        ),
+        Ok(words) => run(alloc, &words, &mut files, &mut out, &mut watcher),
         Err(end) => end.status(),
     };
-    if let Some(reason) = reason_of(status) {
-        // Where standard error takes nothing, the status alone says it.
-        let _ = rt.eprintln(reason);
-    }
+    let error = if status == 6 {
+        out.error()
+    } else {
+        files.error()
+    };
+    tell(&rt, alloc, status, files.name(), error);
     ExitCode::from(status)
 }
