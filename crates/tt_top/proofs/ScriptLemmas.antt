@@ -1,9 +1,9 @@
 -- How the lines of a script that is read piece by piece are answered.
-use Rattle.std.proofs.Common.{◌≡◌, ◌≢◌, ◌≤◌, ◌<◌, ◌+◌, ◌-◌, ℕ, Bool, true, false, List, [], ◌∷◌, ◌++◌, None, Some, Option, Ok, Err, refl, sym, ap, ◌∙◌, subst, append_assoc, arith, inl, inr, take, length}
+use Rattle.std.proofs.Common.{◌≡◌, ◌≢◌, ◌≤◌, ◌<◌, ◌+◌, ◌-◌, ℕ, Bool, true, false, List, [], ◌∷◌, ◌++◌, None, Some, Option, Ok, Err, refl, sym, ap, ◌∙◌, subst, append_assoc, arith, inl, inr, take, length, replicate}
 use Rattle.std.specs.Prelude.{Result, IfOk, OnOk, ◌||◌, ◌&&◌, ◌⊎◌, nat_lt, not}
 use Rattle.std.specs.List.{concat, list_any}
 use Rattle.std.specs.Io.KnownBytes.{IsAtEnd}
-use Rattle.std.proofs.lemmas.List.{append-nil, length-append}
+use Rattle.std.proofs.lemmas.List.{append-nil, length-append, length-replicate}
 use Rattle.std.proofs.lemmas.List.Folds.{concat-append, list_any-append}
 use Rattle.std.proofs.lemmas.Bool.Decides.{nat_tests}
 use Rattle.std.proofs.Math.Seq.{take-append-add}
@@ -26,7 +26,7 @@ use Rattle.tt_top.specs.declared.end.End.{End}
 use Rattle.tt_top.specs.declared.end.End.TheVariants.{Files, Sink, Memory, TooLong}
 use Rattle.tt_top.specs.Pieces.{whole_lines, ends_script, has_quit, taken_of}
 use Rattle.tt_top.specs.Run.{is_long_script}
-use Rattle.tt_top.specs.Ends.{Serves, ServesNext, AnswersLine, EndsScript}
+use Rattle.tt_top.specs.Ends.{Serves, ServesNext, ServesSome, Answers, AnswersLine, EndsScript, WritesReplies}
 use Rattle.tt_top.proofs.ServeLemmas.{HasSent, HasSent-more, HasSent-all, HasSent-first, HasSent-less, HasSent-front, HasSent-same, replies-next, replies-last, refuses-next, refused_more, reply_is_next}
 use Rattle.tt_top.proofs.PieceLemmas.{first_of_lines, cut_at_end, leading_one, IsWhole, whole_empty, whole_more, lines_more, whole_is, taken_front, limit_front}
 
@@ -71,14 +71,48 @@ quits lines = list_any (λ line. ends_script (line_of line)) lines
 
 -- ---- how far a script is served
 
+-- These lines were answered, none of which ends the script, and lines after them are answered by the session that is left.
+pub record HasAnswered (d : Session) (lines : List (List ℕ)) (before : Option (List ℕ)) (d' : Session) (now : Option (List ℕ)) : Type 0 where
+  pub follows : (more : List (List ℕ)) → replies_to d (lines ++ more) ≡ replies_to d lines ++ replies_to d' more
+  pub written : Writes before now (concat (replies_to d lines))
+
+pub answered_none : (d : Session) (before : Option (List ℕ)) → HasAnswered d [] before d before
+answered_none d before = record { follows = λ more. refl; written = nothing_written before before refl }
+
+-- the reply after those to the lines
+one_reply : (before mid now : Option (List ℕ)) (replies : List (List ℕ)) (reply : List ℕ) → Writes before mid (concat replies) → Writes mid now reply → Writes before now (concat (replies ++ reply ∷ []))
+one_reply before mid now replies reply first second =
+    subst (λ (t : List ℕ). Writes before now t) (sym (concat-append replies (reply ∷ []) ∙ ap (λ t. concat replies ++ t) (append-nil reply))) (Writes-append before mid now _ reply first second)
+
+module _ (d : Session) (lines : List (List ℕ)) (before : Option (List ℕ)) (mid_d : Session) (mid : Option (List ℕ)) (had : HasAnswered d lines before mid_d mid) (line : List ℕ) (now : Option (List ℕ)) (d' : Session) (outcome : Outcome) (answers : Answers line mid now mid_d d' outcome) where
+  -- one more line
+  pub answered_more : is_end outcome ≡ false → HasAnswered d (lines ++ line ∷ []) before d' now
+  answered_more goes =
+      let reply = reply_of (line_step mid_d line) in
+      let one : replies_to mid_d (line ∷ []) ≡ reply ∷ [] = replies-next mid_d d' (line ∷ []) line [] outcome refl answers.session answers.outcome_is goes in
+      let replies_are : replies_to d (lines ++ line ∷ []) ≡ replies_to d lines ++ reply ∷ [] = had.follows (line ∷ []) ∙ ap (λ t. replies_to d lines ++ t) one in
+      record {
+        follows = λ more.
+            ap (replies_to d) (append_assoc lines (line ∷ []) more) ∙ had.follows (line ∷ more)
+            ∙ ap (λ t. replies_to d lines ++ t) (replies-next mid_d d' (line ∷ more) line more outcome refl answers.session answers.outcome_is goes)
+            ∙ sym (append_assoc (replies_to d lines) (reply ∷ []) (replies_to d' more)) ∙ ap (λ t. t ++ replies_to d' more) (sym replies_are);
+        written = subst (λ (t : List (List ℕ)). Writes before now (concat t)) (sym replies_are) (one_reply before mid now (replies_to d lines) reply had.written answers.written);
+      }
+
+  -- the line that ends the script
+  answered_last : is_end outcome ≡ true → Writes before now (concat (replies_to d (lines ++ line ∷ [])))
+  answered_last ends =
+      let reply = reply_of (line_step mid_d line) in
+      let one : replies_to mid_d (line ∷ []) ≡ reply ∷ [] = replies-last mid_d d' (line ∷ []) line [] outcome refl answers.session answers.outcome_is ends in
+      subst (λ (t : List (List ℕ)). Writes before now (concat t)) (sym (had.follows (line ∷ []) ∙ ap (λ t. replies_to d lines ++ t) one)) (one_reply before mid now (replies_to d lines) reply had.written answers.written)
+
 -- What was served so far ends where a line ends, and the rest is served as if it were read alone.
 pub record AtLine (d : Session) (script : List ℕ) (before : Option (List ℕ)) (d' : Session) (now : Option (List ℕ)) (rest : List ℕ) : Type 0 where
   pub done : List ℕ
   pub parts : script ≡ done ++ rest
   pub whole : IsWhole done
   pub no_quit : list_any (λ line. ends_script (line_of line)) (lines_of done) ≡ false
-  pub follows : (lines : List (List ℕ)) → replies_to d (lines_of done ++ lines) ≡ replies_to d (lines_of done) ++ replies_to d' lines
-  pub written : Writes before now (concat (replies_to d (lines_of done)))
+  pub answered : HasAnswered d (lines_of done) before d' now
 
 -- The replies so far, and those to what is still to come, are the replies to the script.
 pub record IsServed (limit : ℕ) (d : Session) (script : List ℕ) (before : Option (List ℕ)) (d' : Session) (refused : Bool) (now : Option (List ℕ)) (reader : Reader) (left : Option (List ℕ)) : Type 0 where
@@ -98,7 +132,7 @@ served_none limit d script before left reader is told = rw (is, told) (record {
   later = refl;
   sent = record { sent = []; parts = refl; written = nothing_written before before refl };
   refused_is = refl;
-  at_line = λ _. record { done = []; parts = refl; whole = whole_empty; no_quit = refl; follows = λ lines. refl; written = nothing_written before before refl };
+  at_line = λ _. record { done = []; parts = refl; whole = whole_empty; no_quit = refl; answered = answered_none d before };
   met = λ ended. absurd (cc ended);
   counts = omega arith;
   most = omega arith;
@@ -106,25 +140,16 @@ served_none limit d script before left reader is told = rw (is, told) (record {
 
 -- one more line
 line_served : (d : Session) (script : List ℕ) (before : Option (List ℕ)) (mid_d : Session) (mid : Option (List ℕ)) (rest : List ℕ) (d' : Session) (now : Option (List ℕ)) (outcome : Outcome)
-    → AtLine d script before mid_d mid rest → has_line_end rest ≡ true → (line_step mid_d (leading_line rest)).session ≡ d' → (line_step mid_d (leading_line rest)).outcome ≡ outcome → is_end outcome ≡ false
-    → Writes mid now (reply_of (line_step mid_d (leading_line rest))) → AtLine d script before d' now (after_line rest)
-line_served d script before mid_d mid rest d' now outcome at ends leaves becomes goes writes =
+    → AtLine d script before mid_d mid rest → has_line_end rest ≡ true → Answers (leading_line rest) mid now mid_d d' outcome → is_end outcome ≡ false → AtLine d script before d' now (after_line rest)
+line_served d script before mid_d mid rest d' now outcome at ends answers goes =
     let line = leading_line rest in
-    let reply = reply_of (line_step mid_d line) in
     let lines_are : lines_of (at.done ++ (line ++ 10 ∷ [])) ≡ lines_of at.done ++ line ∷ [] = lines_more at.done line at.whole (leading_one rest) in
-    let one : replies_to mid_d (line ∷ []) ≡ reply ∷ [] = replies-next mid_d d' (line ∷ []) line [] outcome refl leaves becomes goes in
-    let replies_are : replies_to d (lines_of (at.done ++ (line ++ 10 ∷ []))) ≡ replies_to d (lines_of at.done) ++ reply ∷ [] = ap (replies_to d) lines_are ∙ at.follows (line ∷ []) ∙ ap (λ t. replies_to d (lines_of at.done) ++ t) one in
     record {
       done = at.done ++ (line ++ 10 ∷ []);
       parts = at.parts ∙ ap (λ t. at.done ++ t) (cut_at_end rest ends ∙ sym (append_assoc line (10 ∷ []) (after_line rest))) ∙ sym (append_assoc at.done (line ++ 10 ∷ []) (after_line rest));
       whole = whole_more at.done line at.whole (leading_one rest);
-      no_quit = ap (list_any (λ l. ends_script (line_of l))) lines_are ∙ list_any-append (λ l. ends_script (line_of l)) (lines_of at.done) (line ∷ []) ∙ rw (at.no_quit, ← quit_ends mid_d line, becomes, goes) refl;
-      follows = λ lines.
-          ap (λ t. replies_to d (t ++ lines)) lines_are ∙ ap (replies_to d) (append_assoc (lines_of at.done) (line ∷ []) lines) ∙ at.follows (line ∷ lines)
-          ∙ ap (λ t. replies_to d (lines_of at.done) ++ t) (replies-next mid_d d' (line ∷ lines) line lines outcome refl leaves becomes goes)
-          ∙ sym (append_assoc (replies_to d (lines_of at.done)) (reply ∷ []) (replies_to d' lines)) ∙ ap (λ t. t ++ replies_to d' lines) (sym replies_are);
-      written = subst (λ (t : List (List ℕ)). Writes before now (concat t)) (sym replies_are)
-          (subst (λ (t : List ℕ). Writes before now t) (sym (concat-append (replies_to d (lines_of at.done)) (reply ∷ []) ∙ ap (λ t. concat (replies_to d (lines_of at.done)) ++ t) (append-nil reply))) (Writes-append before mid now _ reply at.written writes));
+      no_quit = ap (list_any (λ l. ends_script (line_of l))) lines_are ∙ list_any-append (λ l. ends_script (line_of l)) (lines_of at.done) (line ∷ []) ∙ rw (at.no_quit, ← quit_ends mid_d line, answers.outcome_is, goes) refl;
+      answered = subst (λ (t : List (List ℕ)). HasAnswered d t before d' now) (sym lines_are) (answered_more d (lines_of at.done) before mid_d mid at.answered line now d' outcome answers goes);
     }
 
 counts_then : (script : List ℕ) (mid now past : ℕ) (left_mid left : Option (List ℕ)) → Counts 0 mid 0 (Some script) left_mid → Counts mid now past left_mid left → Counts 0 now past (Some script) left
@@ -163,9 +188,9 @@ module _ (limit : ℕ) (d : Session) (script : List ℕ) (before : Option (List 
         record {
           rest = after_line served.rest;
           later = a.later;
-          sent = HasSent-more before mid now _ _ (reply_of (line_step mid_d line)) _ served.sent a.written (replies-next mid_d d' (lines_of served.rest) line (lines_of (after_line served.rest)) outcome cut a.session a.outcome_is goes);
-          refused_is = refused_more refused (is_refused outcome) _ _ _ served.refused_is (refuses-next mid_d d' (lines_of served.rest) line (lines_of (after_line served.rest)) outcome cut a.session a.outcome_is goes);
-          at_line = λ on. line_served d script before mid_d mid served.rest d' now outcome (served.at_line (was_going reader.ended reader'.ended moves.stays on)) (a.last on) a.session a.outcome_is goes a.written;
+          sent = HasSent-more before mid now _ _ (reply_of (line_step mid_d line)) _ served.sent a.answered.written (replies-next mid_d d' (lines_of served.rest) line (lines_of (after_line served.rest)) outcome cut a.answered.session a.answered.outcome_is goes);
+          refused_is = refused_more refused (is_refused outcome) _ _ _ served.refused_is (refuses-next mid_d d' (lines_of served.rest) line (lines_of (after_line served.rest)) outcome cut a.answered.session a.answered.outcome_is goes);
+          at_line = λ on. line_served d script before mid_d mid served.rest d' now outcome (served.at_line (was_going reader.ended reader'.ended moves.stays on)) (a.last on) a.answered goes;
           met = met_then reader.ended reader'.ended left left' served.met moves.same moves.ended;
           counts = counts_then script reader.taken reader'.taken 0 left left' served.counts moves.taken;
           most = moves.most;
@@ -232,8 +257,8 @@ quit_here limit d script before mid_d refused mid reader left served d' now read
     let cut = first_of_lines served.rest a.some in
     let counts = counts_then script reader.taken reader'.taken 0 left left' served.counts moves.taken in (
       by reader'.ended refl,
-      refused_is refused (is_refused outcome) _ _ (only_end outcome ends) (refuses-last mid_d (lines_of served.rest) line _ outcome cut a.outcome_is ends) served.refused_is,
-      HasSent-all before now _ (HasSent-more before mid now _ _ (reply_of (line_step mid_d line)) _ served.sent a.written (replies-last mid_d d' (lines_of served.rest) line _ outcome cut a.session a.outcome_is ends)),
+      refused_is refused (is_refused outcome) _ _ (only_end outcome ends) (refuses-last mid_d (lines_of served.rest) line _ outcome cut a.answered.outcome_is ends) served.refused_is,
+      HasSent-all before now _ (HasSent-more before mid now _ _ (reply_of (line_step mid_d line)) _ served.sent a.answered.written (replies-last mid_d d' (lines_of served.rest) line _ outcome cut a.answered.session a.answered.outcome_is ends)),
     )
   where
     refused_is : (so_far one later all : Bool) → one ≡ false → later ≡ (one || false) → (so_far || later) ≡ all → (so_far || one) ≡ all
@@ -249,7 +274,7 @@ quit_here limit d script before mid_d refused mid reader left served d' now read
         let done = at.done ++ (line ++ 10 ∷ []) in
         let parts : script ≡ done ++ after_line served.rest = at.parts ∙ ap (λ t. at.done ++ t) (cut_at_end served.rest (a.last is) ∙ sym (append_assoc line (10 ∷ []) (after_line served.rest))) ∙ sym (append_assoc at.done (line ++ 10 ∷ []) (after_line served.rest)) in
         let last : list_any (λ l. ends_script (line_of l)) (lines_of done) ≡ true =
-        ap (list_any (λ l. ends_script (line_of l))) (lines_more at.done line at.whole one) ∙ list_any-append (λ l. ends_script (line_of l)) (lines_of at.done) (line ∷ []) ∙ rw (at.no_quit, ← quit_ends mid_d line, a.outcome_is, ends) refl in
+        ap (list_any (λ l. ends_script (line_of l))) (lines_more at.done line at.whole one) ∙ list_any-append (λ l. ends_script (line_of l)) (lines_of at.done) (line ∷ []) ∙ rw (at.no_quit, ← quit_ends mid_d line, a.answered.outcome_is, ends) refl in
         quits_within limit script done (after_line served.rest) parts (whole_more at.done line at.whole one)
         (lengths limit reader'.taken done (after_line served.rest) reader'.hand script left' reader' is refl parts a.later (counts_then script reader.taken reader'.taken 0 left left' served.counts moves.taken) moves.most)
         last
@@ -269,7 +294,7 @@ module _ (limit : ℕ) (d : Session) (script : List ℕ) (before : Option (List 
       let taken : taken_of script left' ≡ at.done ++ stops.part =
       ap (taken_of script) stops.left_is ∙ ap (λ t. taken_of t (Some stops.rest)) (at.parts ∙ ap (λ t. at.done ++ t) stops.parts ∙ sym (append_assoc at.done stops.part stops.rest)) ∙ taken_front (at.done ++ stops.part) stops.rest in
       let whole : whole_lines (taken_of script left') ≡ at.done = ap whole_lines taken ∙ whole_is at.done stops.part at.whole stops.no_end in
-      (rw same (HasSent-first before mid _ _ served.sent), rw (whole, same) at.written)
+      (rw same (HasSent-first before mid _ _ served.sent), rw (whole, same) at.answered.written)
 
   -- what was answered of a script that goes on beyond the limit
   too_long_here : (now : Option (List ℕ)) (reader' : Reader) (left' : Option (List ℕ)) (b : ℕ) → now ≡ mid → AtLine d script before mid_d mid served.rest → StopsIn served.rest (b ∷ []) left' → Moves limit 1 reader reader' left left' → limit ≤ reader'.taken
@@ -282,7 +307,7 @@ module _ (limit : ℕ) (d : Session) (script : List ℕ) (before : Option (List 
       let whole : whole_lines (take limit script) ≡ at.done = ap whole_lines front ∙ whole_is at.done stops.part at.whole stops.no_end in
       let no_quit : has_quit (take limit script) ≡ false = ap (λ t. list_any (λ l. ends_script (line_of l)) (lines_of t)) whole ∙ at.no_quit in
       let long : nat_lt limit (length script) ≡ true = (let more : limit < length script = omega (arith, counts, moves.most, least) in grind (arith, nat_tests, more)) in
-      (rw (long, no_quit) refl, rw same (HasSent-first before mid _ _ served.sent), rw (whole, same) at.written)
+      (rw (long, no_quit) refl, rw same (HasSent-first before mid _ _ served.sent), rw (whole, same) at.answered.written)
 
   -- a script that is not served to its end
   pub served_err : (d' : Session) (now : Option (List ℕ)) (reader' : Reader) (left' : Option (List ℕ)) (past : ℕ) (e : End)
@@ -314,26 +339,83 @@ pub next_answered : (text : List ℕ) (before now : Option (List ℕ)) (d d' : S
     → OnOk r ((line_step d (leading_line text)).session ≡ d') → IfOk r (λ outcome. (line_step d (leading_line text)).outcome ≡ outcome) → OnOk r (Writes before now (reply_of (line_step d (leading_line text))))
     → (r ≡ Err Memory → now ≡ before) → (r ≡ Err Memory → 0 < length (reply_of (line_step d (leading_line text)))) → (r ≡ Err Sink → WritesFront before now (reply_of (line_step d (leading_line text))))
     → r ≢ Err Files → r ≢ Err TooLong → ServesNext text before now d d' reader left r
-next_answered text before now d d' reader left (Ok outcome) some later last session outcome_is written memory replies front no_files no_limit =
-    inr (record { some = some; session = session; outcome_is = outcome_is; written = written; later = later; last = last })
-next_answered text before now d d' reader left (Err Files) some later last session outcome_is written memory replies front no_files no_limit = absurd (no_files refl)
-next_answered text before now d d' reader left (Err Sink) some later last session outcome_is written memory replies front no_files no_limit = (some, front refl)
-next_answered text before now d d' reader left (Err Memory) some later last session outcome_is written memory replies front no_files no_limit = (memory refl, some, replies refl)
-next_answered text before now d d' reader left (Err TooLong) some later last session outcome_is written memory replies front no_files no_limit = absurd (no_limit refl)
+next_answered text before now d d' reader left (Ok outcome) some later cut session outcome_is written memory replies front no_files no_limit =
+    inr (record { some = some; answered = record { session = session; outcome_is = outcome_is; written = written }; later = later; last = cut })
+next_answered text before now d d' reader left (Err Files) some later cut session outcome_is written memory replies front no_files no_limit = absurd (no_files refl)
+next_answered text before now d d' reader left (Err Sink) some later cut session outcome_is written memory replies front no_files no_limit = (some, front refl)
+next_answered text before now d d' reader left (Err Memory) some later cut session outcome_is written memory replies front no_files no_limit = (memory refl, some, replies refl)
+next_answered text before now d d' reader left (Err TooLong) some later cut session outcome_is written memory replies front no_files no_limit = absurd (no_limit refl)
 
--- the same of a line that is too long
+-- the answer to a line that is too long
+refused_line : (d : Session) (line : List ℕ) (before now : Option (List ℕ)) (outcome : Outcome) → 65536 < length line → outcome ≡ Refused BadLine → Writes before now (refusal_line BadLine) → Answers line before now d d outcome
+refused_line d line before now outcome long outcome_is written =
+    let step = long_step d line long in
+    record { session = ap (λ s. s.session) step; outcome_is = ap (λ s. s.outcome) step ∙ sym outcome_is; written = rw step written }
+
+-- what the answer to a line leaves, whatever the line is
+pub some_answered : (line : List ℕ) (before now : Option (List ℕ)) (d d' : Session) (r : Result Outcome End)
+    → OnOk r ((line_step d line).session ≡ d') → IfOk r (λ outcome. (line_step d line).outcome ≡ outcome) → OnOk r (Writes before now (reply_of (line_step d line)))
+    → (r ≡ Err Memory → now ≡ before) → r ≢ Err Files → r ≢ Err TooLong → ServesSome before now d d' r
+some_answered line before now d d' (Ok outcome) session outcome_is written memory no_files no_limit = inr (line, record { session = session; outcome_is = outcome_is; written = written })
+some_answered line before now d d' (Err Files) session outcome_is written memory no_files no_limit = absurd (no_files refl)
+some_answered line before now d d' (Err Sink) session outcome_is written memory no_files no_limit = λ ne. absurd (ne refl)
+some_answered line before now d d' (Err Memory) session outcome_is written memory no_files no_limit = λ ne. memory refl
+some_answered line before now d d' (Err TooLong) session outcome_is written memory no_files no_limit = absurd (no_limit refl)
+
+-- there is a line of each length
+line_of_length : (n : ℕ) → (line : List ℕ) × (length line ≡ n)
+line_of_length n = (replicate n 0, length-replicate n 0)
+
+-- the same of the answer to a line that is too long
+pub some_refused : (before now : Option (List ℕ)) (d : Session) (r : Result Outcome End) → IfOk r (λ outcome. outcome ≡ Refused BadLine) → OnOk r (Writes before now (refusal_line BadLine))
+    → (r ≡ Err Memory → now ≡ before) → r ≢ Err Files → r ≢ Err TooLong → ServesSome before now d d r
+some_refused before now d (Ok outcome) outcome_is written memory no_files no_limit =
+    let long = line_of_length 65537 in
+    inr (long.0, refused_line d long.0 before now outcome (omega (arith, long.1)) outcome_is written)
+some_refused before now d (Err Files) outcome_is written memory no_files no_limit = absurd (no_files refl)
+some_refused before now d (Err Sink) outcome_is written memory no_files no_limit = λ ne. absurd (ne refl)
+some_refused before now d (Err Memory) outcome_is written memory no_files no_limit = λ ne. memory refl
+some_refused before now d (Err TooLong) outcome_is written memory no_files no_limit = absurd (no_limit refl)
+
+-- ---- lines that were answered, whatever they are
+
+-- the lines answered so far
+pub record SomeAnswered (before now : Option (List ℕ)) (d d' : Session) : Type 0 where
+  pub lines : List (List ℕ)
+  pub had : HasAnswered d lines before d' now
+
+pub some_none : (before : Option (List ℕ)) (d : Session) → SomeAnswered before before d d
+some_none before d = record { lines = []; had = answered_none d before }
+
+pub some_more : (before mid now : Option (List ℕ)) (d mid_d d' : Session) (outcome : Outcome) → SomeAnswered before mid d mid_d → ServesSome mid now mid_d d' (Ok outcome) → is_end outcome ≡ false → SomeAnswered before now d d'
+some_more before mid now d mid_d d' outcome so_far serves goes = elim serves [
+  | inl e ↦ absurd (cc (sym e.1 ∙ goes))
+  | inr a ↦ record { lines = so_far.lines ++ a.0 ∷ []; had = answered_more d so_far.lines before mid_d mid so_far.had a.0 now d' outcome a.1 goes }
+]
+
+pub some_end : (before mid now : Option (List ℕ)) (d mid_d d' : Session) (outcome : Outcome) → SomeAnswered before mid d mid_d → ServesSome mid now mid_d d' (Ok outcome) → is_end outcome ≡ true → WritesReplies before now d
+some_end before mid now d mid_d d' outcome so_far serves ends = elim serves [
+  | inl e ↦ (so_far.lines, rw e.0 so_far.had.written)
+  | inr a ↦ (so_far.lines ++ a.0 ∷ [], answered_last d so_far.lines before mid_d mid so_far.had a.0 now d' outcome a.1 ends)
+]
+
+pub some_err : (before mid now : Option (List ℕ)) (d mid_d d' : Session) (e : End) → SomeAnswered before mid d mid_d → ServesSome mid now mid_d d' (Err e) → e ≢ Sink → WritesReplies before now d
+some_err before mid now d mid_d d' e so_far serves ne = (so_far.lines, rw (serves ne) so_far.had.written)
+
+-- ---- a line that is too long, and its text
+
+-- the same of a line that is too long, and of what is to come
 pub next_refused : (text : List ℕ) (before now : Option (List ℕ)) (d : Session) (reader : Reader) (left : Option (List ℕ)) (r : Result Outcome End)
     → 65536 < length (leading_line text) → 0 < length text → to_come reader left ≡ Some (after_line text) → (reader.ended ≡ false → has_line_end text ≡ true)
     → IfOk r (λ outcome. outcome ≡ Refused BadLine) → OnOk r (Writes before now (refusal_line BadLine))
     → (r ≡ Err Memory → now ≡ before) → (r ≡ Err Memory → 0 < length (refusal_line BadLine)) → (r ≡ Err Sink → WritesFront before now (refusal_line BadLine))
     → r ≢ Err Files → r ≢ Err TooLong → ServesNext text before now d d reader left r
-next_refused text before now d reader left (Ok outcome) long some later last outcome_is written memory replies front no_files no_limit =
-    let step = long_step d (leading_line text) long in
-    inr (record { some = some; session = ap (λ s. s.session) step; outcome_is = ap (λ s. s.outcome) step ∙ sym outcome_is; written = rw step written; later = later; last = last })
-next_refused text before now d reader left (Err Files) long some later last outcome_is written memory replies front no_files no_limit = absurd (no_files refl)
-next_refused text before now d reader left (Err Sink) long some later last outcome_is written memory replies front no_files no_limit = (some, rw (long_step d (leading_line text) long) (front refl))
-next_refused text before now d reader left (Err Memory) long some later last outcome_is written memory replies front no_files no_limit = (memory refl, some, rw (long_step d (leading_line text) long) (replies refl))
-next_refused text before now d reader left (Err TooLong) long some later last outcome_is written memory replies front no_files no_limit = absurd (no_limit refl)
+next_refused text before now d reader left (Ok outcome) long some later cut outcome_is written memory replies front no_files no_limit =
+    inr (record { some = some; answered = refused_line d (leading_line text) before now outcome long outcome_is written; later = later; last = cut })
+next_refused text before now d reader left (Err Files) long some later cut outcome_is written memory replies front no_files no_limit = absurd (no_files refl)
+next_refused text before now d reader left (Err Sink) long some later cut outcome_is written memory replies front no_files no_limit = (some, rw (long_step d (leading_line text) long) (front refl))
+next_refused text before now d reader left (Err Memory) long some later cut outcome_is written memory replies front no_files no_limit = (memory refl, some, rw (long_step d (leading_line text) long) (replies refl))
+next_refused text before now d reader left (Err TooLong) long some later cut outcome_is written memory replies front no_files no_limit = absurd (no_limit refl)
 
 -- what only grew, twice
 pub grows_then : (a b c : Option (List ℕ)) → Grows a b → Grows b c → Grows a c

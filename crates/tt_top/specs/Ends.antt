@@ -11,7 +11,7 @@ use Rattle.tt_desk.specs.Script.{lines_of}
 use Rattle.tt_desk.specs.declared.refusal.Outcome.{Outcome}
 use Rattle.tt_desk.specs.declared.refusal.Outcome.TheVariants.{Ended}
 use Rattle.tt_desk.specs.Desk.{Session, opening_desk, line_step}
-use Rattle.tt_desk.specs.Replies.{reply_of, replies_to, refuses}
+use Rattle.tt_desk.specs.Replies.{is_end, reply_of, replies_to, refuses}
 use Rattle.tt_top.specs.declared.end.End.{End}
 use Rattle.tt_top.specs.declared.end.End.TheVariants.{Files, Sink, Memory, TooLong}
 use Rattle.tt_top.specs.declared.end.Done.{Done}
@@ -112,6 +112,12 @@ Opens limit before now b (Err Sink) = WritesFront before now (first_line (opened
 Opens limit before now b (Err Memory) = now ≡ before
 Opens limit before now b (Err TooLong) = (due_status limit b ≡ 8) × (now ≡ before)
 
+-- Some bytes of the files give this session, or this fault.
+pub record IsOpened (l : Result Session InputFault) : Type 0 where
+  pub problem : List ℕ
+  pub published : Option (List ℕ)
+  pub is : opened problem published ≡ seen l
+
 -- how many of the words of these files were asked for
 abbrev pub IsFaultyAt : FileWords → ℕ → Input → Type 0
 IsFaultyAt words count Problem = count ≡ 1
@@ -143,12 +149,16 @@ Serves limit before now d s left (Err Sink) = WritesFront before now (concat (re
 Serves limit before now d s left (Err Memory) = WritesFirst before now (replies_to d (lines_of (unwrap_or s []))) × (WritesLess before now (concat (replies_to d (lines_of (unwrap_or s [])))) ⊎ (IsSome s × (now ≡ before)))
 Serves limit before now d s left (Err TooLong) = (is_long_script limit s ≡ true) × WritesFirst before now (replies_to d (lines_of (unwrap_or s []))) × Writes before now (concat (replies_up_to d (take limit (unwrap_or s []))))
 
+-- This line was answered.
+pub record Answers (line : List ℕ) (before now : Option (List ℕ)) (d d' : Session) (outcome : Outcome) : Type 0 where
+  pub session : (line_step d line).session ≡ d'
+  pub outcome_is : (line_step d line).outcome ≡ outcome
+  pub written : Writes before now (reply_of (line_step d line))
+
 -- The text was ended, or its first line was answered, and what follows it is to come.
 pub record AnswersLine (text : List ℕ) (before now : Option (List ℕ)) (d d' : Session) (reader : Reader) (left : Option (List ℕ)) (outcome : Outcome) : Type 0 where
   pub some : 0 < length text
-  pub session : (line_step d (leading_line text)).session ≡ d'
-  pub outcome_is : (line_step d (leading_line text)).outcome ≡ outcome
-  pub written : Writes before now (reply_of (line_step d (leading_line text)))
+  pub answered : Answers (leading_line text) before now d d' outcome
   pub later : to_come reader left ≡ Some (after_line text)
   -- a line without a line end is answered only where the end of the file was met
   pub last : reader.ended ≡ false → has_line_end text ≡ true
@@ -167,6 +177,16 @@ ServesNext text before now d d' reader left (Err Files) = (now ≡ before) × St
 ServesNext text before now d d' reader left (Err Sink) = (0 < length text) × WritesFront before now (reply_of (line_step d (leading_line text)))
 ServesNext text before now d d' reader left (Err Memory) = (now ≡ before) × (0 < length text) × (0 < length (reply_of (line_step d (leading_line text))))
 ServesNext text before now d d' reader left (Err TooLong) = (now ≡ before) × ((b : ℕ) × StopsIn text (b ∷ []) left)
+
+-- What serving a next line leaves, whatever it is: the script was ended, or some line was answered; nothing is written where the
+-- run ends, but for a failed write.
+abbrev pub ServesSome : (before now : Option (List ℕ)) → (d d' : Session) → Result Outcome End → Type 0
+ServesSome before now d d' (Ok outcome) = ((now ≡ before) × (is_end outcome ≡ true)) ⊎ ((line : List ℕ) × Answers line before now d d' outcome)
+ServesSome before now d d' (Err end) = end ≢ Sink → now ≡ before
+
+-- The replies to some lines were written.
+abbrev pub WritesReplies : (before now : Option (List ℕ)) → Session → Type 0
+WritesReplies before now d = (lines : List (List ℕ)) × Writes before now (concat (replies_to d lines))
 
 -- how many bytes past the limit were read
 abbrev pub past_limit : {T : Type 0} → Result T End → ℕ

@@ -6,7 +6,7 @@ use Rattle.tt_io.specs.Whole.{WritesFront, WritesPast}
 use Rattle.tt_read.specs.Tables.{problem_of}
 use Rattle.tt_top.specs.Pieces.{has_quit, taken_of, text_up_to}
 use Rattle.tt_top.specs.Words.{FileWords, Form, Files, Verify, Demo, Make, first_words, file_words, usage_line}
-use Rattle.tt_top.specs.Transcript.{Bytes, Transcript, opened, transcript, verify_transcript, demo_transcript, make_transcript, text_of, first_line}
+use Rattle.tt_top.specs.Transcript.{Bytes, Transcript, opened, pieces_of, transcript, verify_transcript, demo_transcript, make_transcript, text_of, first_line}
 
 -- the most bytes of a file
 abbrev pub file_limit : ℕ
@@ -86,6 +86,14 @@ WritesFirst before now pieces = (count : ℕ) × Writes before now (concat (take
 abbrev pub WritesLess : Option (List ℕ) → Option (List ℕ) → List ℕ → Type 0
 WritesLess before now text = (front : List ℕ) × (rest : List ℕ) × (text ≡ front ++ rest) × (0 < length rest) × Writes before now front
 
+-- What is written is what a plain desk writes for some bytes of a problem, of a published file or none, and for some lines: the
+-- first of its pieces, each whole.
+pub record WritesAsDesk (before now : Option (List ℕ)) : Type 0 where
+  pub problem : List ℕ
+  pub published : Option (List ℕ)
+  pub lines : List (List ℕ)
+  pub written : WritesFirst before now (pieces_of (opened problem published) lines)
+
 -- What is written is the transcript, or a front of it.
 pub record IsTranscript (words : FileWords) (limit : ℕ) (o : Outside) (status : ℕ) : Type 0 where
   pub whole : (b : Bytes) → Tell o.holds words limit b → status ≤ 4 → Writes o.before.written o.now.written (text_of (transcript b))
@@ -98,6 +106,8 @@ pub record IsTranscript (words : FileWords) (limit : ℕ) (o : Outside) (status 
   -- where memory is wanting, less than the whole is written, or the first line where there is a script
   pub wanting : (b : Bytes) → Tell o.holds words limit b → status ≡ 7
       → WritesLess o.before.written o.now.written (text_of (transcript b)) ⊎ (IsSome b.script × Writes o.before.written o.now.written (first_line (opened b.problem b.published)))
+  -- whatever the files tell, nothing was written, or a first line and whole replies
+  pub untold : status ≢ 6 → WritesAsDesk o.before.written o.now.written
 
 -- Where a call on the files failed, or a file is too long, nothing was written, or the first line and the reply to each line
 -- that was taken whole. A byte past the limit doesn't count as taken. Nothing is written only where the script wasn't asked for.
