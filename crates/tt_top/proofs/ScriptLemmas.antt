@@ -352,6 +352,19 @@ refused_line d line before now outcome long outcome_is written =
     let step = long_step d line long in
     record { session = ap (λ s. s.session) step; outcome_is = ap (λ s. s.outcome) step ∙ sym outcome_is; written = rw step written }
 
+-- what the answer to a line that is too long leaves, whatever becomes of it
+pub next_refused : (text : List ℕ) (before now : Option (List ℕ)) (d : Session) (reader : Reader) (left : Option (List ℕ)) (r : Result Outcome End)
+    → 65536 < length (leading_line text) → 0 < length text → to_come reader left ≡ Some (after_line text) → (reader.ended ≡ false → has_line_end text ≡ true)
+    → IfOk r (λ outcome. outcome ≡ Refused BadLine) → OnOk r (Writes before now (refusal_line BadLine))
+    → (r ≡ Err Memory → now ≡ before) → (r ≡ Err Memory → 0 < length (refusal_line BadLine)) → (r ≡ Err Sink → WritesFront before now (refusal_line BadLine))
+    → r ≢ Err Files → r ≢ Err TooLong → ServesNext text before now d d reader left r
+next_refused text before now d reader left (Ok outcome) long some later cut outcome_is written memory replies front no_files no_limit =
+    inr (record { some = some; answered = refused_line d (leading_line text) before now outcome long outcome_is written; later = later; last = cut })
+next_refused text before now d reader left (Err Files) long some later cut outcome_is written memory replies front no_files no_limit = absurd (no_files refl)
+next_refused text before now d reader left (Err Sink) long some later cut outcome_is written memory replies front no_files no_limit = (some, rw (long_step d (leading_line text) long) (front refl))
+next_refused text before now d reader left (Err Memory) long some later cut outcome_is written memory replies front no_files no_limit = (memory refl, some, rw (long_step d (leading_line text) long) (replies refl))
+next_refused text before now d reader left (Err TooLong) long some later cut outcome_is written memory replies front no_files no_limit = absurd (no_limit refl)
+
 -- what the answer to a line leaves, whatever the line is
 pub some_answered : (line : List ℕ) (before now : Option (List ℕ)) (d d' : Session) (r : Result Outcome End)
     → OnOk r ((line_step d line).session ≡ d') → IfOk r (λ outcome. (line_step d line).outcome ≡ outcome) → OnOk r (Writes before now (reply_of (line_step d line)))
@@ -377,6 +390,15 @@ some_refused before now d (Err Sink) outcome_is written memory no_files no_limit
 some_refused before now d (Err Memory) outcome_is written memory no_files no_limit = λ ne. memory refl
 some_refused before now d (Err TooLong) outcome_is written memory no_files no_limit = absurd (no_limit refl)
 
+-- what only grew, twice
+pub grows_then : (a b c : Option (List ℕ)) → Grows a b → Grows b c → Grows a c
+grows_then a b c first second = (first.0 ++ second.0, Writes-append a b c first.0 second.0 first.1 second.1)
+
+-- a text with a long line isn't empty
+pub some_of : (text : List ℕ) → 65536 < length (leading_line text) → 0 < length text
+some_of [] long = absurd (omega (arith, long))
+some_of (b ∷ bs) long = omega arith
+
 -- ---- lines that were answered, whatever they are
 
 -- the lines answered so far
@@ -401,27 +423,3 @@ some_end before mid now d mid_d d' outcome so_far serves ends = elim serves [
 
 pub some_err : (before mid now : Option (List ℕ)) (d mid_d d' : Session) (e : End) → SomeAnswered before mid d mid_d → ServesSome mid now mid_d d' (Err e) → e ≢ Sink → WritesReplies before now d
 some_err before mid now d mid_d d' e so_far serves ne = (so_far.lines, rw (serves ne) so_far.had.written)
-
--- ---- a line that is too long, and its text
-
--- the same of a line that is too long, and of what is to come
-pub next_refused : (text : List ℕ) (before now : Option (List ℕ)) (d : Session) (reader : Reader) (left : Option (List ℕ)) (r : Result Outcome End)
-    → 65536 < length (leading_line text) → 0 < length text → to_come reader left ≡ Some (after_line text) → (reader.ended ≡ false → has_line_end text ≡ true)
-    → IfOk r (λ outcome. outcome ≡ Refused BadLine) → OnOk r (Writes before now (refusal_line BadLine))
-    → (r ≡ Err Memory → now ≡ before) → (r ≡ Err Memory → 0 < length (refusal_line BadLine)) → (r ≡ Err Sink → WritesFront before now (refusal_line BadLine))
-    → r ≢ Err Files → r ≢ Err TooLong → ServesNext text before now d d reader left r
-next_refused text before now d reader left (Ok outcome) long some later cut outcome_is written memory replies front no_files no_limit =
-    inr (record { some = some; answered = refused_line d (leading_line text) before now outcome long outcome_is written; later = later; last = cut })
-next_refused text before now d reader left (Err Files) long some later cut outcome_is written memory replies front no_files no_limit = absurd (no_files refl)
-next_refused text before now d reader left (Err Sink) long some later cut outcome_is written memory replies front no_files no_limit = (some, rw (long_step d (leading_line text) long) (front refl))
-next_refused text before now d reader left (Err Memory) long some later cut outcome_is written memory replies front no_files no_limit = (memory refl, some, rw (long_step d (leading_line text) long) (replies refl))
-next_refused text before now d reader left (Err TooLong) long some later cut outcome_is written memory replies front no_files no_limit = absurd (no_limit refl)
-
--- what only grew, twice
-pub grows_then : (a b c : Option (List ℕ)) → Grows a b → Grows b c → Grows a c
-grows_then a b c first second = (first.0 ++ second.0, Writes-append a b c first.0 second.0 first.1 second.1)
-
--- a text with a long line isn't empty
-pub some_of : (text : List ℕ) → 65536 < length (leading_line text) → 0 < length text
-some_of [] long = absurd (omega (arith, long))
-some_of (b ∷ bs) long = omega arith

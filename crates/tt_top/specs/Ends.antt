@@ -112,7 +112,7 @@ Opens limit before now b (Err Sink) = WritesFront before now (first_line (opened
 Opens limit before now b (Err Memory) = now ≡ before
 Opens limit before now b (Err TooLong) = (due_status limit b ≡ 8) × (now ≡ before)
 
--- Some bytes of the files give this session, or this fault.
+-- Some bytes of the files give such a session, or such a fault.
 pub record IsOpened (l : Result Session InputFault) : Type 0 where
   pub problem : List ℕ
   pub published : Option (List ℕ)
