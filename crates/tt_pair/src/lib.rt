@@ -33,17 +33,11 @@ pub struct PairGroup {
 
 impl PairGroup {
     /// A group of so many members, none of them placed.
-    pub fn new(
-        alloc: Global,
-        kind: PairKind,
-        members: u32,
-        travel: &Travel,
-    ) -> Result<PairGroup, AllocError>
+    pub fn new(alloc: Global, kind: PairKind, members: u32) -> Result<PairGroup, AllocError>
         requires { members ≤ most_members }
         ensures held { IfOk result (λ g. ⟦<PairGroup as Measure>⟧.held g ≡ replicate members None) }
         ensures weeks { IfOk result (λ g. ⟦<PairGroup as Measure>⟧.weeks g ≡ most_weeks) }
         ensures shape { IfOk result (λ g. ⟦<PairGroup as Measure>⟧.shape g ≡ pair_shape kind members) }
-        ensures spare { IfOk result (λ g. ⟦<PairGroup as Measure>⟧.spare g ≡ None) }
         // Its amounts are the pairs that break the rule.
         ensures sum { IfOk result (λ g. (t : Table) (h : List (Option Spot)) →
             ⟦<PairGroup as Measure>⟧.sum (⟦<PairGroup as Measure>⟧.shape g) t h ≡ violated_pairs kind t h) }
@@ -51,10 +45,8 @@ impl PairGroup {
             ⟦<PairGroup as Measure>⟧.delta (⟦<PairGroup as Measure>⟧.shape g) t h p x ≡ pos (violated_with kind t h p x)) }
         ensures most { IfOk result (λ g. (n : ℕ) →
             ⟦<PairGroup as Measure>⟧.most (⟦<PairGroup as Measure>⟧.shape g) n ≡ n * (n - 1) / 2) }
-        ensures fits { IfOk result (λ g. ⟦<PairGroup as Measure>⟧.fits g travel.now) }
+        ensures fits { IfOk result (λ g. (t : Table) → ⟦<PairGroup as Measure>⟧.fits g t) }
     {
-        // With no spot held, every table fits.
-        let _ = travel;
         let held = vec![in alloc; None; members as usize]?;
         Ok(PairGroup {
             kind,
@@ -85,8 +77,6 @@ impl Measure for PairGroup {
     ghost weeks = { λ _. most_weeks };
 
     ghost shape = { shape_of };
-
-    ghost spare = { λ _. None };
 
     ghost fits = { IsOfTable };
 

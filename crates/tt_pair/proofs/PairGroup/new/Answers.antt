@@ -6,9 +6,9 @@ use Rattle.tt_pair.proofs.ShapeLemmas.{kind_of-pair_shape}
 use Rattle.tt_pair.proofs.PairGroup.new.Goals as goal
 
 pub returns-clause-fits : goal.returns-clause-fits
-returns-clause-fits c =
+returns-clause-fits c = λ t.
     let e : c.in_ok-held.held.items ≡ replicate c.args.members None = search rules in
-    rw e (IsKept-new c.args.kind c.args.travel.now c.args.members)
+    rw e (IsKept-new c.args.kind t c.args.members)
 
 pub returns-clause-sum : goal.returns-clause-sum
 returns-clause-sum c = λ t h. ap (λ k. violated_pairs k t h) (kind_of-pair_shape c.args.kind _)
