@@ -15,7 +15,7 @@ loop-with-init g c = record {
   set = c.requires.set;
   listed = c.requires.listed;
   groups = c.requires.groups;
-  same = same-none _ _ _ _ _;
+  same = same-none _ _ _ _;
 }
 
 pub make_room-count-requires-clause-held : goal.make_room-count-requires-clause-held
@@ -51,14 +51,14 @@ loop-with-preserved g c =
           let members = w.as_slice.result.now in
           let adds = rule-adds p amounts amount c.args.spots.now c.args.class c.args.spot start listed (listed ++ out_for amount members c.args.spots.now c.args.class c.args.spot listed) members (rules_of p c.args.class)
           c.loop-with.with-index r d c.rule-rule.result.now so_far along at c.rule-rule.ensures.part (sym c.is_required_group.ensures ∙ w.if-is_required_group.true)
-          (ap (λ (sh : List ℕ). m.sum sh w.travel.result.now) (shape-is m.held m.weeks m.spare m.shape c.args.groups.now c.loop-with.groups r.rule w.index-groups-with.result before.same within)
+          (ap (λ (sh : List ℕ). m.sum sh w.travel.result.now) (shape-is m.held m.weeks m.shape c.args.groups.now c.loop-with.groups r.rule w.index-groups-with.result before.same within)
           ∙ ap (m.sum (get_or (map m.shape c.args.groups.now) r.rule [])) w.travel.ensures)
           w.as_slice.ensures refl in
           rw (w.groups-is, w.marks-is, w.order-is, w.count-is) (record {
             set = subst (λ (l : List ℕ). IsFoundWithin c.args.most l w.make_room-count.new.order w.make_room-count.result) adds w.make_room-count.ensures.order;
             listed = w.make_room-count.ensures.listed;
-            groups = groups-set m.held m.weeks m.spare m.shape m.fits c.args.problem.now c.args.spots.now c.loop-with.groups r.rule _ w.make_room-count.new.group within before.groups w.make_room-count.ensures.same (rw w.travel.ensures at w.make_room-count.ensures.fits);
-            same = same-set m.held m.weeks m.spare m.shape c.args.groups.now c.loop-with.groups r.rule _ w.make_room-count.new.group before.same w.make_room-count.ensures.same;
+            groups = groups-set m.held m.weeks m.shape m.fits c.args.problem.now c.args.spots.now c.loop-with.groups r.rule _ w.make_room-count.new.group within before.groups w.make_room-count.ensures.same (rw w.travel.ensures at w.make_room-count.ensures.fits);
+            same = same-set m.held m.weeks m.shape c.args.groups.now c.loop-with.groups r.rule _ w.make_room-count.new.group before.same w.make_room-count.ensures.same;
           })
       | else-is_required_group w ↦
           rw (w.groups-is, w.marks-is, w.order-is, w.count-is) (record {
