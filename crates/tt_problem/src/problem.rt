@@ -3,14 +3,12 @@ ghost use Rattle.tt_travel.specs.Table.{most_rooms};
 ghost use Rattle.tt_problem.specs.Spans.{IsSpanWithin};
 ghost use Rattle.tt_problem.specs.Valid.{AreValidWeights, IsValid, IsValidClass, IsValidRoom, IsValidRule, IsValidStudent};
 ghost use Rattle.tt_problem.specs.RulePlaces.{rules_of};
-ghost use Rattle.tt_problem.specs.Sums.{links_of_rule};
 ghost use Rattle.tt_problem.specs.Places.{place_of_id, class_id, student_id, class_of, room_of, student_of, subpart_of, config_of, course_of};
 
 use crate::index::{Index, index_of};
 use crate::parts::{
     ClassPart, CoursePart, Parts, RoomPart, Rule, RulePlace, Span, StudentPart, Weights,
 };
-use crate::sums::links_of_rule;
 use indexmap::IndexSet;
 use std::alloc::{AllocError, Global};
 use std::marker::Model;
@@ -251,15 +249,6 @@ impl Problem {
         ensures valid { IsValidRule self.now result.now }
     {
         &self.parts.rules.as_slice()[place as usize]
-    }
-
-    /// The most cells that the members of a rule take together.
-    pub fn links_of_rule(&self, rule: &Rule) -> u32
-        requires { IsValidRule self.now rule.now }
-        ensures links { result ≡ links_of_rule self.now rule.now }
-        ensures few { result ≤ 1792000 }
-    {
-        links_of_rule(&self.parts, self.index.cells.as_slice(), rule)
     }
 
     /// How many rooms there are.

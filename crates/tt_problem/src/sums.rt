@@ -95,7 +95,7 @@ fn cells_at(parts: &Parts, cells: &[u16], class: u32) -> u32
 
 /// The most cells that the members of a rule take together. `cells` has the most of each class.
 #[tactic(auto, unfolding(crate::specs::Sums::links_of_rule))]
-pub fn links_of_rule(parts: &Parts, cells: &[u16], rule: &Rule) -> u32
+fn links_of_rule(parts: &Parts, cells: &[u16], rule: &Rule) -> u32
     requires cells { cells.now ≡ map class_cells parts.now.classes }
     requires short { length rule.now.members ≤ most_members }
     requires classes { All (λ class. class < length parts.now.classes) rule.now.members }
