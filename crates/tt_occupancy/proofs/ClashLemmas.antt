@@ -1,8 +1,7 @@
 -- Clashes while classes come and go.
 use Rattle.std.proofs.Common.{◌≡◌, ◌∙◌, ℕ, ◌+◌, ◌-◌, ◌*◌, ◌<◌, ◌≤◌, ◌^◌, Bool, cond, List, [], ◌∷◌, Option, Some, None, length, count_by, refl, sym, ap, zero, suc, arith}
 use Rattle.std.specs.Prelude.{slice_set, replicate}
-use Rattle.std.specs.Option.{option_map_or}
-use Rattle.std.proofs.lemmas.List.Sums.{sum_by-cons, sum_by-set, count_by-le-length}
+use Rattle.std.proofs.lemmas.List.Sums.{sum_by-cons, count_by-le-length}
 use Rattle.std.proofs.lemmas.List.{length-replicate, length-set}
 use Rattle.tt_base.proofs.AmongLemmas.{twice-pairs}
 use Rattle.tt_base.proofs.ListLemmas.{equal_turned}
@@ -12,7 +11,7 @@ use Rattle.tt_bits.specs.Spots.{spot_at, IsEmptyAt, placed}
 use Rattle.tt_bits.proofs.TimeLemmas.{overlaps-sym}
 use Rattle.tt_bits.proofs.SpotLemmas.{set_back, set_empty, emptied, full_within, length-placed, count-placed-set}
 use Rattle.tt_occupancy.specs.Kept.{AreCounted}
-use Rattle.tt_occupancy.specs.Clashes.{clash, clash_pairs, clash_count, room_cells, cells_taken}
+use Rattle.tt_occupancy.specs.Clashes.{clash, clash_pairs, clash_count}
 
 is_one_room-sym : (a b : Option ℕ) → is_one_room a b ≡ is_one_room b a
 is_one_room-sym (Some a) (Some b) = equal_turned a b
@@ -29,10 +28,6 @@ clash-sym a b = rw (is_one_room-sym a.room b.room, overlaps-sym a.time b.time) r
 pub clash_pairs-empty : (n : ℕ) → clash_pairs (replicate n None) ≡ 0
 clash_pairs-empty zero = refl
 clash_pairs-empty (suc n) = clash_pairs-empty n
-
-pub cells_taken-empty : (n : ℕ) → cells_taken (replicate n None) ≡ 0
-cells_taken-empty zero = refl
-cells_taken-empty (suc n) = omega (arith, sum_by-cons (λ s. option_map_or room_cells s 0) None (replicate n None), cells_taken-empty n)
 
 -- a spot in an empty place adds its clashes
 pub clash_pairs-set : (h : List (Option Spot)) (p : ℕ) (x : Spot) → IsEmptyAt h p
@@ -58,59 +53,34 @@ clash_pairs-full h p x full =
 pub clash_count-empty : (h : List (Option Spot)) (p : ℕ) (x : Spot) → IsEmptyAt h p → clash_count h x p ≡ count_by (clash x) (placed h)
 clash_count-empty h p x e = ap (λ l. count_by (clash x) (placed l)) (set_empty h p e)
 
--- the links taken, where one class comes
-pub cells_taken-put : (h : List (Option Spot)) (p : ℕ) (x : Spot) → IsEmptyAt h p
-    → cells_taken (slice_set h p (Some x)) ≡ cells_taken h + room_cells x
-cells_taken-put h p x e =
-    let f : Option Spot → ℕ = λ s. option_map_or room_cells s 0 in
-    let change = sum_by-set f h p (Some x) None e.0 in
-    let was : f (spot_at h p) ≡ 0 = ap f e.1 in
-    omega (arith, change, was)
-
-pub cells_taken-take : (h : List (Option Spot)) (p : ℕ) (x : Spot) → spot_at h p ≡ Some x
-    → cells_taken (slice_set h p None) + room_cells x ≡ cells_taken h
-cells_taken-take h p x full =
-    let f : Option Spot → ℕ = λ s. option_map_or room_cells s 0 in
-    let change = sum_by-set f h p None None (full_within h p (rw full refl)) in
-    let was : f (spot_at h p) ≡ room_cells x = ap f full in
-    omega (arith, change, was)
-
 pub few_clashes : (h : List (Option Spot)) → length h < 2 ^ 32 → clash_pairs h < 2 ^ 63
 few_clashes h few =
     let product : length h * (length h - 1) ≤ 4294967295 * 4294967295 = grind arith in omega (arith, twice-pairs clash (placed h) (length h) (length-placed h), product)
 
 -- what is kept where nobody is placed
-pub AreCounted-new : (n spare : ℕ) → spare < 4294967295 → n < 2 ^ 32 → AreCounted (replicate n None) spare 0
-AreCounted-new n spare few all = record {
+pub AreCounted-new : (n : ℕ) → n < 2 ^ 32 → AreCounted (replicate n None) 0
+AreCounted-new n all = record {
   few = omega (arith, length-replicate {A = Option Spot} n None);
   counted = sym (clash_pairs-empty n);
-  links = omega (arith, cells_taken-empty n);
 }
 
 -- what is kept when a class comes
-pub AreCounted-put : (h : List (Option Spot)) (p spare clashes more cells : ℕ) (x : Spot) → more ≡ clash_count h x p → cells ≡ room_cells x
-    → AreCounted h spare clashes → IsEmptyAt h p → cells ≤ spare → (clashes + more < 2 ^ 64) × AreCounted (slice_set h p (Some x)) (spare - cells) (clashes + more)
-AreCounted-put h p spare clashes more cells x is cells_are kept empty room =
+pub AreCounted-put : (h : List (Option Spot)) (p clashes more : ℕ) (x : Spot) → more ≡ clash_count h x p
+    → AreCounted h clashes → IsEmptyAt h p → (clashes + more < 2 ^ 64) × AreCounted (slice_set h p (Some x)) (clashes + more)
+AreCounted-put h p clashes more x is kept empty =
     let now : clashes + more ≡ clash_pairs (slice_set h p (Some x)) = omega (arith, kept.counted, is, clash_count-empty h p x empty, clash_pairs-set h p x empty) in
-    let few : length (slice_set h p (Some x)) < 2 ^ 32 = omega (arith, kept.few, length-set h p (Some x)) in (
-      omega (arith, now, few_clashes (slice_set h p (Some x)) few),
-      record {
-        few = few;
-        counted = now;
-        links = omega (arith, kept.links, cells_are, cells_taken-put h p x empty);
-      },
-    )
+    let few : length (slice_set h p (Some x)) < 2 ^ 32 = omega (arith, kept.few, length-set h p (Some x)) in
+    (omega (arith, now, few_clashes (slice_set h p (Some x)) few), record { few = few; counted = now })
 
 -- what is kept when a class goes
-pub AreCounted-take : (h : List (Option Spot)) (p spare clashes less cells : ℕ) (x : Spot) → less ≡ clash_count h x p → cells ≡ room_cells x
-    → AreCounted h spare clashes → spot_at h p ≡ Some x → (less ≤ clashes) × AreCounted (slice_set h p None) (spare + cells) (clashes - less)
-AreCounted-take h p spare clashes less cells x is cells_are kept full =
+pub AreCounted-take : (h : List (Option Spot)) (p clashes less : ℕ) (x : Spot) → less ≡ clash_count h x p
+    → AreCounted h clashes → spot_at h p ≡ Some x → (less ≤ clashes) × AreCounted (slice_set h p None) (clashes - less)
+AreCounted-take h p clashes less x is kept full =
     let all = clash_pairs-full h p x full in (
       omega (arith, kept.counted, is, all),
       record {
         few = omega (arith, kept.few, length-set h p None);
         counted = omega (arith, kept.counted, is, all);
-        links = omega (arith, kept.links, cells_are, cells_taken-take h p x full);
       },
     )
 

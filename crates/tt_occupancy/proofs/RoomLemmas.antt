@@ -4,7 +4,7 @@ use Rattle.std.specs.Prelude.{slice_set, slice_index_or, replicate, nat_lt, not,
 use Rattle.std.specs.List.{insert, remove, position_or_len}
 use Rattle.std.specs.Option.{option_map_or}
 use Rattle.std.proofs.Math.ListN.{get_or-eq_default}
-use Rattle.std.proofs.lemmas.Bool.{cases_Bool, cases_eq, cases_lt, and_right, eq-eqb, ne_eqb}
+use Rattle.std.proofs.lemmas.Bool.{cases_eq, cases_lt, and_right, eq-eqb, ne_eqb}
 use Rattle.std.proofs.lemmas.List.{length-replicate, length-set, get_or-set_same, get_or-set_other}
 use Rattle.std.proofs.lemmas.List.Sums.{sum_by-cons, sum_by-set, count_by-le-length}
 use Rattle.tt_bits.specs.declared.times.Spot.{Spot}
@@ -30,17 +30,6 @@ from_zero p = omega arith
 listed_in : (h : List (Option Spot)) (room : Option ℕ) (class : ℕ) → class < length h → is_in_room room (spot_at h class) ≡ true → 0 < count_by (λ y. y == class) (classes_in h room)
 listed_in h room class within is = rw (from_zero class) at (places-found (is_in_room room) 0 class h None within is)
 
--- a class that is in no list is not in the room
-is_elsewhere : (h : List (Option Spot)) (room : Option ℕ) (class : ℕ) → count_by (λ y. y == class) (classes_in h room) ≡ 0 → is_in_room room (spot_at h class) ≡ false
-is_elsewhere h room class unused =
-    elim (cases_lt class (length h)) [
-      | inl within ↦ elim (cases_Bool (is_in_room room (spot_at h class))) [
-        | inl is ↦ absurd (omega (arith, unused, listed_in h room class within is))
-        | inr not ↦ not
-      ]
-      | inr past ↦ let none : spot_at h class ≡ None = get_or-eq_default h None past in ap (is_in_room room) none
-    ]
-
 -- a class elsewhere does not clash
 no_clash : (x : Spot) (s : Option Spot) → is_in_room x.room s ≡ false → option_map_or (clash x) s false ≡ false
 unfolding clash
@@ -58,9 +47,6 @@ clashes_without h x except class within =
       | inl same ↦ rw (← same, get_or-set_same h class None None within, eq-eqb class class refl) refl
       | inr other ↦ rw (get_or-set_other h except class None None other, ne_eqb class except other) refl
     ]
-
-pub no_clash_unlisted : (h : List (Option Spot)) (x : Spot) (except class : ℕ) → count_by (λ y. y == class) (classes_in h x.room) ≡ 0 → clashes_in_room h except x class ≡ false
-no_clash_unlisted h x except class unused = no_clash_at h x except class (is_elsewhere h x.room class unused)
 
 -- the clashes among the classes of the room are all
 pub clash_count-in_room : (h : List (Option Spot)) (x : Spot) (except : ℕ) → count_by (clashes_in_room h except x) (classes_in h x.room) ≡ clash_count h x except

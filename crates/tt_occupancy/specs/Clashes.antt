@@ -1,11 +1,11 @@
 -- Placed classes that have the same room and overlap.
-use Rattle.std.specs.Prelude.{ℕ, Bool, false, not, ◌&&◌, ◌==◌, List, Option, None, slice_set, count_by, sum_by}
+use Rattle.std.specs.Prelude.{ℕ, Bool, false, not, ◌&&◌, ◌==◌, List, Option, None, slice_set, count_by}
 use Rattle.std.specs.Option.{option_map_or}
 use Rattle.tt_base.specs.Among.{pairs_among}
 use Rattle.tt_bits.specs.declared.times.Spot.{Spot}
 use Rattle.tt_bits.specs.Pairs.{is_one_room}
 use Rattle.tt_bits.specs.Times.{overlaps}
-use Rattle.tt_bits.specs.Spots.{spot_at, placed, cell_count}
+use Rattle.tt_bits.specs.Spots.{spot_at, placed}
 
 -- whether two spots have the same room and overlap
 unfoldable pub clash : Spot → Spot → Bool
@@ -22,11 +22,3 @@ clash_count spots x except = count_by (clash x) (placed (slice_set spots except 
 -- whether a class isn't the one excepted, is placed, and its spot is in the same room and overlaps
 abbrev pub clashes_in_room : List (Option Spot) → (except : ℕ) → Spot → (class : ℕ) → Bool
 clashes_in_room spots except x class = not (class == except) && option_map_or (clash x) (spot_at spots class) false
-
--- the links that a spot takes, one for each of its cells where it has a room
-abbrev pub room_cells : Spot → ℕ
-room_cells x = option_map_or (λ _. cell_count x) x.room 0
-
--- the links that all classes take
-abbrev pub cells_taken : List (Option Spot) → ℕ
-cells_taken spots = sum_by (λ s. option_map_or room_cells s 0) spots

@@ -1,23 +1,22 @@
 -- What an occupancy keeps. Proofs alone need it: what callers see stands in Occupied.
-use Rattle.std.specs.Prelude.{◌≡◌, ℕ, ◌+◌, ◌<◌, ◌^◌, List, Option, length}
+use Rattle.std.specs.Prelude.{◌≡◌, ℕ, ◌<◌, ◌^◌, List, Option, length}
 use Rattle.tt_bits.specs.declared.times.Spot.{Spot}
 use Rattle.tt_occupancy.specs.declared.Occupancy.TheInside.{Inside}
 use Rattle.tt_occupancy.specs.Occupied.{Occupied}
 use Rattle.tt_occupancy.specs.Rooms.{AreListed}
-use Rattle.tt_occupancy.specs.Clashes.{clash_pairs, cells_taken}
+use Rattle.tt_occupancy.specs.Clashes.{clash_pairs}
 
 -- what callers see
 abbrev pub occupied : Inside → Occupied
-occupied o = record { spots = o.spots.items; rooms = o.rooms; weeks = o.weeks; spare = o.spare }
+occupied o = record { spots = o.spots.items; rooms = o.rooms }
 
--- the clashes are counted, and no more links are free or taken than a number of 32 bits counts
-pub record AreCounted (spots : List (Option Spot)) (spare clashes : ℕ) : Type 0 where
+-- the clashes are counted, and there are no more classes than a number of 32 bits counts
+pub record AreCounted (spots : List (Option Spot)) (clashes : ℕ) : Type 0 where
   pub few : length spots < 2 ^ 32
   pub counted : clashes ≡ clash_pairs spots
-  pub links : spare + cells_taken spots < 2 ^ 32
 
 -- the counts and the lists are those of the spots, and each room has a list
 pub record IsKept (o : Inside) : Type 0 where
-  pub counted : AreCounted o.spots.items o.spare o.clashes
+  pub counted : AreCounted o.spots.items o.clashes
   pub listed : AreListed o.spots.items o.by_room
   pub rooms : length o.by_room.lists ≡ o.rooms

@@ -1,11 +1,11 @@
 //! Where classes stand: the spots of the placed classes, and the clashes among them.
 #![tactic(auto)]
 
-ghost use Rattle.std.specs.Prelude.{◌≡◌, ℕ, ◌+◌, ◌-◌, ◌<◌, ◌≤◌, Some, None, IsSome, IfOk, IfSome, length, replicate, slice_set, slice_index_or, false, ◌||◌, []};
+ghost use Rattle.std.specs.Prelude.{◌≡◌, ◌<◌, ◌≤◌, Some, None, IsSome, IfOk, IfSome, length, replicate, slice_set, []};
 ghost use Rattle.std.specs.Option.{option_map_or};
-ghost use Rattle.tt_bits.specs.Spots.{spot_at, IsEmptyAt, IsBelow};
+ghost use Rattle.tt_bits.specs.Spots.{spot_at, IsEmptyAt};
 ghost use Rattle.tt_occupancy.specs.Rooms.{classes_in, AreListed};
-ghost use Rattle.tt_occupancy.specs.Clashes.{clash, clashes_in_room, clash_pairs, clash_count, room_cells};
+ghost use Rattle.tt_occupancy.specs.Clashes.{clash, clashes_in_room, clash_pairs, clash_count};
 
 #[cfg(test)]
 mod tests;
@@ -22,8 +22,6 @@ pub struct Occupancy {
     /// The placed classes of each room, in order.
     by_room: Pool,
     rooms: u32,
-    weeks: u8,
-    spare: u32,
     clashes: u64,
 }
 
@@ -40,23 +38,11 @@ impl Model for Occupancy {
 }
 
 impl Occupancy {
-    /// So many classes, none of them placed. A class in a room takes a link for each day of each
-    /// week, and `links` is how many there are.
-    pub fn new(
-        alloc: Global,
-        classes: u32,
-        rooms: u32,
-        weeks: u8,
-        links: u32,
-    ) -> Result<Occupancy, AllocError>
-        requires rooms { rooms ≤ 2500 }
-        requires some_week { 1 ≤ weeks }
-        requires few_weeks { weeks ≤ 128 }
-        requires links { links < 4294967295 }
+    /// So many classes, none of them placed.
+    pub fn new(alloc: Global, classes: u32, rooms: u32) -> Result<Occupancy, AllocError>
+        requires { rooms ≤ 2500 }
         ensures spots { IfOk result (λ o. o.spots ≡ replicate classes None) }
         ensures rooms { IfOk result (λ o. o.rooms ≡ rooms) }
-        ensures weeks { IfOk result (λ o. o.weeks ≡ weeks) }
-        ensures spare { IfOk result (λ o. o.spare ≡ links) }
     {
         if classes == u32::MAX {
             // More than a pool finds room for.
@@ -68,8 +54,6 @@ impl Occupancy {
             spots,
             by_room,
             rooms,
-            weeks,
-            spare: links,
             clashes: 0,
         })
     }
@@ -78,16 +62,11 @@ impl Occupancy {
     pub fn put(&mut self, class: u32, spot: Spot)
         requires place { IsEmptyAt self.old.spots class }
         requires room { IfSome spot.room (λ room. room < self.old.rooms) }
-        requires weeks { IsBelow self.old.weeks spot }
-        requires spare { room_cells spot ≤ self.old.spare }
         ensures spots { self.new.spots ≡ slice_set self.old.spots class (Some spot) }
         ensures rooms { self.new.rooms ≡ self.old.rooms }
-        ensures weeks { self.new.weeks ≡ self.old.weeks }
-        ensures spare { self.new.spare ≡ self.old.spare - room_cells spot }
     {
         let more = self.clashes_with(spot, class);
         self.clashes += more;
-        self.spare -= room_cells(&spot);
         enter(self.spots.as_mut_slice(), &mut self.by_room, class, spot);
     }
 
@@ -97,15 +76,12 @@ impl Occupancy {
         ensures spot { spot_at self.old.spots class ≡ Some result }
         ensures spots { self.new.spots ≡ slice_set self.old.spots class None }
         ensures rooms { self.new.rooms ≡ self.old.rooms }
-        ensures weeks { self.new.weeks ≡ self.old.weeks }
-        ensures spare { self.new.spare ≡ self.old.spare + room_cells result }
     {
         let Some(spot) = self.spots[class as usize] else {
             unreachable!()
         };
         let less = self.clashes_with(spot, class);
         self.clashes -= less;
-        self.spare += room_cells(&spot);
         leave(self.spots.as_mut_slice(), &mut self.by_room, class, spot);
         spot
     }
@@ -141,23 +117,6 @@ impl Occupancy {
         count
     }
 
-    /// Sets the marks of the placed classes but one that overlap the spot in its room.
-    pub fn mark(&self, spot: Spot, except: u32, marks: &mut [bool])
-        requires { length marks.old ≡ length self.now.spots }
-        ensures { (class : ℕ) → class < length marks.old → slice_index_or marks.new class false
-            ≡ (slice_index_or marks.old class false || clashes_in_room self.now.spots except spot class) }
-    {
-        let Some(classes) = self.classes_in(spot.room) else {
-            return;
-        };
-        let spots = self.spots.as_slice();
-        for class in classes {
-            if clashes_in_room(spots, except, &spot, class) {
-                marks[class as usize] = true;
-            }
-        }
-    }
-
     /// The placed classes that have a room, in order. `None` stands for no classes.
     pub fn classes_in(&self, room: Option<u32>) -> Option<Items>
         ensures { option_map_or (λ classes. classes) result [] ≡ classes_in self.now.spots room }
@@ -168,17 +127,6 @@ impl Occupancy {
         } else {
             None
         }
-    }
-}
-
-/// The links that a spot takes: its days times its weeks where it has a room.
-fn room_cells(spot: &Spot) -> u32
-    ensures cells { result ≡ room_cells spot.now }
-    ensures few { result ≤ 896 }
-{
-    match spot.room {
-        None => 0,
-        Some(_) => u32::from(spot.cells()),
     }
 }
 

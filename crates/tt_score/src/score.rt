@@ -14,7 +14,6 @@ use tt_bits::{Time, Value};
 use tt_clash::{Closures, conflicts, conflicts_within};
 use tt_measure::Measure;
 use tt_occupancy::Occupancy;
-use tt_problem::sums::cells_of;
 use tt_problem::{Problem, Weights};
 use tt_roster::Roster;
 
@@ -62,13 +61,7 @@ impl Score {
         problem.validity();
         let count = problem.class_count();
         let plan = vec![in alloc; None; count as usize]?;
-        let occupancy = Occupancy::new(
-            alloc,
-            count,
-            problem.room_count(),
-            problem.nr_weeks(),
-            cells_of(problem.parts()),
-        )?;
+        let occupancy = Occupancy::new(alloc, count, problem.room_count())?;
         let groups = new_groups(alloc, problem)?;
         let roster = JointRoster::new(alloc, problem)?;
         Ok(Score {
@@ -104,7 +97,6 @@ impl Score {
         ensures occupancy { result.now ≡ occupancy_of self.now }
         ensures spots { (p : Parts) → Fits p self.now → result.now.spots ≡ spots_of p (plan_of self.now) }
         ensures rooms { (p : Parts) → Fits p self.now → length p.rooms ≤ result.now.rooms }
-        ensures weeks { (p : Parts) → Fits p self.now → p.nr_weeks ≤ result.now.weeks }
     {
         &self.occupancy
     }

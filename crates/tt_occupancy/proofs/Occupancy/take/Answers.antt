@@ -1,9 +1,8 @@
-use Rattle.std.proofs.Common.{◌≡◌, ◌∙◌, None, refl, rules}
+use Rattle.std.proofs.Common.{◌≡◌, ◌∙◌, None, rules}
 use Rattle.std.specs.Prelude.{IsSome, slice_set}
 use Rattle.std.proofs.lemmas.List.{with_items_is}
 use Rattle.tt_bits.specs.Spots.{spot_at}
 use Rattle.tt_bits.proofs.SpotLemmas.{full_is}
-use Rattle.tt_occupancy.specs.Clashes.{room_cells}
 use Rattle.tt_occupancy.proofs.ClashLemmas.{AreCounted-take}
 use Rattle.tt_occupancy.proofs.Occupancy.take.Goals as goal
 
@@ -12,7 +11,7 @@ overflow_sub-self c =
     let kept = c.self.inside in
     let some : IsSome (spot_at kept.spots.items c.args.class) = search rules in
     let full = full_is kept.spots.items c.args.class c.index.result.now c.in-Some.spot some c.index.ensures c.in-Some.is in
-    (AreCounted-take kept.spots.items c.args.class kept.spare kept.clashes c.clashes_with-less.result (room_cells c.in-Some.spot) c.in-Some.spot (search rules) refl c.self.invariant.counted full).0
+    (AreCounted-take kept.spots.items c.args.class kept.clashes c.clashes_with-less.result c.in-Some.spot (search rules) c.self.invariant.counted full).0
 
 pub invariant_of-self : goal.invariant_of-self
 invariant_of-self c =
@@ -22,7 +21,7 @@ invariant_of-self c =
     let items = with_items_is kept.spots c.leave.new.spots (search rules) in
     let spots : c.leave.new.spots ≡ slice_set kept.spots.items c.args.class None = search rules in
     record {
-      counted = rw (items, spots) (AreCounted-take kept.spots.items c.args.class kept.spare kept.clashes c.clashes_with-less.result c.room_cells.result c.in-Some.spot (search rules) c.room_cells.ensures.cells c.self.invariant.counted full).1;
+      counted = rw (items, spots) (AreCounted-take kept.spots.items c.args.class kept.clashes c.clashes_with-less.result c.in-Some.spot (search rules) c.self.invariant.counted full).1;
       listed = rw items c.leave.ensures.listed;
       rooms = c.leave.ensures.rooms ∙ c.self.invariant.rooms;
     }
