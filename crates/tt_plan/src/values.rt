@@ -1,5 +1,4 @@
 ghost use Rattle.std.specs.Prelude.{◌≡◌, ◌<◌, ◌≤◌, Some, IfSome, length, max, slice_get};
-ghost use Rattle.tt_problem.specs.Valid.{IsValidClass};
 ghost use Rattle.tt_plan.specs.Domain.{IsOfDomain, IsSpotOf, domain_of, values_per_time, spot_at_value, time_penalty, room_penalty};
 
 use tt_bits::{Spot, Value};
@@ -7,13 +6,12 @@ use tt_problem::{ClassPart, Problem};
 
 /// How many values a class has at each of its times: one for each of its rooms, and one where it
 /// needs none.
-fn values_per_time(problem: &Problem, part: &ClassPart) -> u32
-    requires { IsValidClass problem.now part.now }
+fn values_per_time(part: &ClassPart) -> u32
+    requires { length part.now.rooms ≤ 1000 }
     ensures count { result ≡ values_per_time part.now }
     ensures some { 1 ≤ result }
     ensures few { result ≤ 1000 }
 {
-    let _ = problem;
     (part.rooms.len() as u32).max(1)
 }
 
@@ -25,7 +23,7 @@ pub fn domain_size(problem: &Problem, class: u32) -> u32
     ensures small { result ≤ 1000000 }
 {
     let part = problem.class(class);
-    part.times.len() as u32 * values_per_time(problem, part)
+    part.times.len() as u32 * values_per_time(part)
 }
 
 /// The value at place `k` of the domain of the class at a place.
@@ -36,7 +34,7 @@ pub fn value_at(problem: &Problem, class: u32, k: u32) -> Value
     ensures value { slice_get (domain_of problem.now class) k ≡ Some result }
     ensures of_domain { IsOfDomain problem.now class result }
 {
-    let count = values_per_time(problem, problem.class(class));
+    let count = values_per_time(problem.class(class));
     Value {
         time: (k / count) as u16,
         room: (k % count) as u16,
