@@ -3,3 +3,7 @@ pub mod PoolLemmas
 pub mod Moves
 pub mod Paths
 pub mod PlaceLemmas
+pub mod Ways
+pub mod OrderLemmas
+pub mod EndLemmas
+pub mod KeptLemmas

@@ -10,13 +10,13 @@ use Rattle.tt_pool.specs.declared.Chain.{Chain}
 use Rattle.tt_pool.specs.Chains.{next_of, item_of, after, chain_of, uses, IsSearched}
 use Rattle.tt_pool.proofs.Paths.{uses_other, after_more, path-get_or, length-path}
 
-item-get_or : (nodes : List Node) (chain : Chain) (k : ℕ) → k < chain.len
+pub item-get_or : (nodes : List Node) (chain : Chain) (k : ℕ) → k < chain.len
     → get_or (map (item_of nodes) (chain_of nodes chain)) k 0 ≡ item_of nodes (after nodes k chain.first.0)
 item-get_or nodes chain k lt =
     get_or-map (item_of nodes) (chain_of nodes chain) k 0 0 (rw length-path lt)
     ∙ ap (item_of nodes) (path-get_or nodes k chain.len chain.first.0 lt)
 
-length-items : (nodes : List Node) (chain : Chain) → length (map (item_of nodes) (chain_of nodes chain)) ≡ chain.len
+pub length-items : (nodes : List Node) (chain : Chain) → length (map (item_of nodes) (chain_of nodes chain)) ≡ chain.len
 length-items nodes chain = length-map (chain_of nodes chain) (item_of nodes) ∙ length-path nodes chain.len chain.first.0
 
 none_before : (nodes : List Node) (chain : Chain) (at before node : ℕ) (f : ℕ → Bool) → IsSearched nodes chain.first.0 at before node f → at ≤ chain.len

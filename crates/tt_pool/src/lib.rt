@@ -1,11 +1,12 @@
 //! Many lists of numbers in one vector of nodes.
 #![tactic(auto)]
 
-ghost use Rattle.std.specs.Prelude.{◌≡◌, ℕ, ◌==◌, ◌+◌, ◌-◌, ◌<◌, ◌≤◌, List, [], ◌++◌, length, map, IfOk, nat_lt, slice_index, slice_index_or, slice_set, replicate, count_by};
+ghost use Rattle.std.specs.Prelude.{◌≡◌, ◌≢◌, ℕ, ◌==◌, ◌+◌, ◌-◌, ◌<◌, ◌≤◌, true, List, [], ◌∷◌, ◌++◌, length, map, IfOk, nat_lt, slice_index, slice_index_or, slice_set, replicate, count_by};
 ghost use Rattle.std.specs.List.{insert, remove, position_or_len};
+ghost use Rattle.std.specs.List.Sorted.{IsNonDecreasing};
 ghost use Rattle.std.specs.Iterator.{YieldsFirst, item_count};
-ghost use Rattle.tt_pool.specs.Chains.{after, path, chain_of, uses, item_of, IsChain, IsPlace, ArePair, KeepsOthers, KeepsItems};
-ghost use Rattle.tt_pool.specs.Pools.{Pooled, list_at, chain_at, lists_of, IsPool};
+ghost use Rattle.tt_pool.specs.Chains.{after, path, chain_of, uses, item_of, IsChain, IsPlace, ArePair, KeepsOthers, KeepsItems, LeadsBack};
+ghost use Rattle.tt_pool.specs.Pools.{Pooled, list_at, chain_at, chains_of, lists_of, IsPool, IsBacked};
 
 mod order;
 
@@ -36,7 +37,11 @@ struct Chain {
 pub struct Pool {
     nodes: Vec<Node>,
     lists: Vec<Chain>,
+    /// The node before each node of a list, and behind these the last node of each list. 0 where none is.
+    backs: Vec<Link>,
     free: Chain,
+    /// Whether each list is in order, as it is while no item was put at a place that a caller named.
+    ordered: bool,
 }
 
 impl Model for Pool {
@@ -44,14 +49,14 @@ impl Model for Pool {
 
     ghost Value = { Pooled };
 
-    ghost use Rattle.tt_pool.specs.Pools.{lists_of, IsPool};
+    ghost use Rattle.tt_pool.specs.Pools.{lists_of, IsKept};
 
     ghost view = { λ p. record {
       lists = lists_of p.nodes.items p.lists.items;
       spare = p.free.len;
     } };
 
-    ghost invariant = { λ p. IsPool p.nodes.items p.lists.items p.free };
+    ghost invariant = { λ p. IsKept p.nodes.items p.lists.items p.backs.items p.free p.ordered };
 }
 
 impl Pool {
@@ -65,6 +70,7 @@ impl Pool {
             first: Link(0),
             len: 0,
         };
+        let backs = vec![in alloc; Link(0); nodes as usize + lists as usize]?;
         let lists = vec![in alloc; none; lists as usize]?;
         let mut links = Vec::with_capacity(alloc, nodes as usize)?;
         for node in 0..nodes {
@@ -80,7 +86,9 @@ impl Pool {
         Ok(Pool {
             nodes: links,
             lists,
+            backs,
             free,
+            ordered: true,
         })
     }
 
@@ -94,8 +102,10 @@ impl Pool {
     {
         let nodes = self.nodes.as_mut_slice();
         let lists = self.lists.as_mut_slice();
+        let backs = self.backs.as_mut_slice();
         let place = place_at(nodes, lists[list as usize], at);
-        self.free = put_in(nodes, lists, self.free, list, place, item);
+        self.ordered = false;
+        self.free = put(nodes, lists, backs, self.free, list, place, item);
     }
 
     /// Puts an item into a list, before the first that is above it.
@@ -107,8 +117,11 @@ impl Pool {
     {
         let nodes = self.nodes.as_mut_slice();
         let lists = self.lists.as_mut_slice();
-        let place = place_above(nodes, lists[list as usize], item);
-        self.free = put_in(nodes, lists, self.free, list, place, item);
+        let backs = self.backs.as_mut_slice();
+        let end = nodes.len() + list as usize;
+        let chain = lists[list as usize];
+        let place = place_to_put(nodes, backs, chain, end, self.ordered, item);
+        self.free = put(nodes, lists, backs, self.free, list, place, item);
     }
 
     /// Takes the item at a place out of a list.
@@ -121,8 +134,9 @@ impl Pool {
     {
         let nodes = self.nodes.as_mut_slice();
         let lists = self.lists.as_mut_slice();
+        let backs = self.backs.as_mut_slice();
         let place = place_at(nodes, lists[list as usize], at);
-        let (free, item) = take_out(nodes, lists, self.free, list, place);
+        let (free, item) = take(nodes, lists, backs, self.free, list, place);
         self.free = free;
         item
     }
@@ -136,8 +150,11 @@ impl Pool {
     {
         let nodes = self.nodes.as_mut_slice();
         let lists = self.lists.as_mut_slice();
-        let place = place_of(nodes, lists[list as usize], item);
-        let (free, _) = take_out(nodes, lists, self.free, list, place);
+        let backs = self.backs.as_mut_slice();
+        let end = nodes.len() + list as usize;
+        let chain = lists[list as usize];
+        let place = place_to_take(nodes, backs, chain, end, self.ordered, item);
+        let (free, _) = take(nodes, lists, backs, self.free, list, place);
         self.free = free;
     }
 
@@ -289,6 +306,109 @@ fn place_above(nodes: &[Node], chain: Chain, item: u32) -> Place
     }
 }
 
+/// Where an item goes into a chain: before the first node whose item is above it. In a list that is
+/// in order the last item tells whether there is such a node.
+fn place_to_put(
+    nodes: &[Node],
+    backs: &[Link],
+    chain: Chain,
+    end: usize,
+    ordered: bool,
+    item: u32,
+) -> Place
+    requires chain { IsChain nodes.now (chain_of nodes.now chain) }
+    requires back { LeadsBack backs.now end (chain_of nodes.now chain) }
+    requires end { end < length backs.now }
+    requires order { ordered ≡ true → IsNonDecreasing (map (item_of nodes.now) (chain_of nodes.now chain)) }
+    ensures place { IsPlace nodes.now chain result }
+    ensures at { result.at ≡ position_or_len (nat_lt item) (map (item_of nodes.now) (chain_of nodes.now chain)) }
+{
+    if ordered && chain.len > 0 {
+        let last = backs[end];
+        if nodes[last.0 as usize].item <= item {
+            return Place {
+                at: chain.len,
+                before: last,
+            };
+        }
+    }
+    place_above(nodes, chain, item)
+}
+
+/// The place of a node in a chain that has this item, so that the list without it is the list without
+/// the first such item. In a list that is in order it may be the last node.
+fn place_to_take(
+    nodes: &[Node],
+    backs: &[Link],
+    chain: Chain,
+    end: usize,
+    ordered: bool,
+    item: u32,
+) -> Place
+    requires chain { IsChain nodes.now (chain_of nodes.now chain) }
+    requires back { LeadsBack backs.now end (chain_of nodes.now chain) }
+    requires end { end < length backs.now }
+    requires nodes { length nodes.now ≤ length backs.now }
+    requires order { ordered ≡ true → IsNonDecreasing (map (item_of nodes.now) (chain_of nodes.now chain)) }
+    requires found { 0 < uses item (map (item_of nodes.now) (chain_of nodes.now chain)) }
+    ensures place { IsPlace nodes.now chain result }
+    ensures at { result.at < chain.len }
+    ensures rest { remove (map (item_of nodes.now) (chain_of nodes.now chain)) result.at ≡ remove (map (item_of nodes.now) (chain_of nodes.now chain)) (position_or_len (λ x. x == item) (map (item_of nodes.now) (chain_of nodes.now chain))) }
+{
+    if ordered {
+        let last = backs[end];
+        if nodes[last.0 as usize].item == item {
+            return Place {
+                at: chain.len - 1,
+                before: backs[last.0 as usize],
+            };
+        }
+    }
+    place_of(nodes, chain, item)
+}
+
+/// The place behind the node at this one.
+fn next_place(nodes: &[Node], chain: Chain, place: Place) -> Place
+    requires chain { IsChain nodes.now (chain_of nodes.now chain) }
+    requires place { IsPlace nodes.now chain place }
+    requires at { place.at < chain.len }
+    ensures place { IsPlace nodes.now chain result }
+    ensures at { result.at ≡ place.at + 1 }
+{
+    let at = place.at + 1;
+    if place.at == 0 {
+        return Place {
+            at,
+            before: chain.first,
+        };
+    }
+    Place {
+        at,
+        before: nodes[place.before.0 as usize].next,
+    }
+}
+
+/// The number of the node at a place, and at the end that of the end.
+fn node_at(nodes: &[Node], chain: Chain, place: Place, end: usize) -> usize
+    requires chain { IsChain nodes.now (chain_of nodes.now chain) }
+    requires place { IsPlace nodes.now chain place }
+    ensures { result ≡ slice_index (chain_of nodes.now chain ++ end ∷ []) place.at }
+{
+    if place.at == chain.len {
+        return end;
+    }
+    let next = next_place(nodes, chain, place);
+    next.before.0 as usize
+}
+
+/// The node before a place, 0 where none is.
+fn back_from(place: Place) -> Link
+    ensures first { place.at ≡ 0 → result.0 ≡ 0 }
+    ensures other { place.at ≢ 0 → result.0 ≡ place.before.0 }
+{
+    if place.at == 0 { Link(0) } else { place.before }
+}
+
 /// Puts a node into a chain.
 fn attach(nodes: &mut [Node], chain: Chain, place: Place, node: Link) -> Chain
     requires chain { IsChain nodes.old (chain_of nodes.old chain) }
@@ -388,6 +508,7 @@ fn put_in(
     requires spare { 1 ≤ free.len }
     ensures pool { IsPool nodes.new lists.new result }
     ensures lists { lists_of nodes.new lists.new ≡ slice_set (lists_of nodes.old lists.old) list (insert (slice_index_or (lists_of nodes.old lists.old) list []) place.at item) }
+    ensures chains { chains_of nodes.new lists.new ≡ slice_set (chains_of nodes.old lists.old) list (insert (slice_index_or (chains_of nodes.old lists.old) list []) place.at free.first.0) }
     ensures spare { result.len + 1 ≡ free.len }
 {
     let first = Place {
@@ -414,6 +535,7 @@ fn take_out(
     requires at { place.at < (chain_at lists.old list).len }
     ensures pool { IsPool nodes.new lists.new result.0 }
     ensures lists { lists_of nodes.new lists.new ≡ slice_set (lists_of nodes.old lists.old) list (remove (slice_index_or (lists_of nodes.old lists.old) list []) place.at) }
+    ensures chains { chains_of nodes.new lists.new ≡ slice_set (chains_of nodes.old lists.old) list (remove (slice_index_or (chains_of nodes.old lists.old) list []) place.at) }
     ensures item { result.1 ≡ slice_index (slice_index_or (lists_of nodes.old lists.old) list []) place.at }
     ensures spare { result.0.len ≡ free.len + 1 }
 {
@@ -424,6 +546,63 @@ fn take_out(
     let moved = transfer(nodes, lists[list as usize], place, free, first);
     lists[list as usize] = moved.from;
     (moved.to, nodes[moved.node.0 as usize].item)
+}
+
+/// Puts an item into a list, and notes the way back.
+fn put(
+    nodes: &mut [Node],
+    lists: &mut [Chain],
+    backs: &mut [Link],
+    free: Chain,
+    list: u32,
+    place: Place,
+    item: u32,
+) -> Chain
+    requires pool { IsPool nodes.old lists.old free }
+    requires backs { IsBacked backs.old (length nodes.old) (chains_of nodes.old lists.old) }
+    requires list { list < length lists.old }
+    requires place { IsPlace nodes.old (chain_at lists.old list) place }
+    requires spare { 1 ≤ free.len }
+    ensures pool { IsPool nodes.new lists.new result }
+    ensures backs { IsBacked backs.new (length nodes.new) (chains_of nodes.new lists.new) }
+    ensures lists { lists_of nodes.new lists.new ≡ slice_set (lists_of nodes.old lists.old) list (insert (slice_index_or (lists_of nodes.old lists.old) list []) place.at item) }
+    ensures spare { result.len + 1 ≡ free.len }
+{
+    let end = nodes.len() + list as usize;
+    let behind = node_at(nodes, lists[list as usize], place, end);
+    let before = back_from(place);
+    backs[free.first.0 as usize] = before;
+    backs[behind] = free.first;
+    put_in(nodes, lists, free, list, place, item)
+}
+
+/// Takes an item out of a list, and notes the way back. Answers the free nodes, now with its node,
+/// and the item.
+fn take(
+    nodes: &mut [Node],
+    lists: &mut [Chain],
+    backs: &mut [Link],
+    free: Chain,
+    list: u32,
+    place: Place,
+) -> (Chain, u32)
+    requires pool { IsPool nodes.old lists.old free }
+    requires backs { IsBacked backs.old (length nodes.old) (chains_of nodes.old lists.old) }
+    requires list { list < length lists.old }
+    requires place { IsPlace nodes.old (chain_at lists.old list) place }
+    requires at { place.at < (chain_at lists.old list).len }
+    ensures pool { IsPool nodes.new lists.new result.0 }
+    ensures backs { IsBacked backs.new (length nodes.new) (chains_of nodes.new lists.new) }
+    ensures lists { lists_of nodes.new lists.new ≡ slice_set (lists_of nodes.old lists.old) list (remove (slice_index_or (lists_of nodes.old lists.old) list []) place.at) }
+    ensures item { result.1 ≡ slice_index (slice_index_or (lists_of nodes.old lists.old) list []) place.at }
+    ensures spare { result.0.len ≡ free.len + 1 }
+{
+    let end = nodes.len() + list as usize;
+    let next = next_place(nodes, lists[list as usize], place);
+    let behind = node_at(nodes, lists[list as usize], next, end);
+    let before = back_from(place);
+    backs[behind] = before;
+    take_out(nodes, lists, free, list, place)
 }
 
 #[cfg(test)]
@@ -464,6 +643,45 @@ mod tests {
         assert_eq!(rt; items.next(), Some(5));
         assert_eq!(rt; items.next(), Some(7));
         assert_eq!(rt; items.next(), Some(9));
+        assert_eq!(rt; items.next(), None);
+        Ok(())
+    }
+
+    #[test]
+    fn items_come_and_go_at_the_end(rt: HostRuntime) -> Result<(), Fail> {
+        let mut pool = Pool::new(rt.alloc(), 2, 5)?;
+        pool.insert_in_order(0, 2);
+        pool.insert_in_order(1, 4);
+        pool.insert_in_order(0, 5);
+        pool.insert_in_order(0, 5);
+        pool.remove_item(0, 5);
+        pool.insert_in_order(0, 9);
+        pool.remove_item(0, 9);
+        pool.insert_in_order(0, 3);
+        let mut items = pool.items(0);
+        assert_eq!(rt; items.next(), Some(2));
+        assert_eq!(rt; items.next(), Some(3));
+        assert_eq!(rt; items.next(), Some(5));
+        assert_eq!(rt; items.next(), None);
+        pool.remove_item(1, 4);
+        assert_eq!(rt; pool.len(1), 0);
+        pool.insert_in_order(1, 6);
+        assert_eq!(rt; pool.items(1).next(), Some(6));
+        Ok(())
+    }
+
+    #[test]
+    fn a_list_out_of_order_is_walked(rt: HostRuntime) -> Result<(), Fail> {
+        let mut pool = Pool::new(rt.alloc(), 1, 5)?;
+        pool.insert(0, 0, 2);
+        pool.insert(0, 0, 9);
+        pool.insert(0, 0, 2);
+        pool.insert_in_order(0, 5);
+        pool.remove_item(0, 2);
+        let mut items = pool.items(0);
+        assert_eq!(rt; items.next(), Some(5));
+        assert_eq!(rt; items.next(), Some(9));
+        assert_eq!(rt; items.next(), Some(2));
         assert_eq!(rt; items.next(), None);
         Ok(())
     }

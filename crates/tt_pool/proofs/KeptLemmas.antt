@@ -1,0 +1,104 @@
+-- A pool that is seen as its lists: its way back and its order.
+use Rattle.std.proofs.Common.{◌≡◌, ◌∙◌, sym, ap, refl, ℕ, ◌+◌, ◌<◌, ◌≤◌, Bool, true, zero, suc, List, [], ◌∷◌, length, get_or, map, replicate, arith}
+use Rattle.std.specs.Prelude.{◌==◌, nat_lt, slice_index_or, slice_set}
+use Rattle.std.specs.List.{insert, remove, position_or_len}
+use Rattle.std.specs.List.Sorted.{IsNonDecreasing}
+use Rattle.std.proofs.lemmas.List.{length-replicate}
+use Rattle.std.proofs.lemmas.List.Sorted.{IsNonDecreasingBy-short}
+use Rattle.tt_pool.specs.declared.Link.{Link}
+use Rattle.tt_pool.specs.declared.Node.{Node}
+use Rattle.tt_pool.specs.declared.Chain.{Chain}
+use Rattle.tt_pool.specs.Chains.{no_link, item_of, chain_of, LeadsBack}
+use Rattle.tt_pool.specs.Pools.{chains_of, lists_of, no_chain, chain_at, IsPool, IsBacked, IsFresh, IsKept}
+use Rattle.tt_pool.proofs.PoolLemmas.{length-chains_of, chains_of-get_or, lists_of-get_or, lists_within, lists_of-empty, IsPool-fresh}
+use Rattle.tt_pool.proofs.OrderLemmas.{ascends-insert, ascends-remove, ascends-set}
+
+-- a pool whose lists are seen, and the number of one of them
+pub record IsSeen (nodes : List Node) (lists : List Chain) (backs : List Link) (free : Chain) (ordered : Bool) (seen : List (List ℕ)) (l : ℕ) : Type 0 where
+  pub kept : IsKept nodes lists backs free ordered
+  pub is : lists_of nodes lists ≡ seen
+  pub within : l < length seen
+
+pub seen_leads : (nodes : List Node) (lists : List Chain) (backs : List Link) (free : Chain) (ordered : Bool) (seen : List (List ℕ)) (l : ℕ)
+    → IsSeen nodes lists backs free ordered seen l → LeadsBack backs (length nodes + l) (chain_of nodes (chain_at lists l))
+seen_leads nodes lists backs free ordered seen l s =
+    let lt = lists_within nodes lists seen l s.is s.within in
+    rw (chains_of-get_or nodes lists l lt) at (s.kept.backed.leads l (rw length-chains_of lt))
+
+pub seen_end : (nodes : List Node) (lists : List Chain) (backs : List Link) (free : Chain) (ordered : Bool) (seen : List (List ℕ)) (l : ℕ)
+    → IsSeen nodes lists backs free ordered seen l → length nodes + l < length backs
+seen_end nodes lists backs free ordered seen l s =
+    let lt = lists_within nodes lists seen l s.is s.within in
+    let count = s.kept.backed.count in
+    let len = length-chains_of nodes lists in
+    omega arith
+
+pub seen_nodes : (nodes : List Node) (lists : List Chain) (backs : List Link) (free : Chain) (ordered : Bool) (seen : List (List ℕ)) (l : ℕ)
+    → IsSeen nodes lists backs free ordered seen l → length nodes ≤ length backs
+seen_nodes nodes lists backs free ordered seen l s = let count = s.kept.backed.count in omega arith
+
+pub seen_order : (nodes : List Node) (lists : List Chain) (backs : List Link) (free : Chain) (ordered : Bool) (seen : List (List ℕ)) (l : ℕ)
+    → IsSeen nodes lists backs free ordered seen l → ordered ≡ true → IsNonDecreasing (map (item_of nodes) (chain_of nodes (chain_at lists l)))
+seen_order nodes lists backs free ordered seen l s up =
+    let lt = lists_within nodes lists seen l s.is s.within in
+    rw (sym (lists_of-get_or nodes lists l lt)) (s.kept.order up l)
+
+all_ascend : (nodes : List Node) (lists : List Chain) (backs : List Link) (free : Chain) (ordered : Bool) (seen : List (List ℕ)) (l : ℕ)
+    → IsSeen nodes lists backs free ordered seen l → ordered ≡ true → (m : ℕ) → IsNonDecreasing (slice_index_or seen m [])
+all_ascend nodes lists backs free ordered seen l s up m = rw (sym s.is) (s.kept.order up m)
+
+pub IsKept-put : (nodes new : List Node) (lists new_lists : List Chain) (backs new_backs : List Link) (free rest : Chain) (ordered : Bool)
+    (seen : List (List ℕ)) (l item : ℕ) → IsSeen nodes lists backs free ordered seen l
+    → IsPool new new_lists rest → IsBacked new_backs (length new) (chains_of new new_lists)
+    → lists_of new new_lists ≡ slice_set seen l (insert (slice_index_or seen l []) (position_or_len (nat_lt item) (slice_index_or seen l [])) item)
+    → IsKept new new_lists new_backs rest ordered
+IsKept-put nodes new lists new_lists backs new_backs free rest ordered seen l item s pool backed are = record {
+  pool = pool;
+  backed = backed;
+  order = λ up m.
+      let all = all_ascend nodes lists backs free ordered seen l s up in
+      rw are (ascends-set seen l _ s.within all (ascends-insert item (slice_index_or seen l []) (all l)) m);
+}
+
+pub IsKept-taken : (nodes new : List Node) (lists new_lists : List Chain) (backs new_backs : List Link) (free rest : Chain) (ordered : Bool)
+    (seen : List (List ℕ)) (l at : ℕ) → IsSeen nodes lists backs free ordered seen l
+    → IsPool new new_lists rest → IsBacked new_backs (length new) (chains_of new new_lists)
+    → lists_of new new_lists ≡ slice_set seen l (remove (slice_index_or seen l []) at) → at < length (slice_index_or seen l [])
+    → IsKept new new_lists new_backs rest ordered
+IsKept-taken nodes new lists new_lists backs new_backs free rest ordered seen l at s pool backed are lt = record {
+  pool = pool;
+  backed = backed;
+  order = λ up m.
+      let all = all_ascend nodes lists backs free ordered seen l s up in
+      rw are (ascends-set seen l _ s.within all (ascends-remove at (slice_index_or seen l []) lt (all l)) m);
+}
+
+pub rest_seen : (xs ys : List ℕ) (item at : ℕ) → xs ≡ ys → remove xs at ≡ remove xs (position_or_len (λ x. x == item) xs)
+    → remove ys at ≡ remove ys (position_or_len (λ x. x == item) ys)
+rest_seen xs ys item at same rest = rw same at rest
+
+get_or-replicate_default : {A : Type 0} (n i : ℕ) (d : A) → get_or (replicate n d) i d ≡ d
+get_or-replicate_default zero i d = refl
+get_or-replicate_default (suc n) zero d = refl
+get_or-replicate_default (suc n) (suc i) d = get_or-replicate_default n i d
+
+chains_of-empty : (nodes : List Node) (n : ℕ) → chains_of nodes (replicate n no_chain) ≡ replicate n []
+chains_of-empty nodes zero = refl
+chains_of-empty nodes (suc n) = ap (λ (t : List (List ℕ)). [] ∷ t) (chains_of-empty nodes n)
+
+leads-empty : (n end : ℕ) → LeadsBack (replicate n no_link) end []
+leads-empty n end = ap (λ (link : Link). link.0 ∷ []) (get_or-replicate_default n end no_link)
+
+pub IsKept-fresh : (nodes : List Node) (n lists : ℕ) → IsFresh nodes n → n < 4294967295
+    → IsKept nodes (replicate lists no_chain) (replicate (n + lists) no_link) (record { first = record { 0 = 0 }; len = n }) true
+IsKept-fresh nodes n lists s few = record {
+  pool = IsPool-fresh nodes n lists s few;
+  backed = record {
+    count =
+        let links = length-replicate (n + lists) no_link in
+        let chains = length-chains_of nodes (replicate lists no_chain) ∙ length-replicate lists no_chain in
+        omega (arith, s.count);
+    leads = λ l lt. rw (chains_of-empty, get_or-replicate_default) (leads-empty (n + lists) (length nodes + l));
+  };
+  order = λ up m. rw (lists_of-empty, get_or-replicate_default) (IsNonDecreasingBy-short (λ x. x) [] (omega arith));
+}
