@@ -10,7 +10,7 @@ use Rattle.tt_base.specs.Lists.{is_listed}
 use Rattle.tt_problem.specs.declared.parts.Span.{Span}
 use Rattle.tt_problem.specs.Spans.{is_in}
 use Rattle.tt_choice.specs.Choices.{places_between, each_before, choices_of}
-use Rattle.tt_choice.specs.Least.{Situation, has_parent, may_be_taken, is_allowed}
+use Rattle.tt_choice.specs.Least.{Situation, has_parent_with, may_be_taken, is_allowed}
 use Rattle.tt_choice.specs.Open.{may_come, is_open}
 use Rattle.tt_choice.proofs.EachLemmas.{all_both, before-map, before-each, no-and, and-no, fails, all_follow}
 use Rattle.tt_choice.proofs.Order.{all-append, all-weaken}
@@ -116,24 +116,24 @@ module _ (s : Situation) (front : List ℕ) (rest : List Span) (choice : List �
       join false false false d f e = absurd (cc e)
 
   -- a class of an allowed choice may come
-  comes : (c : ℕ) → (s.has_seat c && has_parent s (front ++ choice) c) ≡ true → may_come s front rest c ≡ true
+  comes : (c : ℕ) → (s.has_seat c && has_parent_with s (front ++ choice) c) ≡ true → may_come s front rest c ≡ true
   comes c h =
-      let two = and_parts (s.has_seat c) (has_parent s (front ++ choice) c) h in
+      let two = and_parts (s.has_seat c) (has_parent_with s (front ++ choice) c) h in
       rw (two.0, may_have (s.parent_of c) two.1) refl
 
-  refused : list_all (λ c. s.has_seat c && has_parent s (front ++ choice) c) (front ++ choice) ≡ false → is_allowed s (front ++ choice) ≡ false
-  refused h = no-and (may_be_taken s (front ++ choice)) (list_all (has_parent s (front ++ choice)) s.wanting) h
+  refused : list_all (λ c. s.has_seat c && has_parent_with s (front ++ choice) c) (front ++ choice) ≡ false → is_allowed s (front ++ choice) ≡ false
+  refused h = no-and (may_be_taken s (front ++ choice)) (list_all (has_parent_with s (front ++ choice)) s.wanting) h
 
   -- where one of its classes may not come, a choice isn't allowed
   refused-later : list_all (may_come s front rest) choice ≡ false → is_allowed s (front ++ choice) ≡ false
   refused-later h =
-      let p : ℕ → Bool = λ c. s.has_seat c && has_parent s (front ++ choice) c in
+      let p : ℕ → Bool = λ c. s.has_seat c && has_parent_with s (front ++ choice) c in
       let failed : list_all p choice ≡ false = fails (list_all p choice) (list_all (may_come s front rest) choice) (all_follow p (may_come s front rest) comes choice) h in
       refused (list_all-append p front choice ∙ and-no (list_all p front) (list_all p choice) failed)
 
   pub refused-front : (k : ℕ) → k < length front → may_come s front rest (get_or front k 0) ≡ false → is_allowed s (front ++ choice) ≡ false
   refused-front k lt h =
-      let p : ℕ → Bool = λ c. s.has_seat c && has_parent s (front ++ choice) c in
+      let p : ℕ → Bool = λ c. s.has_seat c && has_parent_with s (front ++ choice) c in
       let c = get_or front k 0 in
       let failed : p c ≡ false = fails (p c) (may_come s front rest c) (comes c) h in
       let all : list_all p front ≡ false = list_all_at p front k 0 lt failed in

@@ -9,7 +9,7 @@ use Rattle.std.proofs.lemmas.List.Folds.{list_all-append}
 use Rattle.tt_problem.specs.declared.parts.Span.{Span}
 use Rattle.tt_choice.specs.declared.course.Found.{Found}
 use Rattle.tt_choice.specs.Choices.{choices_of}
-use Rattle.tt_choice.specs.Least.{Situation, has_parent, may_be_taken, is_allowed, pairs_added}
+use Rattle.tt_choice.specs.Least.{Situation, has_parent_with, may_be_taken, is_allowed, pairs_added}
 use Rattle.tt_choice.specs.Passed.{is_fewer, better, passed}
 use Rattle.tt_choice.specs.Found.{chosen, has_fewer, IsFoundIn, IsInVain}
 use Rattle.tt_choice.specs.Ahead.{pairs_across, IsAcross, IsSure}
@@ -38,8 +38,8 @@ module _ (s : Situation) (found : Option Found) (front : List ℕ) (rest : List 
   seats_of : (choice : List ℕ) → is_allowed s (front ++ choice) ≡ true → list_all s.has_seat choice ≡ true
   seats_of choice h =
       let whole = front ++ choice in
-      let parts = and_parts (may_be_taken s whole) (list_all (has_parent s whole) s.wanting) h in
-      let seats = all_follow (λ c. s.has_seat c && has_parent s whole c) s.has_seat (λ c e. (and_parts (s.has_seat c) (has_parent s whole c) e).0) whole parts.0 in
+      let parts = and_parts (may_be_taken s whole) (list_all (has_parent_with s whole) s.wanting) h in
+      let seats = all_follow (λ c. s.has_seat c && has_parent_with s whole c) s.has_seat (λ c e. (and_parts (s.has_seat c) (has_parent_with s whole c) e).0) whole parts.0 in
       (and_parts (list_all s.has_seat front) (list_all s.has_seat choice) (sym (list_all-append s.has_seat front choice) ∙ seats)).1
 
   -- the pairs of the front, those inside what comes and those between both are no fewer

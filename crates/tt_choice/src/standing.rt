@@ -26,7 +26,7 @@ impl<'a> Standing<'a> {
     ghost use Rattle.std.specs.Prelude.{[], Option, ℕ, count_by};
     ghost use Rattle.std.specs.List.{list_all};
     ghost use Rattle.tt_state.specs.Seats.{limit_of, others_with};
-    ghost use Rattle.tt_choice.specs.Least.{has_parent, is_allowed, may_be_taken};
+    ghost use Rattle.tt_choice.specs.Least.{has_parent_with, is_allowed, may_be_taken};
     ghost use Rattle.tt_choice.specs.Situations.{situation_of};
     ghost use Rattle.tt_choice.specs.Standings.{situation_in};
 
@@ -122,8 +122,8 @@ impl<'a> Standing<'a> {
 
     /// Whether the parent of a class, where it has one, is in a choice or already taken.
     #[tactic(auto, using(tt_base::proofs::ListLemmas::listed_turned))]
-    fn has_parent(&self, taken: &[u32], choice: &[u32], class: u32) -> bool
-        ensures { result ≡ has_parent (situation_in self.now taken.now) choice.now class }
+    fn has_parent_with(&self, taken: &[u32], choice: &[u32], class: u32) -> bool
+        ensures { result ≡ has_parent_with (situation_in self.now taken.now) choice.now class }
     {
         match self.parent_of(class) {
             None => true,
@@ -135,16 +135,17 @@ impl<'a> Standing<'a> {
     fn may_be_taken(&self, taken: &[u32], choice: &[u32]) -> bool
         ensures { result ≡ may_be_taken (situation_in self.now taken.now) choice.now }
     {
-        choice.iter().all(|class| self.has_seat(*class) && self.has_parent(taken, choice, *class))
+        choice.iter().all(|class| self.has_seat(*class)
+            && self.has_parent_with(taken, choice, *class))
     }
 
     /// Whether each class whose parent may be missing has it with a choice.
     fn brings_parents(&self, taken: &[u32], choice: &[u32]) -> bool
-        ensures { result ≡ list_all (has_parent (situation_in self.now taken.now) choice.now) self.now.wanting.now }
+        ensures { result ≡ list_all (has_parent_with (situation_in self.now taken.now) choice.now) self.now.wanting.now }
     {
         self.wanting
             .iter()
-            .all(|class| self.has_parent(taken, choice, *class))
+            .all(|class| self.has_parent_with(taken, choice, *class))
     }
 
     /// Whether a choice is allowed.

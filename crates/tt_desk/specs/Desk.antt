@@ -108,8 +108,8 @@ abbrev pub known_value : Parts → ℕ → ℕ → Option ℕ → Result Value R
 known_value p class time room = result_map_both (λ v. v) value_refusal (find_value p class time room)
 
 -- the value that a class has
-abbrev pub placed : Desk → ℕ → Result Value Refusal
-placed d class = ok_or (value_in d.present class) NotPlaced
+abbrev pub placed_value : Desk → ℕ → Result Value Refusal
+placed_value d class = ok_or (value_in d.present class) NotPlaced
 
 -- the list is a valid enrolment of the student
 abbrev pub valid_list : Desk → ℕ → List ℕ → Result (Unit {0}) Refusal
@@ -227,7 +227,7 @@ carried_out s (Assign class time room) = do
   Ok (with_step s (with_value s.desk.present c (Some v)) [])
 carried_out s (Unassign class) = do
   c ← known_class s.desk.problem class
-  v ← placed s.desk c
+  v ← placed_value s.desk c
   Ok (with_step s (with_value s.desk.present c None) [])
 carried_out s (Force class time room) = do
   c ← known_class s.desk.problem class

@@ -8,7 +8,7 @@ ghost use Rattle.tt_tree.specs.Read.{rooms_read, tree_read};
 ghost use Rattle.tt_tree.specs.Whole.{HasClasses};
 ghost use Rattle.tt_lists.specs.Tables.{rules_in, students_in};
 ghost use Rattle.tt_read.specs.Read.{room_list_read, course_list_read, shape_read, IsShape, IsLinked};
-ghost use Rattle.tt_read.specs.Tables.{most_weeks as most_weeks_of, term_of, weights_of, unknown as unknown_of, room_list_of, course_list_of, checked_list, shape_of, known as known_of_shape, parts_with as parts_of_all, linked_of};
+ghost use Rattle.tt_read.specs.Tables.{most_weeks as most_weeks_of, term_of, weights_of, term_context, room_list_of, course_list_of, checked_list, file_shape, shape_context, parts_with as parts_of_all, linked_of};
 
 use crate::term::Term;
 use indexmap::IndexSet;
@@ -66,9 +66,9 @@ fn read_weights<'a>(object: &'a Part<'a>) -> Result<Weights, Fault<'a>>
 }
 
 /// What the first pass reads with: no reference is looked up.
-fn unknown(term: Term) -> Context<'static>
+fn term_context(term: Term) -> Context<'static>
     requires { IsValidTerm term.nr_days term.nr_weeks }
-    ensures context { context_of result ≡ unknown_of term }
+    ensures context { context_of result ≡ term_context term }
     ensures valid { IsContext result }
 {
     Context {
@@ -98,7 +98,7 @@ fn read_room_list<'a>(
     ensures few { IfOk result (λ list. length list.items.values.now ≤ most_rooms) }
     ensures count { IfOk result (λ list. length list.ids.keys ≡ length list.items.values.now) }
 {
-    let context = unknown(term);
+    let context = term_context(term);
     let items = list_or_none(object, "rooms", 2500)?;
     let Rooms { ids, .. } = read_rooms(alloc, &context, &items)?;
     Ok(RoomList { items, ids })
@@ -126,7 +126,7 @@ fn read_course_list<'a>(
     ensures few_classes { IfOk result (λ list. length list.class_ids.keys ≤ 20000) }
     ensures classes { IfOk result (λ list. HasClasses (items_of list.items) (length list.class_ids.keys)) }
 {
-    let context = unknown(term);
+    let context = term_context(term);
     let items = list(object, "courses", 0, 20_000)?;
     let Tree { ids, configs, .. } = read_courses(alloc, &context, &items)?;
     let Configs { subparts, .. } = configs;
@@ -177,9 +177,9 @@ pub struct Shape<'a> {
 }
 
 /// The first pass: the whole value, with no reference looked up.
-#[tactic(auto, unfolding(crate::specs::Tables::shape_of))]
+#[tactic(auto, unfolding(crate::specs::Tables::file_shape))]
 pub fn first_pass<'a>(alloc: Global, object: &'a Part<'a>) -> Result<Shape<'a>, FileFault>
-    ensures reads { Gives shape_read result (shape_of (part_of object.now)) }
+    ensures reads { Gives shape_read result (file_shape (part_of object.now)) }
     ensures valid { IfOk result IsShape }
 {
     as_object(object)?;
@@ -201,9 +201,9 @@ pub fn first_pass<'a>(alloc: Global, object: &'a Part<'a>) -> Result<Shape<'a>, 
 }
 
 /// What the second pass reads with: the ids of the first.
-fn known<'a>(shape: &'a Shape<'_>) -> Context<'a>
+fn shape_context<'a>(shape: &'a Shape<'_>) -> Context<'a>
     requires { IsShape shape.now }
-    ensures context { context_of result ≡ known_of_shape (shape_read shape.now) }
+    ensures context { context_of result ≡ shape_context (shape_read shape.now) }
     ensures valid { IsContext result }
 {
     Context {
@@ -260,7 +260,7 @@ pub fn second_pass(alloc: Global, shape: &Shape<'_>) -> Result<Parts, FileFault>
     ensures reads { Gives (λ parts. parts) result (linked_of (shape_read shape.now)) }
     ensures linked { IfOk result IsLinked }
 {
-    let context = known(&*shape);
+    let context = shape_context(&*shape);
     let rooms = read_rooms(alloc, &context, &shape.rooms.items)?;
     let tree = read_courses(alloc, &context, &shape.courses.items)?;
     let rules = read_rules(

@@ -21,8 +21,8 @@ ids_of [] = Some []
 ids_of (word ∷ words) = option_map (λ b. b.0 ∷ b.1) (option_zip (id_of word) (ids_of words))
 
 -- a room: its id, or '-' for none
-abbrev pub room_of : List ℕ → Option (Option ℕ)
-room_of word = if bytes_eq word (codes "-") then Some None else option_map Some (id_of word)
+abbrev pub room_or_none : List ℕ → Option (Option ℕ)
+room_or_none word = if bytes_eq word (codes "-") then Some None else option_map Some (id_of word)
 
 -- a number of turns: up to 1,000,000
 abbrev pub count_of : List ℕ → Option ℕ
@@ -40,7 +40,7 @@ slot_of word = at_most 65535 (decimal_of word)
 
 -- `C T R`: a class, the number of a time, and a room
 abbrev pub choice_of : List (List ℕ) → Option Choice
-choice_of (class ∷ time ∷ room ∷ []) = option_map (λ v. record { class = v.0; time = v.1.0; room = v.1.1 }) (option_zip (id_of class) (option_zip (id_of time) (room_of room)))
+choice_of (class ∷ time ∷ room ∷ []) = option_map (λ v. record { class = v.0; time = v.1.0; room = v.1.1 }) (option_zip (id_of class) (option_zip (id_of time) (room_or_none room)))
 choice_of words = None
 
 -- `N SEED`: a number of turns, and the seed

@@ -1,5 +1,5 @@
 ghost use Rattle.std.specs.Prelude.{◌≡◌, ◌↔◌, ◌∷◌, [], Some, None, IfOk, IfSome, IsSome, is_some, codes, bytes_eq, false, option_map};
-ghost use Rattle.tt_script.specs.Forms.{HasDepth, IsDepth, IsSectionLine, id_of, ids_of, room_of, count_of, seed_of, slot_of, choice_of, turns_of, closing_of, lone_id, depth_of, suggest_of, enrol_of, section_of, alone, other_command, command_of};
+ghost use Rattle.tt_script.specs.Forms.{HasDepth, IsDepth, IsSectionLine, id_of, ids_of, room_or_none, count_of, seed_of, slot_of, choice_of, turns_of, closing_of, lone_id, depth_of, suggest_of, enrol_of, section_of, alone, other_command, command_of};
 ghost use Rattle.tt_text.specs.Line.{words_of};
 
 use crate::command::{Command, Ids, LineFault};
@@ -47,7 +47,7 @@ fn read_id(word: &[u8]) -> Option<u32>
 
 // The room that a word is: an id, or `-` for none.
 fn read_room(word: &[u8]) -> Option<Option<u32>>
-    ensures { result ≡ room_of word.now }
+    ensures { result ≡ room_or_none word.now }
 {
     if word == b"-".as_slice() {
         return Some(None);

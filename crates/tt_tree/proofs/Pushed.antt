@@ -15,7 +15,7 @@ use Rattle.tt_problem.specs.Valid.{IsValidRoom, room_ids, class_ids, course_ids}
 use Rattle.tt_fields.specs.declared.answer.FileFault.{FileFault}
 use Rattle.tt_fields.specs.declared.answer.FileFault.TheVariants as faults
 use Rattle.tt_fields.specs.Answer.{Part, Fault, ◌>>=◌, Fails}
-use Rattle.tt_fields.specs.Kinds.{a_number, an_object, a_list, required, or_else, new_id, each, list_of}
+use Rattle.tt_fields.specs.Kinds.{a_number, an_object, a_list, required, or_else, new_id, each, each_as}
 use Rattle.tt_tree.specs.declared.context as context
 use Rattle.tt_tree.specs.declared.rooms as rooms
 use Rattle.tt_tree.specs.declared.courses as courses
@@ -45,7 +45,7 @@ closed_room id rooms travel closed = Ok (record { rooms = rooms ++ record { id =
 
 -- what is left of a room after its travel
 abbrev pub room_rest : Context → ℕ → List RoomPart → Table → Part → Result Rooms Fault
-room_rest c id rooms travel p = or_else [] (a_list 0 1000) (codes "unavailable") p >>= λ unavailable. list_of (a_closed_time c) unavailable >>= closed_room id rooms travel
+room_rest c id rooms travel p = or_else [] (a_list 0 1000) (codes "unavailable") p >>= λ unavailable. each_as (a_closed_time c) unavailable >>= closed_room id rooms travel
 
 pub room_is : (c : Context) (s : Rooms) (ids more : List ℕ) (from id : ℕ) (p : Part) (now : Table) (entries : List Part)
     → an_object p ≡ Ok p → required (a_number 0 4294967295) (codes "id") p ≡ Ok id → new_id id ids p ≡ Ok more

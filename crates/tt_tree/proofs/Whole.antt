@@ -13,7 +13,7 @@ use Rattle.serde_json.specs.declared.value.Value.{Value}
 use Rattle.tt_problem.specs.declared.parts.ClassPart.{ClassPart}
 use Rattle.tt_fields.specs.Path.{at, shown}
 use Rattle.tt_fields.specs.Answer.{Part, Fault, fault, ◌>>=◌}
-use Rattle.tt_fields.specs.Kinds.{a_number, an_object, a_list, a_reference, optional, list_of, or_wrong, counted, items_at, required, value_at, new_id, each}
+use Rattle.tt_fields.specs.Kinds.{a_number, an_object, a_list, a_reference, optional, each_as, or_wrong, counted, items_at, required, value_at, new_id, each}
 use Rattle.tt_tree.specs.Context.{Context}
 use Rattle.tt_problem.specs.Valid.{class_ids, course_ids}
 use Rattle.tt_tree.specs.Tables.{span, no_limit, a_time_choice, rooms_of, a_class, Subparts, a_subpart, Configs, a_config, a_course, Tree, no_tree, courses_in}
@@ -102,7 +102,7 @@ class_keeps c n m p s h =
     after (AreClasses (n + 1) (m + 0)) (optional (a_reference c.classes) (codes "parent") o) _ (λ parent is.
     after (AreClasses (n + 1) (m + 0)) (rooms_of c o) _ (λ rooms is.
     after (AreClasses (n + 1) (m + 0)) (required (a_list 1 1000) (codes "times") o) _ (λ items is.
-    after (AreClasses (n + 1) (m + 0)) (list_of (a_time_choice c) items) _ (λ times is.
+    after (AreClasses (n + 1) (m + 0)) (each_as (a_time_choice c) items) _ (λ times is.
     omega (arith, length-append s (record { id = id; limit = limit; parent = parent; times = times; rooms = rooms } ∷ []), h)))))))))
 
 classes_are : (c : Context) (items : List Part) (s t : List ClassPart) → each (a_class c) items s ≡ Ok t → length t ≡ length s + length items

@@ -13,7 +13,7 @@ use Rattle.tt_problem.specs.declared.parts.CoursePart.{CoursePart}
 use Rattle.tt_problem.specs.Valid.{room_ids, class_ids, course_ids}
 use Rattle.tt_fields.specs.Path.{at}
 use Rattle.tt_fields.specs.Answer.{Part, Fault, fault, ◌>>=◌}
-use Rattle.tt_fields.specs.Kinds.{a_number, a_truth, a_set, an_object, a_list, a_reference, place_of, or_fault, required, or_else, optional, new_id, each, list_of}
+use Rattle.tt_fields.specs.Kinds.{a_number, a_truth, a_set, an_object, a_list, a_reference, place_of, or_fault, required, or_else, optional, new_id, each, each_as}
 use Rattle.tt_tree.specs.Context.{Context}
 
 -- ---- times
@@ -72,7 +72,7 @@ a_room c p s = do
   entries ← or_else [] (a_list 0 4000) (codes "travel") o
   travel ← each (a_travel_entry c (length s.rooms)) entries s.travel
   unavailable ← or_else [] (a_list 0 1000) (codes "unavailable") o
-  closed ← list_of (a_closed_time c) unavailable
+  closed ← each_as (a_closed_time c) unavailable
   Ok (record { rooms = s.rooms ++ record { id = id; closed = closed } ∷ []; travel = travel })
 
 -- none of `count` rooms has been read
@@ -96,7 +96,7 @@ a_room_choice c p = do
 -- the rooms of a class that may need one, none for one that needs none
 abbrev pub rooms_where : Bool → Context → Part → Result (List RoomChoice) Fault
 rooms_where false c o = Ok []
-rooms_where true c o = or_else [] (a_list 0 1000) (codes "rooms") o >>= list_of (a_room_choice c)
+rooms_where true c o = or_else [] (a_list 0 1000) (codes "rooms") o >>= each_as (a_room_choice c)
 
 -- the rooms of a class, which are skipped where its `room` is false
 unfoldable pub rooms_of : Context → Part → Result (List RoomChoice) Fault
@@ -114,7 +114,7 @@ a_class c p before = do
   parent ← optional (a_reference c.classes) (codes "parent") o
   rooms ← rooms_of c o
   items ← required (a_list 1 1000) (codes "times") o
-  times ← list_of (a_time_choice c) items
+  times ← each_as (a_time_choice c) items
   Ok (before ++ record { id = id; limit = limit; parent = parent; times = times; rooms = rooms } ∷ [])
 
 -- the places from `first` up to `after`
