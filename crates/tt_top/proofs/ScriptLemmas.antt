@@ -24,9 +24,8 @@ use Rattle.tt_desk.specs.Desk.{Session, Answer, carried_out, step_from, step_of,
 use Rattle.tt_desk.specs.Replies.{is_end, is_refused, reply_of, replies_to, refuses}
 use Rattle.tt_top.specs.declared.end.End.{End}
 use Rattle.tt_top.specs.declared.end.End.TheVariants.{Files, Sink, Memory, TooLong}
-use Rattle.tt_top.specs.Pieces.{whole_lines, ends_script, has_quit, taken_of}
-use Rattle.tt_top.specs.Run.{is_long_script}
-use Rattle.tt_top.specs.Ends.{Serves, ServesNext, ServesSome, Answers, AnswersLine, EndsScript, WritesReplies}
+use Rattle.tt_top.specs.Pieces.{whole_lines, ends_script, has_quit, is_long_script, answered_part, taken_of}
+use Rattle.tt_top.specs.Ends.{Serves, ServesNext, ServesSome, Answers, AnswersLine, TakesLine, EndsScript, WritesReplies, WritesFirst, past_limit, replies_within}
 use Rattle.tt_top.proofs.ServeLemmas.{HasSent, HasSent-more, HasSent-all, HasSent-first, HasSent-less, HasSent-front, HasSent-same, replies-next, replies-last, refuses-next, refused_more, reply_is_next}
 use Rattle.tt_top.proofs.PieceLemmas.{first_of_lines, cut_at_end, leading_one, IsWhole, whole_empty, whole_more, lines_more, whole_is, taken_front, limit_front}
 
@@ -184,13 +183,13 @@ module _ (limit : ℕ) (d : Session) (script : List ℕ) (before : Option (List 
     | inl e ↦ absurd (let f : is_end outcome ≡ true = ap is_end e.outcome_is in cc (sym f ∙ goes))
     | inr a ↦
         let line = leading_line served.rest in
-        let cut = first_of_lines served.rest a.some in
+        let cut = first_of_lines served.rest a.taken.some in
         record {
           rest = after_line served.rest;
-          later = a.later;
+          later = a.taken.later;
           sent = HasSent-more before mid now _ _ (reply_of (line_step mid_d line)) _ served.sent a.answered.written (replies-next mid_d d' (lines_of served.rest) line (lines_of (after_line served.rest)) outcome cut a.answered.session a.answered.outcome_is goes);
           refused_is = refused_more refused (is_refused outcome) _ _ _ served.refused_is (refuses-next mid_d d' (lines_of served.rest) line (lines_of (after_line served.rest)) outcome cut a.answered.session a.answered.outcome_is goes);
-          at_line = λ on. line_served d script before mid_d mid served.rest d' now outcome (served.at_line (was_going reader.ended reader'.ended moves.stays on)) (a.last on) a.answered goes;
+          at_line = λ on. line_served d script before mid_d mid served.rest d' now outcome (served.at_line (was_going reader.ended reader'.ended moves.stays on)) (a.taken.last on) a.answered goes;
           met = met_then reader.ended reader'.ended left left' served.met moves.same moves.ended;
           counts = counts_then script reader.taken reader'.taken 0 left left' served.counts moves.taken;
           most = moves.most;
@@ -200,7 +199,7 @@ module _ (limit : ℕ) (d : Session) (script : List ℕ) (before : Option (List 
 -- ---- the end of a script
 
 -- where the end of the file was met, the script isn't longer than the limit
-short_script : (limit : ℕ) (script : List ℕ) (taken : ℕ) (left : Option (List ℕ)) → Counts 0 taken 0 (Some script) left → IsAtEnd left → taken ≤ limit → is_long_script limit (Some script) ≡ false
+short_script : (limit : ℕ) (script : List ℕ) (taken : ℕ) (left : Option (List ℕ)) → Counts 0 taken 0 (Some script) left → IsAtEnd left → taken ≤ limit → is_long_script limit script ≡ false
 short_script limit script taken None counts end most = absurd counts
 short_script limit script taken (Some xs) counts end most =
     let is : nat_lt limit (length script) ≡ false = let len : length script ≡ taken = (let none : length xs ≡ 0 = ap length end in omega (arith, counts, none)) in grind (arith, nat_tests, len, most) in
@@ -209,7 +208,7 @@ short_script limit script taken (Some xs) counts end most =
 -- the end of the file, after all lines
 ended_here : (limit : ℕ) (d : Session) (script : List ℕ) (before : Option (List ℕ)) (mid_d : Session) (refused : Bool) (mid : Option (List ℕ)) (reader : Reader) (left : Option (List ℕ)) (served : IsServed limit d script before mid_d refused mid reader left)
     → (d' : Session) (now : Option (List ℕ)) (reader' : Reader) (left' : Option (List ℕ)) (outcome : Outcome) → EndsScript served.rest mid now mid_d d' reader' outcome → Moves limit 0 reader reader' left left'
-    → Serves limit before now d (Some script) left' (Ok (refused || is_refused outcome))
+    → Serves limit before now d script left' (Ok (refused || is_refused outcome))
 ended_here limit d script before mid_d refused mid reader left served d' now reader' left' outcome e moves =
     let met = met_then reader.ended reader'.ended left left' served.met moves.same moves.ended e.met in
     let counts = counts_then script reader.taken reader'.taken 0 left left' served.counts moves.taken in
@@ -217,15 +216,21 @@ ended_here limit d script before mid_d refused mid reader left served d' now rea
     let sent = rw e.none at served.sent in
     (short_script limit script reader'.taken left' counts met moves.most, rw e.outcome_is refused_is, HasSent-all before now _ (HasSent-same before mid now _ _ sent e.written))
 
--- what is served ends with `quit` within the limit
-quits_within : (limit : ℕ) (script done rest : List ℕ) → script ≡ done ++ rest → IsWhole done → length done ≤ limit → list_any (λ line. ends_script (line_of line)) (lines_of done) ≡ true → is_long_script limit (Some script) ≡ false
-quits_within limit script done rest parts whole few quits_is =
+-- the lines within the limit are those of a front, and those of what follows it
+lines_within : (limit : ℕ) (script done rest : List ℕ) → script ≡ done ++ rest → IsWhole done → length done ≤ limit → lines_of (whole_lines (take limit script)) ≡ lines_of done ++ lines_of (whole_lines (take (limit - length done) rest))
+lines_within limit script done rest parts whole few =
     let more = take (limit - length done) rest in
     let front : take limit script ≡ done ++ more =
     (let n : limit ≡ length done + (limit - length done) = omega (arith, few) in
     ap (take limit) parts ∙ ap (λ k. take k (done ++ rest)) n ∙ take-append-add done rest (limit - length done)) in
-    let lines_are : lines_of (whole_lines (take limit script)) ≡ lines_of done ++ lines_of (whole_lines more) = ap (λ t. lines_of (whole_lines t)) front ∙ ap lines_of (whole.kept more) ∙ whole.lines (whole_lines more) in
-    let has : has_quit (take limit script) ≡ true = ap (list_any (λ l. ends_script (line_of l))) lines_are ∙ list_any-append (λ l. ends_script (line_of l)) (lines_of done) (lines_of (whole_lines more)) ∙ rw quits_is refl in
+    ap (λ t. lines_of (whole_lines t)) front ∙ ap lines_of (whole.kept more) ∙ whole.lines (whole_lines more)
+
+-- what is served ends with `quit` within the limit
+quits_within : (limit : ℕ) (script done rest : List ℕ) → script ≡ done ++ rest → IsWhole done → length done ≤ limit → list_any (λ line. ends_script (line_of line)) (lines_of done) ≡ true → is_long_script limit script ≡ false
+quits_within limit script done rest parts whole few quits_is =
+    let has : has_quit (take limit script) ≡ true =
+    ap (list_any (λ l. ends_script (line_of l))) (lines_within limit script done rest parts whole few)
+    ∙ list_any-append (λ l. ends_script (line_of l)) (lines_of done) (lines_of (whole_lines (take (limit - length done) rest))) ∙ rw quits_is refl in
     by (nat_lt limit (length script)) (has_quit (take limit script)) has
   where
     by : (a b : Bool) → b ≡ true → (a && not b) ≡ false
@@ -251,10 +256,10 @@ lengths limit taken done rest hand script (Some xs) reader on hand_is parts late
 -- `quit`, as the last line that was answered
 quit_here : (limit : ℕ) (d : Session) (script : List ℕ) (before : Option (List ℕ)) (mid_d : Session) (refused : Bool) (mid : Option (List ℕ)) (reader : Reader) (left : Option (List ℕ)) (served : IsServed limit d script before mid_d refused mid reader left)
     → (d' : Session) (now : Option (List ℕ)) (reader' : Reader) (left' : Option (List ℕ)) (outcome : Outcome) → AnswersLine served.rest mid now mid_d d' reader' left' outcome → Moves limit 0 reader reader' left left' → is_end outcome ≡ true
-    → Serves limit before now d (Some script) left' (Ok (refused || is_refused outcome))
+    → Serves limit before now d script left' (Ok (refused || is_refused outcome))
 quit_here limit d script before mid_d refused mid reader left served d' now reader' left' outcome a moves ends =
     let line = leading_line served.rest in
-    let cut = first_of_lines served.rest a.some in
+    let cut = first_of_lines served.rest a.taken.some in
     let counts = counts_then script reader.taken reader'.taken 0 left left' served.counts moves.taken in (
       by reader'.ended refl,
       refused_is refused (is_refused outcome) _ _ (only_end outcome ends) (refuses-last mid_d (lines_of served.rest) line _ outcome cut a.answered.outcome_is ends) served.refused_is,
@@ -265,40 +270,84 @@ quit_here limit d script before mid_d refused mid reader left served d' now read
     refused_is so_far true later all goes is sum = absurd (cc goes)
     refused_is so_far false later all goes is sum = ap (λ t. so_far || t) (sym is) ∙ sum
 
-    by : (on : Bool) → reader'.ended ≡ on → is_long_script limit (Some script) ≡ false
+    by : (on : Bool) → reader'.ended ≡ on → is_long_script limit script ≡ false
     by true is = short_script limit script reader'.taken left' (counts_then script reader.taken reader'.taken 0 left left' served.counts moves.taken) (met_then reader.ended reader'.ended left left' served.met moves.same moves.ended is) moves.most
     by false is =
         let at = served.at_line (was_going reader.ended reader'.ended moves.stays is) in
         let line = leading_line served.rest in
         let one = leading_one served.rest in
         let done = at.done ++ (line ++ 10 ∷ []) in
-        let parts : script ≡ done ++ after_line served.rest = at.parts ∙ ap (λ t. at.done ++ t) (cut_at_end served.rest (a.last is) ∙ sym (append_assoc line (10 ∷ []) (after_line served.rest))) ∙ sym (append_assoc at.done (line ++ 10 ∷ []) (after_line served.rest)) in
+        let parts : script ≡ done ++ after_line served.rest = at.parts ∙ ap (λ t. at.done ++ t) (cut_at_end served.rest (a.taken.last is) ∙ sym (append_assoc line (10 ∷ []) (after_line served.rest))) ∙ sym (append_assoc at.done (line ++ 10 ∷ []) (after_line served.rest)) in
         let last : list_any (λ l. ends_script (line_of l)) (lines_of done) ≡ true =
         ap (list_any (λ l. ends_script (line_of l))) (lines_more at.done line at.whole one) ∙ list_any-append (λ l. ends_script (line_of l)) (lines_of at.done) (line ∷ []) ∙ rw (at.no_quit, ← quit_ends mid_d line, a.answered.outcome_is, ends) refl in
         quits_within limit script done (after_line served.rest) parts (whole_more at.done line at.whole one)
-        (lengths limit reader'.taken done (after_line served.rest) reader'.hand script left' reader' is refl parts a.later (counts_then script reader.taken reader'.taken 0 left left' served.counts moves.taken) moves.most)
+        (lengths limit reader'.taken done (after_line served.rest) reader'.hand script left' reader' is refl parts a.taken.later (counts_then script reader.taken reader'.taken 0 left left' served.counts moves.taken) moves.most)
         last
 
 module _ (limit : ℕ) (d : Session) (script : List ℕ) (before : Option (List ℕ)) (mid_d : Session) (refused : Bool) (mid : Option (List ℕ)) (reader : Reader) (left : Option (List ℕ)) (served : IsServed limit d script before mid_d refused mid reader left) where
   -- a script that is ended, by its end or by `quit`
   pub served_end : (d' : Session) (now : Option (List ℕ)) (reader' : Reader) (left' : Option (List ℕ)) (outcome : Outcome)
-      → ServesNext served.rest mid now mid_d d' reader' left' (Ok outcome) → Moves limit 0 reader reader' left left' → is_end outcome ≡ true → Serves limit before now d (Some script) left' (Ok (refused || is_refused outcome))
+      → ServesNext served.rest mid now mid_d d' reader' left' (Ok outcome) → Moves limit 0 reader reader' left left' → is_end outcome ≡ true → Serves limit before now d script left' (Ok (refused || is_refused outcome))
   served_end d' now reader' left' outcome next moves ends = elim next [
     | inl e ↦ ended_here limit d script before mid_d refused mid reader left served d' now reader' left' outcome e moves
     | inr a ↦ quit_here limit d script before mid_d refused mid reader left served d' now reader' left' outcome a moves ends
   ]
 
+  -- the whole lines so far are within the limit
+  few_done : (at : AtLine d script before mid_d mid served.rest) → reader.ended ≡ false → length at.done ≤ limit
+  few_done at on = lengths limit reader.taken at.done served.rest reader.hand script left reader on refl at.parts served.later served.counts served.most
+
+  -- the replies so far are the first of those within the limit
+  sent_within : AtLine d script before mid_d mid served.rest → reader.ended ≡ false → WritesFirst before mid (replies_within limit d script)
+  sent_within at on = by (is_long_script limit script) refl
+    where
+      by : (long : Bool) → is_long_script limit script ≡ long → WritesFirst before mid (replies_within limit d script)
+      by false is = rw is (HasSent-first before mid _ _ served.sent)
+      by true is =
+          let later = lines_of (whole_lines (take (limit - length at.done) served.rest)) in
+          let all : replies_to d (lines_of (whole_lines (take limit script))) ≡ replies_to d (lines_of at.done) ++ replies_to mid_d later =
+          ap (replies_to d) (lines_within limit script at.done served.rest at.parts at.whole (few_done at on)) ∙ at.answered.follows later in
+          rw is (HasSent-first before mid _ (replies_to mid_d later) (record { sent = replies_to d (lines_of at.done); parts = all; written = at.answered.written }))
+
+  -- so is the reply to a line that was taken
+  next_within : (reader' : Reader) (left' : Option (List ℕ)) → TakesLine served.rest reader' left' → Moves limit 0 reader reader' left left' → (later : List (List ℕ)) × HasSent before mid (replies_within limit d script) (replies_to mid_d (leading_line served.rest ∷ later))
+  next_within reader' left' takes moves = by (is_long_script limit script) refl
+    where
+      counts : Counts 0 reader'.taken 0 (Some script) left'
+      counts = counts_then script reader.taken reader'.taken 0 left left' served.counts moves.taken
+
+      going : is_long_script limit script ≡ true → (ended : Bool) → reader'.ended ≡ ended → reader'.ended ≡ false
+      going long true is = absurd (cc (sym long ∙ short_script limit script reader'.taken left' counts (met_then reader.ended reader'.ended left left' served.met moves.same moves.ended is) moves.most))
+      going long false is = is
+
+      by : (long : Bool) → is_long_script limit script ≡ long → (later : List (List ℕ)) × HasSent before mid (replies_within limit d script) (replies_to mid_d (leading_line served.rest ∷ later))
+      by false is =
+          let now_lines : List (List ℕ) → Type 0 = λ lines. HasSent before mid (replies_to d (lines_of script)) (replies_to mid_d lines) in
+          (lines_of (after_line served.rest), rw is (subst now_lines (first_of_lines served.rest takes.some) served.sent))
+      by true is =
+          let on = going is reader'.ended refl in
+          let at = served.at_line (was_going reader.ended reader'.ended moves.stays on) in
+          let line = leading_line served.rest in
+          let done = at.done ++ (line ++ 10 ∷ []) in
+          let parts : script ≡ done ++ after_line served.rest = at.parts ∙ ap (λ t. at.done ++ t) (cut_at_end served.rest (takes.last on) ∙ sym (append_assoc line (10 ∷ []) (after_line served.rest))) ∙ sym (append_assoc at.done (line ++ 10 ∷ []) (after_line served.rest)) in
+          let few : length done ≤ limit = lengths limit reader'.taken done (after_line served.rest) reader'.hand script left' reader' on refl parts takes.later counts moves.most in
+          let later = lines_of (whole_lines (take (limit - length done) (after_line served.rest))) in
+          let lines_are : lines_of (whole_lines (take limit script)) ≡ lines_of at.done ++ (line ∷ later) =
+          lines_within limit script done (after_line served.rest) parts (whole_more at.done line at.whole (leading_one served.rest)) few
+          ∙ ap (λ t. t ++ later) (lines_more at.done line at.whole (leading_one served.rest)) ∙ append_assoc (lines_of at.done) (line ∷ []) later in
+          (later, rw is (record { sent = replies_to d (lines_of at.done); parts = ap (replies_to d) lines_are ∙ at.answered.follows (line ∷ later); written = at.answered.written }))
+
   -- what was answered of a script of which a read fails
-  failed_here : (now : Option (List ℕ)) (left' : Option (List ℕ)) → now ≡ mid → AtLine d script before mid_d mid served.rest → StopsIn served.rest [] left' → Serves limit before now d (Some script) left' (Err Files)
-  failed_here now left' same at stops =
+  failed_here : (now : Option (List ℕ)) (left' : Option (List ℕ)) → now ≡ mid → AtLine d script before mid_d mid served.rest → reader.ended ≡ false → StopsIn served.rest [] left' → Serves limit before now d script left' (Err Files)
+  failed_here now left' same at on stops =
       let taken : taken_of script left' ≡ at.done ++ stops.part =
       ap (taken_of script) stops.left_is ∙ ap (λ t. taken_of t (Some stops.rest)) (at.parts ∙ ap (λ t. at.done ++ t) stops.parts ∙ sym (append_assoc at.done stops.part stops.rest)) ∙ taken_front (at.done ++ stops.part) stops.rest in
       let whole : whole_lines (taken_of script left') ≡ at.done = ap whole_lines taken ∙ whole_is at.done stops.part at.whole stops.no_end in
-      (rw same (HasSent-first before mid _ _ served.sent), rw (whole, same) at.answered.written)
+      (rw same (sent_within at on), rw (whole, same) at.answered.written)
 
   -- what was answered of a script that goes on beyond the limit
   too_long_here : (now : Option (List ℕ)) (reader' : Reader) (left' : Option (List ℕ)) (b : ℕ) → now ≡ mid → AtLine d script before mid_d mid served.rest → StopsIn served.rest (b ∷ []) left' → Moves limit 1 reader reader' left left' → limit ≤ reader'.taken
-      → Serves limit before now d (Some script) left' (Err TooLong)
+      → Serves limit before now d script left' (Err TooLong)
   too_long_here now reader' left' b same at stops moves least =
       let parts : script ≡ (at.done ++ stops.part) ++ (b ∷ stops.rest) = at.parts ∙ ap (λ t. at.done ++ t) stops.parts ∙ sym (append_assoc at.done stops.part (b ∷ stops.rest)) in
       let counts : Counts 0 reader'.taken 1 (Some script) (Some stops.rest) = subst (λ (t : Option (List ℕ)). Counts 0 reader'.taken 1 (Some script) t) stops.left_is (counts_then script reader.taken reader'.taken 1 left left' served.counts moves.taken) in
@@ -307,22 +356,26 @@ module _ (limit : ℕ) (d : Session) (script : List ℕ) (before : Option (List 
       let whole : whole_lines (take limit script) ≡ at.done = ap whole_lines front ∙ whole_is at.done stops.part at.whole stops.no_end in
       let no_quit : has_quit (take limit script) ≡ false = ap (λ t. list_any (λ l. ends_script (line_of l)) (lines_of t)) whole ∙ at.no_quit in
       let long : nat_lt limit (length script) ≡ true = (let more : limit < length script = omega (arith, counts, moves.most, least) in grind (arith, nat_tests, more)) in
-      (rw (long, no_quit) refl, rw same (HasSent-first before mid _ _ served.sent), rw (whole, same) at.answered.written)
+      let is : is_long_script limit script ≡ true = rw (long, no_quit) refl in
+      (is, rw (is, whole, same) at.answered.written)
 
   -- a script that is not served to its end
-  pub served_err : (d' : Session) (now : Option (List ℕ)) (reader' : Reader) (left' : Option (List ℕ)) (past : ℕ) (e : End)
-      → ServesNext served.rest mid now mid_d d' reader' left' (Err e) → Moves limit past reader reader' left left' → ((e ≡ Files) ⊎ (e ≡ TooLong) → reader.ended ≡ false) → (e ≡ TooLong → (past ≡ 1) × (limit ≤ reader'.taken))
-      → Serves limit before now d (Some script) left' (Err e)
-  served_err d' now reader' left' past Files next moves on long = failed_here now left' next.0 (served.at_line (on (inl refl))) next.1
-  served_err d' now reader' left' past Sink next moves on long =
-      let n = reply_is_next mid_d (lines_of served.rest) (leading_line served.rest) (lines_of (after_line served.rest)) (first_of_lines served.rest next.0) in
-      HasSent-front before mid now _ _ (reply_of (line_step mid_d (leading_line served.rest))) n.0 served.sent next.1 n.1
-  served_err d' now reader' left' past Memory next moves on long =
-      let n = reply_is_next mid_d (lines_of served.rest) (leading_line served.rest) (lines_of (after_line served.rest)) (first_of_lines served.rest next.1) in
-      let sent = HasSent-same before mid now _ _ served.sent next.0 in
-      (HasSent-first before now _ _ sent, inl (HasSent-less before now _ _ (reply_of (line_step mid_d (leading_line served.rest))) n.0 sent n.1 next.2))
-  served_err d' now reader' left' past TooLong next moves on long =
-      too_long_here now reader' left' next.1.0 next.0 (served.at_line (on (inr refl))) next.1.1 (subst (λ (n : ℕ). Moves limit n reader reader' left left') (long refl).0 moves) (long refl).1
+  pub served_err : (d' : Session) (now : Option (List ℕ)) (reader' : Reader) (left' : Option (List ℕ)) (e : End)
+      → ServesNext served.rest mid now mid_d d' reader' left' (Err e) → Moves limit (past_limit {T = Outcome} (Err e)) reader reader' left left' → ((e ≡ Files) ⊎ (e ≡ TooLong) → reader.ended ≡ false) → (e ≡ TooLong → limit ≤ reader'.taken)
+      → Serves limit before now d script left' (Err e)
+  served_err d' now reader' left' Files next moves on long = failed_here now left' next.0 (served.at_line (on (inl refl))) (on (inl refl)) next.1
+  served_err d' now reader' left' Sink next moves on long =
+      let line = leading_line served.rest in
+      let sent = next_within reader' left' next.0 moves in
+      let n = reply_is_next mid_d (line ∷ sent.0) line sent.0 refl in
+      HasSent-front before mid now _ _ (reply_of (line_step mid_d line)) n.0 sent.1 next.1 n.1
+  served_err d' now reader' left' Memory next moves on long =
+      let line = leading_line served.rest in
+      let within = next_within reader' left' next.0 moves in
+      let n = reply_is_next mid_d (line ∷ within.0) line within.0 refl in
+      let sent = HasSent-same before mid now _ _ within.1 next.1 in
+      (HasSent-first before now _ _ sent, inl (HasSent-less before now _ _ (reply_of (line_step mid_d line)) n.0 sent n.1 next.2))
+  served_err d' now reader' left' TooLong next moves on long = too_long_here now reader' left' next.1.0 next.0 (served.at_line (on (inr refl))) next.1.1 moves (long refl)
 
 -- ---- the answer to the next line
 
@@ -340,10 +393,10 @@ pub next_answered : (text : List ℕ) (before now : Option (List ℕ)) (d d' : S
     → (r ≡ Err Memory → now ≡ before) → (r ≡ Err Memory → 0 < length (reply_of (line_step d (leading_line text)))) → (r ≡ Err Sink → WritesFront before now (reply_of (line_step d (leading_line text))))
     → r ≢ Err Files → r ≢ Err TooLong → ServesNext text before now d d' reader left r
 next_answered text before now d d' reader left (Ok outcome) some later cut session outcome_is written memory replies front no_files no_limit =
-    inr (record { some = some; answered = record { session = session; outcome_is = outcome_is; written = written }; later = later; last = cut })
+    inr (record { taken = record { some = some; later = later; last = cut }; answered = record { session = session; outcome_is = outcome_is; written = written } })
 next_answered text before now d d' reader left (Err Files) some later cut session outcome_is written memory replies front no_files no_limit = absurd (no_files refl)
-next_answered text before now d d' reader left (Err Sink) some later cut session outcome_is written memory replies front no_files no_limit = (some, front refl)
-next_answered text before now d d' reader left (Err Memory) some later cut session outcome_is written memory replies front no_files no_limit = (memory refl, some, replies refl)
+next_answered text before now d d' reader left (Err Sink) some later cut session outcome_is written memory replies front no_files no_limit = (record { some = some; later = later; last = cut }, front refl)
+next_answered text before now d d' reader left (Err Memory) some later cut session outcome_is written memory replies front no_files no_limit = (record { some = some; later = later; last = cut }, memory refl, replies refl)
 next_answered text before now d d' reader left (Err TooLong) some later cut session outcome_is written memory replies front no_files no_limit = absurd (no_limit refl)
 
 -- the answer to a line that is too long
@@ -359,10 +412,10 @@ pub next_refused : (text : List ℕ) (before now : Option (List ℕ)) (d : Sessi
     → (r ≡ Err Memory → now ≡ before) → (r ≡ Err Memory → 0 < length (refusal_line BadLine)) → (r ≡ Err Sink → WritesFront before now (refusal_line BadLine))
     → r ≢ Err Files → r ≢ Err TooLong → ServesNext text before now d d reader left r
 next_refused text before now d reader left (Ok outcome) long some later cut outcome_is written memory replies front no_files no_limit =
-    inr (record { some = some; answered = refused_line d (leading_line text) before now outcome long outcome_is written; later = later; last = cut })
+    inr (record { taken = record { some = some; later = later; last = cut }; answered = refused_line d (leading_line text) before now outcome long outcome_is written })
 next_refused text before now d reader left (Err Files) long some later cut outcome_is written memory replies front no_files no_limit = absurd (no_files refl)
-next_refused text before now d reader left (Err Sink) long some later cut outcome_is written memory replies front no_files no_limit = (some, rw (long_step d (leading_line text) long) (front refl))
-next_refused text before now d reader left (Err Memory) long some later cut outcome_is written memory replies front no_files no_limit = (memory refl, some, rw (long_step d (leading_line text) long) (replies refl))
+next_refused text before now d reader left (Err Sink) long some later cut outcome_is written memory replies front no_files no_limit = (record { some = some; later = later; last = cut }, rw (long_step d (leading_line text) long) (front refl))
+next_refused text before now d reader left (Err Memory) long some later cut outcome_is written memory replies front no_files no_limit = (record { some = some; later = later; last = cut }, memory refl, rw (long_step d (leading_line text) long) (replies refl))
 next_refused text before now d reader left (Err TooLong) long some later cut outcome_is written memory replies front no_files no_limit = absurd (no_limit refl)
 
 -- what the answer to a line leaves, whatever the line is

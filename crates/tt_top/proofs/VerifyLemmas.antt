@@ -1,170 +1,164 @@
--- How the phases of a run that checks a solution file make its transcript.
-use Rattle.std.proofs.Common.{◌≡◌, ◌≢◌, ◌≤◌, ℕ, true, false, List, None, Some, Option, Result, Ok, Err, refl, sym, ◌∙◌, ap, subst, arith, inl, inr}
-use Rattle.std.specs.Prelude.{◌⊎◌, IfOk, IfErr, IsSome}
+-- How the phases of a run that checks a solution file follow the plain run.
+use Rattle.std.proofs.Common.{◌≡◌, ◌≢◌, ◌≤◌, ℕ, List, [], ◌∷◌, ◌++◌, None, Some, Option, Result, Ok, Err, refl, sym, ◌∙◌, ap, subst, arith, inl, inr}
+use Rattle.std.specs.Prelude.{IfOk, IfErr, IfSome, IsSome}
 use Rattle.std.proofs.lemmas.List.{append-nil}
 use Rattle.tt_io.specs.Causes.{Writes}
 use Rattle.tt_io.specs.Whole.{WritesFront}
-use Rattle.tt_io.proofs.WrittenLemmas.{Writes-front, none_written, nothing_written}
+use Rattle.tt_io.proofs.WrittenLemmas.{WritesFront-first, nothing_written}
 use Rattle.tt_problem.specs.declared.parts.Parts.{Parts}
-use Rattle.tt_read.specs.Tables.{problem_of}
+use Rattle.tt_solution.specs.Timetable.{Timetable}
+use Rattle.tt_desk.specs.Chain.{◌>>=◌}
 use Rattle.tt_top.specs.declared.end.End.{End}
 use Rattle.tt_top.specs.declared.end.End.TheVariants.{Files, Sink, Memory, TooLong}
 use Rattle.tt_top.specs.declared.end.Done.{Done}
 use Rattle.tt_top.specs.declared.end.Input.TheVariants.{Published}
 use Rattle.tt_top.specs.declared.end.InputFault.{InputFault}
 use Rattle.tt_top.specs.declared.verify_run.Check.{Check}
-use Rattle.tt_top.specs.Words.{FileWords}
-use Rattle.tt_top.specs.Transcript.{Bytes, problem_read, published_in, checked, verified_from, verify_transcript, text_of}
-use Rattle.tt_top.specs.Run.{Outside, IsTold, TellFirst, is_long, verify_status, IsVerifyTranscript, IsVerifyDue, HasCauses, AsksInOrder, IsVerifyRun}
-use Rattle.tt_top.specs.Ends.{faulty_file, end_status, done_status, status_of, HasEndCause, front_words, AsksFirst}
-use Rattle.tt_top.specs.Checks.{check_text, check_status, check_transcript, Checks}
-use Rattle.tt_top.proofs.LoadLemmas.{not_ok, ok_of}
-use Rattle.tt_top.proofs.FileRunLemmas.{over_four, at_most_one, three_or_four, end_is_no_usage, same_cause, done_cause, no_cause, other_end, asked_failed, few_done, has_causes, most_status, asks_early, asks_faulty, asks_all, told_first}
+use Rattle.tt_top.specs.Words.{FileWords, first_words, verify_words}
+use Rattle.tt_top.specs.PlainRun.{PlainRun, Phase, text_of, ends, last_phase, problem_phase, timetable_phase, checking, solution_phase, check_phase, verify_run}
+use Rattle.tt_top.specs.Run.{Outside, IsFront, Follows, HasCauses, AsksInOrder, IsVerifyRun}
+use Rattle.tt_top.specs.Ends.{faulty_file, end_status, done_status, status_of, HasEndCause, Agrees, Loads}
+use Rattle.tt_top.specs.Checks.{check_text, check_status, check_run, check_seen}
+use Rattle.tt_top.proofs.LoadLemmas.{EndNames, names_then, names_problem, names_timetable, rest_within}
+use Rattle.tt_top.proofs.EndLemmas.{at_most_one, three_or_four, end_is_no_usage, same_cause, done_cause, no_cause, other_end, has_causes, most_status, none_first}
+use Rattle.tt_top.proofs.FollowLemmas.{follows_whole, follows_part, follows_none, asks_early, asks_faulty, asks_all}
 
--- ---- what the files give
+-- ---- what is found of the solution
 
--- a problem with a fault
-pub unread_checks : (limit : ℕ) (b : Bytes) (f : InputFault) → problem_read (problem_of b.problem) ≡ Err (faulty_file f) → is_long limit (Some b.problem) ≡ false → Checks limit b (Ok (Err f))
-unread_checks limit b f is short =
-    let bad = not_ok (problem_of b.problem) (faulty_file f) is in
-    (ap (λ r. verified_from r b.published) is, rw (short, bad) refl)
+pub found_agrees : (limit : ℕ) (holds : List ℕ → Option (List ℕ)) (names : List (List ℕ)) (p : Parts) (name : List ℕ) (t : Timetable) (c : Check) → Agrees names (timetable_phase limit holds names p name) (Ok (Ok t)) → checking names p t ≡ check_run names c
+    → Agrees names (solution_phase limit holds names p name) (check_seen names (Ok (Ok c)))
+found_agrees limit holds names p name t c agrees is = λ told. rw (agrees (λ untold. told (rw untold refl)), is) refl
 
--- a word that is told names bytes
-told_bytes : (holds : List ℕ → Option (List ℕ)) (word : List ℕ) (o : Option (List ℕ)) → IsTold holds (Some word) o → (s : List ℕ) × (o ≡ Some s) × (holds word ≡ Some s)
-told_bytes holds word None told = absurd told
-told_bytes holds word (Some s) told = (s, refl, told)
+-- files that hold the same give the same
+pub solution_same : (limit : ℕ) (holds now : List ℕ → Option (List ℕ)) (names : List (List ℕ)) (p : Parts) (name : List ℕ) → ((n : List ℕ) → now n ≡ holds n) → solution_phase limit now names p name ≡ solution_phase limit holds names p name
+solution_same limit holds now names p name same = rw (same name) refl
 
-module _ (limit : ℕ) (b : Bytes) (p : Parts) (is : problem_read (problem_of b.problem) ≡ Ok p) (short : is_long limit (Some b.problem) ≡ false) where
-  read_checks : (l : Result Check InputFault) → checked p (published_in p b.published) ≡ check_transcript l → is_long limit b.published ≡ false → Checks limit b (Ok l)
-  read_checks l found fits = (ap (λ r. verified_from r b.published) is ∙ found, rw (short, ok_of (problem_of b.problem) p is, fits) refl)
+-- the problem is the first name of each run that ends before a solution is found
+pub check_within : (limit : ℕ) (holds : List ℕ → Option (List ℕ)) (problem solution : List ℕ) → EndNames (IsFront (problem ∷ [])) (check_phase limit holds problem solution)
+check_within limit holds problem solution =
+    let names = problem ∷ solution ∷ [] in
+    names_then (IsFront (problem ∷ [])) (problem_phase limit holds problem) (λ p. solution_phase limit holds names p solution) (names_problem (IsFront (problem ∷ [])) limit holds problem ([], refl))
+    (λ p. names_then (IsFront (problem ∷ [])) (timetable_phase limit holds names p solution) (λ t. Ok (checking names p t)) (names_timetable (IsFront (problem ∷ [])) limit holds names p solution (solution ∷ [], refl)) (λ t. tt))
 
-  -- what is found of the solution, for its bytes
-  pub solution_checks : (holds : List ℕ → Option (List ℕ)) (word : List ℕ) → IsTold holds (Some word) b.published → (r : Result (Result Check InputFault) End)
-      → IfOk r (λ l. (s : List ℕ) → holds word ≡ Some s → (checked p (published_in p (Some s)) ≡ check_transcript l) × (is_long limit (Some s) ≡ false))
-      → (r ≡ Err TooLong → (s : List ℕ) → holds word ≡ Some s → is_long limit (Some s) ≡ true) → r ≢ Err Sink → Checks limit b r
-  solution_checks holds word told (Ok l) found long no_sink =
-      let t = told_bytes holds word b.published told in
-      let f = found t.0 t.2 in
-      read_checks l (ap (λ o. checked p (published_in p o)) t.1 ∙ f.0) (ap (is_long limit) t.1 ∙ f.1)
-  solution_checks holds word told (Err Files) found long no_sink = tt
-  solution_checks holds word told (Err Sink) found long no_sink = absurd (no_sink refl)
-  solution_checks holds word told (Err Memory) found long no_sink = tt
-  solution_checks holds word told (Err TooLong) found long no_sink =
-      let t = told_bytes holds word b.published told in
-      let beyond : is_long limit b.published ≡ true = ap (is_long limit) t.1 ∙ long refl t.0 t.2 in
-      rw (short, ok_of (problem_of b.problem) p is, beyond) refl
+-- and after a problem both names
+pub solution_within : (limit : ℕ) (holds : List ℕ → Option (List ℕ)) (problem solution : List ℕ) (p : Parts) → (problem_phase limit holds problem ≢ Err None → problem_phase limit holds problem ≡ Ok p) → EndNames (IsFront (problem ∷ solution ∷ [])) (check_phase limit holds problem solution)
+solution_within limit holds problem solution p first =
+    let names = problem ∷ solution ∷ [] in
+    rest_within (IsFront names) (problem_phase limit holds problem) (λ p. solution_phase limit holds names p solution) p first
+    (names_then (IsFront names) (timetable_phase limit holds names p solution) (λ t. Ok (checking names p t)) (names_timetable (IsFront names) limit holds names p solution ([], refl)) (λ t. tt))
 
 -- a fault of the solution is one of a file that is named
-pub solution_named : (word : List ℕ) (r : Result (Result Check InputFault) End) → IfOk r (λ l. IfErr l (λ f. f.input ≡ Published)) → IfOk r (λ l. IfErr l (λ f. (f.input ≡ Published) × IsSome (Some word)))
-solution_named word (Ok (Ok c)) input = tt
-solution_named word (Ok (Err f)) input = (input, refl)
-solution_named word (Err e) input = tt
+pub solution_named : (names : List (List ℕ)) (word : List ℕ) (r : Result (Result Check InputFault) End) → IfOk r (λ l. IfErr l (λ f. f.input ≡ Published)) → IfOk (check_seen names r) (λ l. IfErr l (λ f. (f.input ≡ Published) × IsSome (Some word)))
+solution_named names word (Ok (Ok c)) input = tt
+solution_named names word (Ok (Err f)) input = (input, refl)
+solution_named names word (Err e) input = tt
+
+-- ---- the plain run, by its phases
+
+told_last : (phase x : Phase PlainRun) (P : PlainRun → Type 0) → (phase ≢ Err None → phase ≡ x) → IfSome (last_phase x) P → IfSome (last_phase phase) P
+told_last (Err None) x P is some = tt
+told_last (Err (Some r)) x P is some = subst (λ (phase : Phase PlainRun). IfSome (last_phase phase) P) (sym (is (λ e. cc e))) some
+told_last (Ok r) x P is some = subst (λ (phase : Phase PlainRun). IfSome (last_phase phase) P) (sym (is (λ e. cc e))) some
+
+any_last : (phase : Phase PlainRun) (P Q : PlainRun → Type 0) → ((r : PlainRun) → P r → Q r) → IfErr phase (λ ended. IfSome ended P) → IfOk phase P → IfSome (last_phase phase) Q
+any_last (Ok r) P Q all ended done = all r done
+any_last (Err None) P Q all ended done = tt
+any_last (Err (Some r)) P Q all ended done = all r ended
+
+ok_then : {A : Type 0} (phase : Phase A) (f : A → Phase PlainRun) (P : PlainRun → Type 0) → ((x : A) → IfOk (f x) P) → IfOk (phase >>= f) P
+ok_then (Ok x) f P later = later x
+ok_then (Err ended) f P later = tt
+
+-- where a solution was checked, both names were asked for
+check_names : (limit : ℕ) (holds : List ℕ → Option (List ℕ)) (problem solution : List ℕ) → IfOk (check_phase limit holds problem solution) (λ r. r.names ≡ problem ∷ solution ∷ [])
+check_names limit holds problem solution =
+    let names = problem ∷ solution ∷ [] in
+    ok_then (problem_phase limit holds problem) (λ p. solution_phase limit holds names p solution) (λ r. r.names ≡ names) (λ p. ok_then (timetable_phase limit holds names p solution) (λ t. Ok (checking names p t)) (λ r. r.names ≡ names) (λ t. refl))
+
+if_ok : {A : Type 0} (phase : Phase A) (P Q : A → Type 0) → ((x : A) → P x → Q x) → IfOk phase P → IfOk phase Q
+if_ok (Ok x) P Q all some = all x some
+if_ok (Err ended) P Q all some = tt
 
 -- ---- the answer of a run
 
-module _ (words : FileWords) (limit : ℕ) (o : Outside) where
-  abbrev IsStatusDue : ℕ → Type 0
-  IsStatusDue status = (b : Bytes) → TellFirst o.holds words limit b → (status ≤ 4) ⊎ (status ≡ 8) → status ≡ verify_status limit b
+module _ (problem solution : List ℕ) (limit : ℕ) (o : Outside) where
+  abbrev words : FileWords
+  words = verify_words problem solution
 
-  -- a run without a failed call ends as is due, or for want of memory
-  completes : (r : Result Done End) → IsStatusDue (status_of r) → HasCauses o (status_of r) → IsVerifyDue words limit o (status_of r)
-  completes (Ok done) due causes = record { due = due; complete = λ b told nf ns. inl (due b told (inl (few_done done))) }
-  completes (Err Files) due causes = record { due = due; complete = λ b told nf ns. absurd (nf (causes.files refl)) }
-  completes (Err Sink) due causes = record { due = due; complete = λ b told nf ns. absurd (ns (causes.sink refl)) }
-  completes (Err Memory) due causes = record { due = due; complete = λ b told nf ns. inr refl }
-  completes (Err TooLong) due causes = record { due = due; complete = λ b told nf ns. inl (due b told (inr refl)) }
+  abbrev both : List (List ℕ)
+  both = problem ∷ solution ∷ []
 
-  is_verify_run : (r : Result Done End) → IsVerifyTranscript words limit o (status_of r) → IsStatusDue (status_of r) → AsksInOrder words limit o (status_of r)
-      → HasEndCause Files o.before.files o.now.files r → HasEndCause Sink o.before.sink o.now.sink r → status_of r ≢ 2 → IsVerifyRun words limit o (status_of r)
-  is_verify_run r text due names files sink no_usage = record {
-    transcript = text;
-    due = completes r due (has_causes o r files sink);
-    causes = has_causes o r files sink;
-    names = names;
-    statuses = record { at_most = most_status r; no_usage = no_usage };
-  }
+  abbrev phase : Phase PlainRun
+  phase = check_phase limit o.holds problem solution
+
+  is_verify_run : (names : List (List ℕ)) (r : Result Done End) → IfSome (verify_run limit o.holds problem solution) (λ p. Follows p o names (status_of r)) → AsksInOrder words o names (status_of r) → HasCauses o (status_of r) → status_of r ≢ 2 → IsVerifyRun problem solution limit o (status_of r)
+  is_verify_run names r plain asks causes no_usage = record { names = names; run = record { plain = plain; asks = asks; causes = causes; statuses = record { at_most = most_status r; no_usage = no_usage } } }
 
   -- ---- before anything is written
 
-  module _ (e : End) (checks : (b : Bytes) → TellFirst o.holds (front_words words.problem words.published) limit b → Checks limit b (Err e)) where
-    early_due : IsStatusDue (end_status e)
-    early_due b told which = elim which [ inl le ↦ absurd (over_four e le) | inr is ↦ by e is (checks b (told_first words limit o b told)) ]
-      where
-        by : (e : End) → end_status e ≡ 8 → Checks limit b (Err e) → end_status e ≡ verify_status limit b
-        by Files is checks = absurd (omega arith)
-        by Sink is checks = absurd (omega arith)
-        by Memory is checks = absurd (omega arith)
-        by TooLong is checks = sym checks
+  module _ (e : End) (loads : Loads words phase o.before.asked o.now.asked (Err e)) where
+    any_verify_run : (P : PlainRun → Type 0) → ((r : PlainRun) → IsFront loads.names r.names → P r) → IfSome (verify_run limit o.holds problem solution) P
+    any_verify_run P all =
+        any_last phase (λ r. IsFront loads.names r.names) P all loads.within
+        (if_ok phase (λ r. r.names ≡ both) (λ r. IsFront loads.names r.names) (λ r is. (loads.first.0, is ∙ loads.first.1)) (check_names limit o.holds problem solution))
 
-    pub unchecked_run : o.now.written ≡ o.before.written → o.now.sink ≡ o.before.sink → e ≢ Sink
-        → AsksFirst {T = Check} (front_words words.problem words.published) limit o.holds o.before.asked o.now.asked (Err e)
-        → HasEndCause {T = Result Check InputFault} Files o.before.files o.now.files (Err e) → IsVerifyRun words limit o (end_status e)
-    unchecked_run same kept no_sink asks files =
-        is_verify_run (Err e)
-        (record {
-          whole = λ b told le. absurd (over_four e le);
-          front = λ b told. none_written _ _ _ same;
-          nothing = λ _. nothing_written _ _ same;
-        })
-        early_due (asks_early words limit o e (λ _. same) asks) (same_cause Files _ _ e files) (other_end Sink e _ _ kept no_sink) (end_is_no_usage e)
+    pub unchecked_run : o.now.written ≡ o.before.written → o.now.sink ≡ o.before.sink → e ≢ Sink → HasEndCause {T = Result Check InputFault} Files o.before.files o.now.files (Err e) → IsVerifyRun problem solution limit o (end_status e)
+    unchecked_run same kept no_sink files =
+        let causes : HasCauses o (end_status e) = has_causes o (Err e) (same_cause Files _ _ e files) (other_end Sink e _ _ kept no_sink) in
+        is_verify_run loads.names (Err e) (by e refl causes) (asks_early words o phase (Err e) e (λ _. same) loads) causes (end_is_no_usage e)
+      where
+        by : (x : End) → e ≡ x → HasCauses o (end_status e) → IfSome (verify_run limit o.holds problem solution) (λ p. Follows p o loads.names (end_status e))
+        by Files is causes = any_verify_run _ (λ r front. follows_none o loads.names r e (λ long. cc (sym is ∙ long)) causes front same)
+        by Sink is causes = absurd (no_sink is)
+        by Memory is causes = any_verify_run _ (λ r front. follows_none o loads.names r e (λ long. cc (sym is ∙ long)) causes front same)
+        by TooLong is causes =
+            told_last phase (ends loads.names [] 8) _ (rw is at loads.agrees) (follows_whole o loads.names (record { pieces = []; status = 8; names = loads.names }) (end_status e) (ap end_status is) refl (nothing_written _ _ same))
 
   -- ---- where this was found
 
-  module _ (l : Result Check InputFault)
-      (checks : (b : Bytes) → TellFirst o.holds (front_words words.problem words.published) limit b → Checks limit b (Ok l))
-      (asks : AsksFirst (front_words words.problem words.published) limit o.holds o.before.asked o.now.asked (Ok l))
-      (files : HasEndCause {T = Result Check InputFault} Files o.before.files o.now.files (Ok l)) where
-    text_is : (b : Bytes) → TellFirst o.holds words limit b → text_of (verify_transcript b) ≡ check_text l
-    text_is b told = ap text_of (checks b (told_first words limit o b told)).0 ∙ append-nil (check_text l)
+  module _ (l : Result Check InputFault) (loads : Loads words phase o.before.asked o.now.asked (check_seen both (Ok l))) (files : HasEndCause {T = Result Check InputFault} Files o.before.files o.now.files (Ok l)) where
+    -- it was written
+    pub checked_run : (done : Done) → done_status done ≡ check_status l → Writes o.before.written o.now.written (check_text l) → o.now.sink ≡ o.before.sink → IsVerifyRun problem solution limit o (done_status done)
+    checked_run done is all kept = by l loads (has_causes o (Ok done) (done_cause Files _ _ l done files) (record { rose = λ is. absurd cc; same = λ _. kept })) is all
+      where
+        by : (l : Result Check InputFault) → Loads words phase o.before.asked o.now.asked (check_seen both (Ok l)) → HasCauses o (done_status done) → done_status done ≡ check_status l → Writes o.before.written o.now.written (check_text l) → IsVerifyRun problem solution limit o (done_status done)
+        by (Ok c) loads causes is all =
+            let one : check_status (Ok c) ≤ 1 = at_most_one c.violations in
+            let few : done_status done ≤ 1 = omega (arith, one, is) in
+            is_verify_run loads.names (Ok done) (told_last phase (Ok (check_run both c)) _ loads.agrees (follows_whole o loads.names (check_run both c) (done_status done) is loads.each (rw (append-nil c.reply) all)))
+            (asks_all words o phase (check_run both c) (done_status done) refl few loads) causes (λ two. omega (arith, few, two))
+        by (Err f) loads causes is all =
+            let line = (faulty_file f).line in
+            let asks : AsksInOrder words o loads.names (done_status done) = rw is (asks_faulty words o phase f loads) in
+            is_verify_run loads.names (Ok done)
+            (told_last phase (ends loads.names (line ∷ []) (check_status (Err f))) _ loads.agrees (follows_whole o loads.names (record { pieces = line ∷ []; status = check_status (Err f); names = loads.names }) (done_status done) is refl (rw (append-nil line) all)))
+            asks causes (λ two. let three = (three_or_four f.input).0 in omega (arith, three, is, two))
 
     -- it wasn't written whole
-    pub unwritten_run : (e : End) → (e ≡ Memory → o.now.written ≡ o.before.written) → WritesFront o.before.written o.now.written (check_text l) → e ≢ Files → e ≢ TooLong
-        → HasEndCause {T = Unit {0}} Sink o.before.sink o.now.sink (Err e) → IsVerifyRun words limit o (end_status e)
+    pub unwritten_run : (e : End) → (e ≡ Memory → o.now.written ≡ o.before.written) → WritesFront o.before.written o.now.written (check_text l) → e ≢ Files → e ≢ TooLong → HasEndCause {T = Unit {0}} Sink o.before.sink o.now.sink (Err e) → IsVerifyRun problem solution limit o (end_status e)
     unwritten_run e memory front no_files no_limit sink =
-        is_verify_run (Err e)
-        (record {
-          whole = λ b told le. absurd (over_four e le);
-          front = λ b told. subst (λ (t : List ℕ). WritesFront o.before.written o.now.written t) (sym (text_is b told)) front;
-          nothing = λ is. nothing_written _ _ (by e memory no_files no_limit is);
-        })
-        (λ b told which. elim which [ inl le ↦ absurd (over_four e le) | inr is ↦ absurd (by_limit e no_limit is) ])
-        (asks_early words limit o e (λ ne. kept e memory no_files no_limit ne) (asked_failed _ _ _ _ _ l e asks)) (no_cause Files e _ _ l files no_files) (same_cause Sink _ _ e sink) (end_is_no_usage e)
+        by l loads (has_causes o (Err e) (no_cause Files e _ _ l files no_files) (same_cause Sink _ _ e sink)) front
       where
-        by : (e : End) → (e ≡ Memory → o.now.written ≡ o.before.written) → e ≢ Files → e ≢ TooLong → (end_status e ≡ 5) ⊎ ((end_status e ≡ 7) ⊎ (end_status e ≡ 8)) → o.now.written ≡ o.before.written
-        by Files memory no_files no_limit is = absurd (no_files refl)
-        by Sink memory no_files no_limit is = absurd (elim is [ inl five ↦ omega arith | inr more ↦ elim more [ inl seven ↦ omega arith | inr eight ↦ omega arith ] ])
-        by Memory memory no_files no_limit is = memory refl
-        by TooLong memory no_files no_limit is = absurd (no_limit refl)
+        kept : e ≢ Sink → o.now.written ≡ o.before.written
+        kept ne = by e memory no_files no_limit ne
+          where
+            by : (e : End) → (e ≡ Memory → o.now.written ≡ o.before.written) → e ≢ Files → e ≢ TooLong → e ≢ Sink → o.now.written ≡ o.before.written
+            by Files memory no_files no_limit ne = absurd (no_files refl)
+            by Sink memory no_files no_limit ne = absurd (ne refl)
+            by Memory memory no_files no_limit ne = memory refl
+            by TooLong memory no_files no_limit ne = absurd (no_limit refl)
 
-        kept : (e : End) → (e ≡ Memory → o.now.written ≡ o.before.written) → e ≢ Files → e ≢ TooLong → e ≢ Sink → o.now.written ≡ o.before.written
-        kept Files memory no_files no_limit ne = absurd (no_files refl)
-        kept Sink memory no_files no_limit ne = absurd (ne refl)
-        kept Memory memory no_files no_limit ne = memory refl
-        kept TooLong memory no_files no_limit ne = absurd (no_limit refl)
+        part : (names : List (List ℕ)) (r : PlainRun) → HasCauses o (end_status e) → IsFront names r.names → WritesFront o.before.written o.now.written (text_of r) → Follows r o names (end_status e)
+        part names r causes asked front = follows_part o names r e no_limit causes asked front (λ ne. none_first _ _ r.pieces (kept ne))
 
-        by_limit : (e : End) → e ≢ TooLong → end_status e ≡ 8 → ⊥
-        by_limit Files no_limit is = omega arith
-        by_limit Sink no_limit is = omega arith
-        by_limit Memory no_limit is = omega arith
-        by_limit TooLong no_limit is = no_limit refl
-
-    -- it was written
-    pub checked_run : (done : Done) → done_status done ≡ check_status l → words.script ≡ None → Writes o.before.written o.now.written (check_text l) → o.now.sink ≡ o.before.sink → IsVerifyRun words limit o (done_status done)
-    checked_run done is none all kept =
-        is_verify_run (Ok done)
-        (record {
-          whole = λ b told le. subst (λ (t : List ℕ). Writes o.before.written o.now.written t) (sym (text_is b told)) all;
-          front = λ b told. subst (λ (t : List ℕ). WritesFront o.before.written o.now.written t) (sym (text_is b told)) (Writes-front _ _ _ all);
-          nothing = λ five. absurd (let few = few_done done in elim five [ inl five ↦ omega arith | inr more ↦ elim more [ inl seven ↦ omega arith | inr eight ↦ omega arith ] ]);
-        })
-        (λ b told which. let c = checks b (told_first words limit o b told) in is ∙ ap (λ t. t.status) (sym c.0) ∙ sym c.1)
-        (subst (λ (n : ℕ). AsksInOrder words limit o n) (sym is) (names l asks)) (done_cause Files _ _ l done files) (record { rose = λ is. absurd cc; same = λ _. kept })
-        (λ two. usual l (sym is ∙ two))
-      where
-        names : (l : Result Check InputFault) → AsksFirst (front_words words.problem words.published) limit o.holds o.before.asked o.now.asked (Ok l) → AsksInOrder words limit o (check_status l)
-        names (Ok c) asks = asks_all words limit o c (check_status (Ok c)) none (at_most_one c.violations) asks
-        names (Err f) asks = asks_faulty words limit o f asks
-
-        usual : (l : Result Check InputFault) → check_status l ≢ 2
-        usual (Ok c) two = let le : check_status (Ok c) ≤ 1 = at_most_one c.violations in omega arith
-        usual (Err f) two = let three = (three_or_four f.input).0 in omega arith
+        by : (l : Result Check InputFault) → Loads words phase o.before.asked o.now.asked (check_seen both (Ok l)) → HasCauses o (end_status e) → WritesFront o.before.written o.now.written (check_text l) → IsVerifyRun problem solution limit o (end_status e)
+        by (Ok c) loads causes front =
+            is_verify_run loads.names (Err e)
+            (told_last phase (Ok (check_run both c)) _ loads.agrees (part loads.names (check_run both c) causes ([], sym loads.each ∙ sym (append-nil loads.names)) (WritesFront-first _ _ c.reply [] front)))
+            (asks_early words o phase (Ok (Ok (check_run both c))) e kept loads) causes (end_is_no_usage e)
+        by (Err f) loads causes front =
+            let line = (faulty_file f).line in
+            is_verify_run loads.names (Err e)
+            (told_last phase (ends loads.names (line ∷ []) (check_status (Err f))) _ loads.agrees
+            (part loads.names (record { pieces = line ∷ []; status = check_status (Err f); names = loads.names }) causes ([], sym (append-nil loads.names)) (WritesFront-first _ _ line [] front)))
+            (asks_early words o phase (Ok (Err f)) e kept loads) causes (end_is_no_usage e)

@@ -1,16 +1,13 @@
 -- Proofs alone need it. How the phases of a run end, and what each of them leaves.
-use Rattle.std.specs.Prelude.{◌≡◌, ◌≢◌, ◌≤◌, ◌<◌, ◌⊎◌, ℕ, Bool, true, false, ⊤, IsTrue, IsSome, List, [], ◌∷◌, length, take, codes, None, Some, Option, unwrap_or, Result, Ok, Err, if◌then◌else◌}
+use Rattle.std.specs.Prelude.{◌≡◌, ◌≢◌, ◌≤◌, ◌<◌, ◌⊎◌, ℕ, Bool, true, false, ⊤, IfErr, IfSome, IsSome, List, [], ◌∷◌, ◌++◌, length, take, codes, None, Some, Option, Result, Ok, Err, if◌then◌else◌}
 use Rattle.std.specs.List.{concat}
 use Rattle.tt_io.specs.Causes.{Writes, one_more, AsksAll}
 use Rattle.tt_io.specs.Whole.{WritesFront}
 use Rattle.tt_io.specs.Lines.{Reader, has_line_end, leading_line, after_line, to_come, StopsIn}
-use Rattle.tt_problem.specs.declared.parts.Parts.{Parts}
-use Rattle.tt_solution.specs.Timetable.{Timetable}
-use Rattle.tt_desk.specs.Chain.{◌>>=◌}
 use Rattle.tt_desk.specs.Script.{lines_of}
 use Rattle.tt_desk.specs.declared.refusal.Outcome.{Outcome}
 use Rattle.tt_desk.specs.declared.refusal.Outcome.TheVariants.{Ended}
-use Rattle.tt_desk.specs.Desk.{Session, opening_desk, line_step}
+use Rattle.tt_desk.specs.Desk.{Session, line_step}
 use Rattle.tt_desk.specs.Replies.{is_end, reply_of, replies_to, refuses}
 use Rattle.tt_top.specs.declared.end.End.{End}
 use Rattle.tt_top.specs.declared.end.End.TheVariants.{Files, Sink, Memory, TooLong}
@@ -20,9 +17,10 @@ use Rattle.tt_top.specs.declared.end.Input.{Input}
 use Rattle.tt_top.specs.declared.end.Input.TheVariants.{Problem, Published}
 use Rattle.tt_top.specs.declared.end.InputFault.{InputFault}
 use Rattle.tt_top.specs.Words.{FileWords, first_words}
-use Rattle.tt_top.specs.Transcript.{Bytes, FaultyFile, Transcript, fault_line, published_in, opened, first_line, text_of}
-use Rattle.tt_top.specs.Pieces.{whole_lines, taken_of}
-use Rattle.tt_top.specs.Run.{WritesFirst, WritesLess, TellFirst, is_long_script, opens_published, opens_script, due_status}
+use Rattle.tt_top.specs.Opening.{FaultyFile, fault_line, opening_line, opened}
+use Rattle.tt_top.specs.Pieces.{whole_lines, is_long_script, answered_part, taken_of}
+use Rattle.tt_top.specs.PlainRun.{PlainRun, text_of, Phase, ends, read_phase}
+use Rattle.tt_top.specs.Run.{IsFront}
 
 -- ---- files with a fault
 
@@ -79,38 +77,24 @@ pub record HasEndCause {T : Type 0} (which : End) (before now : ℕ) (result : R
 
 -- ---- what each phase leaves
 
--- the words of the files before the script
-abbrev pub front_words : List ℕ → Option (List ℕ) → FileWords
-front_words problem published = record { problem = problem; published = published; script = None }
+-- the line on a fault, or the opening line
+abbrev pub first_line : Result Session FaultyFile → List ℕ
+first_line (Err faulty) = faulty.line
+first_line (Ok s) = opening_line s.desk.problem
 
--- the session of this problem, with what was read as published
-abbrev pub with_rest : Parts → Result (Option Timetable) FaultyFile → Result Session FaultyFile
-with_rest p read = read >>= λ published. Ok (record { desk = opening_desk p; published = published })
+-- Where what was written is told after a call, it was told before, and grew by the first of these pieces, each whole.
+abbrev pub WritesFirst : Option (List ℕ) → Option (List ℕ) → List (List ℕ) → Type 0
+WritesFirst before now pieces = (count : ℕ) × Writes before now (concat (take count pieces))
 
--- the session of this problem, with what the published file gives
-abbrev pub rest_of : Parts → Option (List ℕ) → Result Session FaultyFile
-rest_of p o = with_rest p (published_in p o)
+-- It grew by a front of this text, and not by the whole.
+abbrev pub WritesLess : Option (List ℕ) → Option (List ℕ) → List ℕ → Type 0
+WritesLess before now text = (front : List ℕ) × (rest : List ℕ) × (text ≡ front ++ rest) × (0 < length rest) × Writes before now front
 
--- The script can be opened where there is a session; else the run ends with the status of the fault.
-abbrev pub IsFit : ℕ → Bytes → Result Session InputFault → Type 0
-IsFit limit b (Ok s) = opens_script limit b ≡ true
-IsFit limit b (Err f) = due_status limit b ≡ input_status f.input
-
--- What reading the files before the script gives, for these bytes of them.
-abbrev pub Begins : ℕ → Bytes → Result (Result Session InputFault) End → Type 0
-Begins limit b (Ok l) = (opened b.problem b.published ≡ seen l) × IsFit limit b l
-Begins limit b (Err Files) = ⊤
-Begins limit b (Err Sink) = ⊥
-Begins limit b (Err Memory) = ⊤
-Begins limit b (Err TooLong) = due_status limit b ≡ 8
-
--- What reading them and writing the first line leave.
-abbrev pub Opens : ℕ → Option (List ℕ) → Option (List ℕ) → Bytes → Result (Result Session InputFault) End → Type 0
-Opens limit before now b (Ok l) = (opened b.problem b.published ≡ seen l) × IsFit limit b l × Writes before now (first_line (seen l))
-Opens limit before now b (Err Files) = now ≡ before
-Opens limit before now b (Err Sink) = WritesFront before now (first_line (opened b.problem b.published))
-Opens limit before now b (Err Memory) = now ≡ before
-Opens limit before now b (Err TooLong) = (due_status limit b ≡ 8) × (now ≡ before)
+-- The phase of the plain run, where it is told, gives what was read, or ends the run alike with these names asked for.
+abbrev pub Agrees : {A : Type 0} → (names : List (List ℕ)) → Phase A → Result (Result A InputFault) End → Type 0
+Agrees names phase (Ok l) = phase ≢ Err None → phase ≡ read_phase names (seen l)
+Agrees names phase (Err TooLong) = phase ≢ Err None → phase ≡ ends names [] 8
+Agrees names phase (Err end) = ⊤
 
 -- Some bytes of the files give such a session, or such a fault.
 pub record IsOpened (l : Result Session InputFault) : Type 0 where
@@ -118,36 +102,47 @@ pub record IsOpened (l : Result Session InputFault) : Type 0 where
   pub published : Option (List ℕ)
   pub is : opened problem published ≡ seen l
 
--- how many of the words of these files were asked for
-abbrev pub IsFaultyAt : FileWords → ℕ → Input → Type 0
-IsFaultyAt words count Problem = count ≡ 1
-IsFaultyAt words count Published = IsSome words.published × (count ≡ 2)
+-- which of the words of these files were asked for, by what was read
+abbrev pub IsFaultyAt : FileWords → (names : List (List ℕ)) → Input → Type 0
+IsFaultyAt words names Problem = names ≡ words.problem ∷ []
+IsFaultyAt words names Published = IsSome words.published × (names ≡ first_words words)
 
-abbrev pub IsAsked : {T : Type 0} → FileWords → ℕ → Result (Result T InputFault) End → Type 0
-IsAsked words count (Ok (Ok x)) = count ≡ length (first_words words)
-IsAsked words count (Ok (Err f)) = IsFaultyAt words count f.input
-IsAsked words count (Err end) = ⊤
+abbrev pub IsAsked : {T : Type 0} → FileWords → (names : List (List ℕ)) → Result (Result T InputFault) End → Type 0
+IsAsked words names (Ok (Ok x)) = names ≡ first_words words
+IsAsked words names (Ok (Err f)) = IsFaultyAt words names f.input
+IsAsked words names (Err end) = ⊤
 
--- The names asked for before the script are the first of these words, whatever a phase makes of the files.
-pub record AsksFirst {T : Type 0} (words : FileWords) (limit : ℕ) (holds : List ℕ → Option (List ℕ)) (before now : Option (List (List ℕ))) (result : Result (Result T InputFault) End) : Type 0 where
-  pub count : ℕ
-  pub asked : AsksAll before now (take count (first_words words))
-  pub few : count ≤ length (first_words words)
-  pub some : 1 ≤ count
-  pub later : (b : Bytes) → TellFirst holds words limit b → 1 < count → IsTrue (opens_published limit b)
-  pub each : IsAsked words count result
+-- The names asked for before the script are the first of these words, also of those that the plain run asks for.
+pub record Loads {A : Type 0} (words : FileWords) (phase : Phase A) (before now : Option (List (List ℕ))) (result : Result (Result A InputFault) End) : Type 0 where
+  pub names : List (List ℕ)
+  pub asked : AsksAll before now names
+  pub some : 0 < length names
+  pub first : IsFront names (first_words words)
+  pub each : IsAsked words names result
+  pub within : IfErr phase (λ ended. IfSome ended (λ r. IsFront names r.names))
+  pub agrees : Agrees names phase result
+
+-- What reading the files before the script and writing the first line leave.
+abbrev pub Opens : Phase Session → (before now : Option (List ℕ)) → Result (Result Session InputFault) End → Type 0
+Opens phase before now (Ok l) = IsOpened l × Writes before now (first_line (seen l))
+Opens phase before now (Err Sink) = (names : List (List ℕ)) × (l : Result Session InputFault) × Agrees names phase (Ok l) × WritesFront before now (first_line (seen l))
+Opens phase before now (Err end) = now ≡ before
 
 -- the replies to the whole lines of these bytes
 abbrev pub replies_up_to : Session → (taken : List ℕ) → List (List ℕ)
 replies_up_to d taken = replies_to d (lines_of (whole_lines taken))
 
--- What serving a script leaves, for these bytes of it, or none, where so many are left of the open file.
-abbrev pub Serves : ℕ → Option (List ℕ) → Option (List ℕ) → Session → Option (List ℕ) → (left : Option (List ℕ)) → Result Bool End → Type 0
-Serves limit before now d s left (Ok refused) = (is_long_script limit s ≡ false) × (refused ≡ refuses d (lines_of (unwrap_or s []))) × Writes before now (concat (replies_to d (lines_of (unwrap_or s []))))
-Serves limit before now d s left (Err Files) = WritesFirst before now (replies_to d (lines_of (unwrap_or s []))) × Writes before now (concat (replies_up_to d (taken_of (unwrap_or s []) left)))
-Serves limit before now d s left (Err Sink) = WritesFront before now (concat (replies_to d (lines_of (unwrap_or s []))))
-Serves limit before now d s left (Err Memory) = WritesFirst before now (replies_to d (lines_of (unwrap_or s []))) × (WritesLess before now (concat (replies_to d (lines_of (unwrap_or s [])))) ⊎ (IsSome s × (now ≡ before)))
-Serves limit before now d s left (Err TooLong) = (is_long_script limit s ≡ true) × WritesFirst before now (replies_to d (lines_of (unwrap_or s []))) × Writes before now (concat (replies_up_to d (take limit (unwrap_or s []))))
+-- the replies to what is answered of a script
+abbrev pub replies_within : (limit : ℕ) → Session → (script : List ℕ) → List (List ℕ)
+replies_within limit d script = replies_to d (lines_of (answered_part limit script))
+
+-- What serving a script leaves, where so many bytes are left of the open file.
+abbrev pub Serves : (limit : ℕ) → (before now : Option (List ℕ)) → Session → (script : List ℕ) → (left : Option (List ℕ)) → Result Bool End → Type 0
+Serves limit before now d s left (Ok refused) = (is_long_script limit s ≡ false) × (refused ≡ refuses d (lines_of s)) × Writes before now (concat (replies_to d (lines_of s)))
+Serves limit before now d s left (Err Files) = WritesFirst before now (replies_within limit d s) × Writes before now (concat (replies_up_to d (taken_of s left)))
+Serves limit before now d s left (Err Sink) = WritesFront before now (concat (replies_within limit d s))
+Serves limit before now d s left (Err Memory) = WritesFirst before now (replies_within limit d s) × (WritesLess before now (concat (replies_within limit d s)) ⊎ (now ≡ before))
+Serves limit before now d s left (Err TooLong) = (is_long_script limit s ≡ true) × Writes before now (concat (replies_within limit d s))
 
 -- This line was answered.
 pub record Answers (line : List ℕ) (before now : Option (List ℕ)) (d d' : Session) (outcome : Outcome) : Type 0 where
@@ -155,13 +150,17 @@ pub record Answers (line : List ℕ) (before now : Option (List ℕ)) (d d' : Se
   pub outcome_is : (line_step d line).outcome ≡ outcome
   pub written : Writes before now (reply_of (line_step d line))
 
--- The text was ended, or its first line was answered, and what follows it is to come.
-pub record AnswersLine (text : List ℕ) (before now : Option (List ℕ)) (d d' : Session) (reader : Reader) (left : Option (List ℕ)) (outcome : Outcome) : Type 0 where
+-- The first line of this text was taken, and what follows it is to come.
+pub record TakesLine (text : List ℕ) (reader : Reader) (left : Option (List ℕ)) : Type 0 where
   pub some : 0 < length text
-  pub answered : Answers (leading_line text) before now d d' outcome
   pub later : to_come reader left ≡ Some (after_line text)
-  -- a line without a line end is answered only where the end of the file was met
+  -- a line without a line end is taken only where the end of the file was met
   pub last : reader.ended ≡ false → has_line_end text ≡ true
+
+-- The text was ended, or its first line was answered.
+pub record AnswersLine (text : List ℕ) (before now : Option (List ℕ)) (d d' : Session) (reader : Reader) (left : Option (List ℕ)) (outcome : Outcome) : Type 0 where
+  pub taken : TakesLine text reader left
+  pub answered : Answers (leading_line text) before now d d' outcome
 
 pub record EndsScript (text : List ℕ) (before now : Option (List ℕ)) (d d' : Session) (reader : Reader) (outcome : Outcome) : Type 0 where
   pub none : text ≡ []
@@ -174,8 +173,8 @@ pub record EndsScript (text : List ℕ) (before now : Option (List ℕ)) (d d' :
 abbrev pub ServesNext : (text : List ℕ) → (before now : Option (List ℕ)) → (d d' : Session) → Reader → (left : Option (List ℕ)) → Result Outcome End → Type 0
 ServesNext text before now d d' reader left (Ok outcome) = EndsScript text before now d d' reader outcome ⊎ AnswersLine text before now d d' reader left outcome
 ServesNext text before now d d' reader left (Err Files) = (now ≡ before) × StopsIn text [] left
-ServesNext text before now d d' reader left (Err Sink) = (0 < length text) × WritesFront before now (reply_of (line_step d (leading_line text)))
-ServesNext text before now d d' reader left (Err Memory) = (now ≡ before) × (0 < length text) × (0 < length (reply_of (line_step d (leading_line text))))
+ServesNext text before now d d' reader left (Err Sink) = TakesLine text reader left × WritesFront before now (reply_of (line_step d (leading_line text)))
+ServesNext text before now d d' reader left (Err Memory) = TakesLine text reader left × (now ≡ before) × (0 < length (reply_of (line_step d (leading_line text))))
 ServesNext text before now d d' reader left (Err TooLong) = (now ≡ before) × ((b : ℕ) × StopsIn text (b ∷ []) left)
 
 -- What serving a next line leaves, whatever it is: the script was ended, or some line was answered; nothing is written where the
@@ -209,11 +208,12 @@ ServesLines before now d text (Err Sink) = WritesFront before now (concat (repli
 ServesLines before now d text (Err Memory) = WritesFirst before now (replies_to d (lines_of text)) × (WritesLess before now (concat (replies_to d (lines_of text))) ⊎ (now ≡ before))
 ServesLines before now d text (Err TooLong) = ⊥
 
--- What a run writes that asks for no file, where this is its transcript.
-pub record WritesPlain (t : Transcript) (before now : Option (List ℕ)) (status : ℕ) : Type 0 where
-  pub whole : status ≤ 4 → Writes before now (text_of t)
-  pub pieces : status ≢ 6 → WritesFirst before now t.pieces
-  pub wanting : status ≡ 7 → WritesLess before now (text_of t)
-  pub front : WritesFront before now (text_of t)
-  pub statuses : (status ≡ t.status) ⊎ ((status ≡ 6) ⊎ (status ≡ 7))
+-- What a run writes that asks for no file, where this is the plain run.
+pub record WritesPlain (r : PlainRun) (before now : Option (List ℕ)) (status : ℕ) : Type 0 where
+  pub whole : status ≤ 4 → Writes before now (text_of r)
+  pub pieces : status ≢ 6 → WritesFirst before now r.pieces
+  pub wanting : status ≡ 7 → WritesLess before now (text_of r)
+  pub front : WritesFront before now (text_of r)
+  pub statuses : (status ≡ r.status) ⊎ ((status ≡ 6) ⊎ (status ≡ 7))
   pub no_files : status ≢ 5
+  pub no_limit : status ≢ 8

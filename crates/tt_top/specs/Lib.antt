@@ -1,6 +1,7 @@
 pub mod Words
-pub mod Transcript
+pub mod Opening
 pub mod Pieces
+pub mod PlainRun
 pub mod Run
 pub mod Ends
 pub mod Forms

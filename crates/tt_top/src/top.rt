@@ -1,6 +1,7 @@
-ghost use Rattle.std.specs.Prelude.{◌≢◌, [], ◌∷◌, Err, map, string_bytes};
-ghost use Rattle.tt_top.specs.Words.{form_of, usage_line};
-ghost use Rattle.tt_top.specs.Run.{IsRun, file_limit, left_open};
+ghost use Rattle.std.specs.Prelude.{◌≢◌, Err, map, string_bytes};
+ghost use Rattle.tt_top.specs.Words.{form_of};
+ghost use Rattle.tt_top.specs.PlainRun.{usage_run};
+ghost use Rattle.tt_top.specs.Run.{IsRun, file_limit, moment};
 ghost use Rattle.tt_top.specs.Ends.{HasEndCause, WritesPlain, status_of};
 
 use crate::end::{Done, End, status};
@@ -20,7 +21,7 @@ const USAGE: &[u8] =
 
 // A run whose words are in no form.
 fn usage<S: Sink>(out: &mut S) -> Result<Done, End>
-    ensures writes { WritesPlain (record { pieces = usage_line ∷ []; status = 2 }) (S.written out.old) (S.written out.new) (status_of result) }
+    ensures writes { WritesPlain usage_run (S.written out.old) (S.written out.new) (status_of result) }
     ensures cause { HasEndCause End.Sink (S.faults out.old) (S.faults out.new) result }
     ensures no_memory { result ≢ Err End.Memory }
 {
@@ -40,21 +41,13 @@ pub fn run_within<F: Files, S: Sink, W: Watcher>(
     ensures form { IsRun (form_of (map string_bytes words.now)) limit
         (record {
           holds = F.holds files.old;
-          before = record { asked = F.asked files.old; left = left_open (F.is_open files.old) (F.left files.old); written = S.written out.old; files = F.faults files.old; sink = S.faults out.old };
-          now = record { asked = F.asked files.new; left = left_open (F.is_open files.new) (F.left files.new); written = S.written out.new; files = F.faults files.new; sink = S.faults out.new };
+          before = moment (F.asked files.old) (F.is_open files.old) (F.left files.old) (S.written out.old) (F.faults files.old) (S.faults out.old);
+          now = moment (F.asked files.new) (F.is_open files.new) (F.left files.new) (S.written out.new) (F.faults files.new) (S.faults out.new);
         })
         result }
 {
     let ended = match read_form(words) {
-        Some(
-            Form::Files {
-                problem,
-                published,
-                script,
-            },
-        ) => run_files(
-            limit, alloc, problem, published, script, files, out, watcher,
-        ),
+        Some(Form::Files(words)) => run_files(limit, alloc, words, files, out, watcher),
         Some(Form::Verify { problem, solution }) => {
             verify_files(limit, alloc, problem, solution, files, out)
         }
@@ -93,8 +86,8 @@ pub fn run<F: Files, S: Sink, W: Watcher>(
     ensures form { IsRun (form_of (map string_bytes words.now)) file_limit
         (record {
           holds = F.holds files.old;
-          before = record { asked = F.asked files.old; left = left_open (F.is_open files.old) (F.left files.old); written = S.written out.old; files = F.faults files.old; sink = S.faults out.old };
-          now = record { asked = F.asked files.new; left = left_open (F.is_open files.new) (F.left files.new); written = S.written out.new; files = F.faults files.new; sink = S.faults out.new };
+          before = moment (F.asked files.old) (F.is_open files.old) (F.left files.old) (S.written out.old) (F.faults files.old) (S.faults out.old);
+          now = moment (F.asked files.new) (F.is_open files.new) (F.left files.new) (S.written out.new) (F.faults files.new) (S.faults out.new);
         })
         result }
 {

@@ -1,21 +1,21 @@
-ghost use Rattle.std.specs.Prelude.{◌≡◌, ◌≢◌, ℕ, List, false, true, Err, IfOk, IfErr, None, Ok, OnOk, Some};
+ghost use Rattle.std.specs.Prelude.{◌≡◌, ◌≢◌, ◌∷◌, [], ℕ, List, Err, IfOk, IfErr, Ok, OnOk};
 ghost use Rattle.tt_io.specs.Causes.{Asks, Writes};
 ghost use Rattle.tt_io.specs.Whole.{WritesFront};
 ghost use Rattle.tt_solution.specs.Timetable.{IsTimetableOf};
-ghost use Rattle.tt_top.specs.Checks.{Checks, check_status, check_text, check_transcript};
-ghost use Rattle.tt_top.specs.Ends.{AsksFirst, HasEndCause, done_status, front_words, status_of};
-ghost use Rattle.tt_top.specs.Run.{IsVerifyRun, TellFirst, is_long, left_open};
-ghost use Rattle.tt_top.specs.Transcript.{Bytes, checked, published_in};
+ghost use Rattle.tt_top.specs.PlainRun.{check_phase, checking, solution_phase};
+ghost use Rattle.tt_top.specs.Run.{IsVerifyRun, moment};
+ghost use Rattle.tt_top.specs.Ends.{Agrees, HasEndCause, Loads, done_status, status_of};
+ghost use Rattle.tt_top.specs.Checks.{check_run, check_seen, check_status, check_text};
+ghost use Rattle.tt_top.specs.Words.{verify_words};
 
-use crate::end::{Done, End, Input, InputFault, Loaded};
-use crate::load::{load_problem, read_file};
+use crate::end::{Done, End, Input, Loaded};
+use crate::load::{load_problem, load_timetable};
 use crate::reply::put_fault;
 use crate::serve::hand_on;
 use std::alloc::{AllocError, Global};
-use tt_fields::FileFault;
 use tt_io::{Files, Sink};
 use tt_problem::Problem;
-use tt_solution::{Published, read_published};
+use tt_solution::Published;
 use tt_text::Reply;
 use tt_verify::verify;
 
@@ -29,28 +29,11 @@ struct Check {
 // What is found of a solution.
 fn found(alloc: Global, problem: &Problem, solution: &Published) -> Result<Check, AllocError>
     requires { IsTimetableOf problem.now solution.now }
-    ensures { IfOk result (λ c. checked problem.now (Ok (Some solution.now)) ≡ check_transcript (Ok c)) }
+    ensures { IfOk result (λ c. (names : List (List ℕ)) → checking names problem.now solution.now ≡ check_run names c) }
 {
     let mut reply = Reply::new(alloc);
     let violations = verify(alloc, problem, solution, &mut reply)? != 0;
     Ok(Check { reply, violations })
-}
-
-// What is found of the bytes of a solution file.
-fn check_bytes(alloc: Global, problem: &Problem, bytes: &[u8]) -> Result<Loaded<Check>, End>
-    ensures found { IfOk result (λ l. checked problem.now (published_in problem.now (Some bytes.now)) ≡ check_transcript l) }
-    ensures input { IfOk result (λ l. IfErr l (λ f. f.input ≡ Input.Published)) }
-    ensures only { IfErr result (λ end. end ≡ End.Memory) }
-{
-    match read_published(alloc, problem, bytes) {
-        Ok(solution) => Ok(Ok(found(alloc, problem, &solution)?)),
-        Err(FileFault::Fault { number, path }) => Ok(Err(InputFault {
-            input: Input::Published,
-            number,
-            path,
-        })),
-        Err(FileFault::Memory) => Err(End::Memory),
-    }
 }
 
 // Reads the solution file, and checks it against the problem.
@@ -61,15 +44,16 @@ fn check_solution<F: Files>(
     solution: &str,
     files: &mut F,
 ) -> Result<Loaded<Check>, End>
-    ensures found { IfOk result (λ l. (s : List ℕ) → F.holds files.old solution.now ≡ Some s → (checked problem.now (published_in problem.now (Some s)) ≡ check_transcript l) × (is_long limit (Some s) ≡ false)) }
-    ensures long { result ≡ Err End.TooLong → (s : List ℕ) → F.holds files.old solution.now ≡ Some s → is_long limit (Some s) ≡ true }
+    ensures agrees { (names : List (List ℕ)) → Agrees names (solution_phase limit (F.holds files.old) names problem.now solution.now) (check_seen names result) }
     ensures input { IfOk result (λ l. IfErr l (λ f. f.input ≡ Input.Published)) }
     ensures no_sink { result ≢ Err End.Sink }
     ensures asks { Asks (F.asked files.old) (F.asked files.new) solution.now }
     ensures cause { HasEndCause End.Files (F.faults files.old) (F.faults files.new) result }
 {
-    let bytes = read_file(limit, alloc, files, solution)?;
-    check_bytes(alloc, problem, &bytes)
+    match load_timetable(limit, alloc, problem, solution, files)? {
+        Ok(timetable) => Ok(Ok(found(alloc, problem, &timetable)?)),
+        Err(fault) => Ok(Err(fault)),
+    }
 }
 
 // Reads both files, and checks the solution against the problem.
@@ -80,9 +64,8 @@ fn check_files<F: Files>(
     solution: &str,
     files: &mut F,
 ) -> Result<Loaded<Check>, End>
-    ensures checks { (b : Bytes) → TellFirst (F.holds files.old) (front_words problem.now (Some solution.now)) limit b → Checks limit b result }
+    ensures checks { Loads (verify_words problem.now solution.now) (check_phase limit (F.holds files.old) problem.now solution.now) (F.asked files.old) (F.asked files.new) (check_seen (problem.now ∷ solution.now ∷ []) result) }
     ensures no_sink { result ≢ Err End.Sink }
-    ensures asks { AsksFirst (front_words problem.now (Some solution.now)) limit (F.holds files.old) (F.asked files.old) (F.asked files.new) result }
     ensures cause { HasEndCause End.Files (F.faults files.old) (F.faults files.new) result }
 {
     match load_problem(limit, alloc, problem, files)? {
@@ -131,11 +114,11 @@ pub fn verify_files<F: Files, S: Sink>(
     files: &mut F,
     out: &mut S,
 ) -> Result<Done, End>
-    ensures { IsVerifyRun (record { problem = problem.now; published = Some solution.now; script = None }) limit
+    ensures { IsVerifyRun problem.now solution.now limit
         (record {
           holds = F.holds files.old;
-          before = record { asked = F.asked files.old; left = left_open (F.is_open files.old) (F.left files.old); written = S.written out.old; files = F.faults files.old; sink = S.faults out.old };
-          now = record { asked = F.asked files.new; left = left_open (F.is_open files.new) (F.left files.new); written = S.written out.new; files = F.faults files.new; sink = S.faults out.new };
+          before = moment (F.asked files.old) (F.is_open files.old) (F.left files.old) (S.written out.old) (F.faults files.old) (S.faults out.old);
+          now = moment (F.asked files.new) (F.is_open files.new) (F.left files.new) (S.written out.new) (F.faults files.new) (S.faults out.new);
         })
         (status_of result) }
 {

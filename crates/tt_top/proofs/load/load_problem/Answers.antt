@@ -1,9 +1,20 @@
-use Rattle.std.specs.Prelude.{◌≡◌}
+use Rattle.std.proofs.Common.{◌≡◌, [], ◌∷◌, ap, Err}
+use Rattle.tt_base.proofs.ResultLemmas.{handed_on}
 use Rattle.tt_read.specs.Tables.{problem_of}
-use Rattle.tt_top.specs.Transcript.{problem_read}
+use Rattle.tt_top.specs.Opening.{problem_read}
 use Rattle.tt_top.specs.Ends.{seen}
-use Rattle.tt_top.proofs.LoadLemmas.{some_bytes}
+use Rattle.tt_top.proofs.LoadLemmas.{read_agrees, unread_agrees, some_bytes}
 use Rattle.tt_top.proofs.load.load_problem.Goals as goal
+
+pub returns-clause-agrees : goal.returns-clause-agrees
+returns-clause-agrees g c =
+    let e = c.problem_in.ensures in
+    read_agrees c.args.limit (c.args.name.now ∷ []) (g.F.Files.holds c.args.files.now c.args.name.now) (λ b. problem_read (problem_of b)) _ c.in_ok-bytes.ensures.bytes c.problem_in.result (rw c.deref.ensures.value at e.reads) e.only
+
+pub returns-in_err-bytes-clause-agrees : goal.returns-in_err-bytes-clause-agrees
+returns-in_err-bytes-clause-agrees g c =
+    rw (handed_on _ _ c.from_residual.ensures.1)
+    (unread_agrees c.args.limit (c.args.name.now ∷ []) (g.F.Files.holds c.args.files.now c.args.name.now) (λ b. problem_read (problem_of b)) c.in_err-bytes.field-0.0 (λ is. c.in_err-bytes.ensures.long (ap Err is)))
 
 pub returns-clause-read : goal.returns-clause-read
 returns-clause-read g c = some_bytes (λ bytes l. problem_read (problem_of bytes) ≡ seen l) _ c.problem_in.result c.problem_in.ensures.reads

@@ -1,12 +1,25 @@
-use Rattle.std.specs.Prelude.{◌≡◌, None, Some}
-use Rattle.std.proofs.Common.{refl}
-use Rattle.tt_top.specs.Transcript.{published_in}
-use Rattle.tt_top.specs.Ends.{seen}
-use Rattle.tt_top.proofs.LoadLemmas.{some_bytes}
+use Rattle.std.proofs.Common.{refl, None, Some, Ok}
+use Rattle.tt_base.proofs.ResultLemmas.{handed_on}
+use Rattle.tt_top.specs.PlainRun.{timetable_phase}
+use Rattle.tt_top.proofs.LoadLemmas.{made_agrees, faulty_first, ended_first, published_some, published_fault}
 use Rattle.tt_top.proofs.load.load_published.Goals as goal
 
-pub returns-clause-read : goal.returns-clause-read
-returns-clause-read g c = some_bytes (λ o l. published_in c.args.problem.now o ≡ seen l) (Some _) c.timetable_in.result c.timetable_in.ensures.reads
+pub returns-in-Ok-clause-agrees : goal.returns-in-Ok-clause-agrees
+returns-in-Ok-clause-agrees g c = λ names.
+    rw c.in-Some.is (made_agrees names (timetable_phase c.args.limit (g.F.Files.holds c.args.files.now) names c.args.problem.now c.in-Some.name.now) Some c.in-Ok.timetable (rw c.in-Ok.is at c.in_ok-timetable.ensures.agrees names))
 
-pub returns-in_default-clause-read : goal.returns-in_default-clause-read
-returns-in_default-clause-read g c = (None, refl)
+pub returns-in-Ok-clause-read : goal.returns-in-Ok-clause-read
+returns-in-Ok-clause-read g c = published_some c.args.problem.now c.in_ok-timetable.field-0 c.in_ok-timetable.ensures.read c.in-Ok.timetable c.in-Ok.is
+
+pub returns-in-Err-clause-agrees : goal.returns-in-Err-clause-agrees
+returns-in-Err-clause-agrees g c = λ names.
+    rw c.in-Some.is (faulty_first names (timetable_phase c.args.limit (g.F.Files.holds c.args.files.now) names c.args.problem.now c.in-Some.name.now) (λ t. Ok (Some t)) c.in-Err.fault (rw c.in-Err.is at c.in_ok-timetable.ensures.agrees names))
+
+pub returns-in-Err-clause-read : goal.returns-in-Err-clause-read
+returns-in-Err-clause-read g c = published_fault c.args.problem.now c.in_ok-timetable.field-0 c.in_ok-timetable.ensures.read c.in-Err.fault c.in-Err.is
+
+pub returns-in_err-timetable-clause-agrees : goal.returns-in_err-timetable-clause-agrees
+returns-in_err-timetable-clause-agrees g c = λ names.
+    rw c.in-Some.is
+    (rw (handed_on _ _ c.from_residual.ensures.1)
+    (ended_first names (timetable_phase c.args.limit (g.F.Files.holds c.args.files.now) names c.args.problem.now c.in-Some.name.now) (λ t. Ok (Some t)) c.in_err-timetable.field-0.0 (c.in_err-timetable.ensures.agrees names)))

@@ -1,28 +1,42 @@
-use Rattle.std.proofs.Common.{Some}
-use Rattle.tt_top.specs.Ends.{front_words}
-use Rattle.tt_top.proofs.LoadLemmas.{published_opens, same_told, asks_first_all, rest_asked}
-use Rattle.tt_top.proofs.VerifyLemmas.{unread_checks, solution_checks, solution_named}
+use Rattle.std.proofs.Common.{subst, [], ◌∷◌}
+use Rattle.tt_base.proofs.ResultLemmas.{handed_on}
+use Rattle.tt_top.specs.Words.{verify_words}
+use Rattle.tt_top.specs.PlainRun.{PlainRun, Phase, problem_phase, solution_phase, check_phase}
+use Rattle.tt_top.specs.Ends.{Agrees}
+use Rattle.tt_top.specs.Checks.{check_seen}
+use Rattle.tt_top.proofs.LoadLemmas.{then_agrees, faulty_first, ended_first, rest_asked, loads_none, loads_fault, loads_all}
+use Rattle.tt_top.proofs.VerifyLemmas.{solution_same, solution_named, solution_within, check_within}
 use Rattle.tt_top.proofs.verify_run.check_files.Goals as goal
 
 pub returns-in-Ok-clause-checks : goal.returns-in-Ok-clause-checks
-returns-in-Ok-clause-checks g c = λ b told.
-    let read = rw c.in-Ok.is at c.in_ok-problem.ensures.loaded b.problem told.problem in
+returns-in-Ok-clause-checks g c =
+    let problem = c.args.problem.now in
+    let solution = c.args.solution.now in
+    let words = verify_words problem solution in
+    let names = problem ∷ solution ∷ [] in
+    let holds = g.F.Files.holds c.args.files.now in
     let e = c.check_solution.ensures in
-    let opens = published_opens c.args.limit b c.in-Ok.problem read.0 read.1 in
-    solution_checks c.args.limit b c.in-Ok.problem read.0 read.1 (g.F.Files.holds c.load_problem.new.files) c.args.solution.now
-    (same_told (g.F.Files.holds c.args.files.now) (g.F.Files.holds c.load_problem.new.files) (Some c.args.solution.now) b.published c.load_problem.ensures.same (told.published opens))
-    c.check_solution.result e.found e.long e.no_sink
-
-pub returns-in-Ok-clause-asks : goal.returns-in-Ok-clause-asks
-returns-in-Ok-clause-asks g c =
-    let e = c.check_solution.ensures in
-    let words = front_words c.args.problem.now (Some c.args.solution.now) in
-    asks_first_all words c.args.limit (g.F.Files.holds c.args.files.now) (g.F.Files.asked c.args.files.now) (g.F.Files.asked c.load_problem.new.files) (g.F.Files.asked c.check_solution.new.files) c.check_solution.result
-    c.load_problem.ensures.asks e.asks
-    (λ b told. let read = rw c.in-Ok.is at c.in_ok-problem.ensures.loaded b.problem told.problem in published_opens c.args.limit b c.in-Ok.problem read.0 read.1)
-    (rest_asked words c.check_solution.result (solution_named c.args.solution.now c.check_solution.result e.input))
+    let r = check_seen names c.check_solution.result in
+    let first = rw c.in-Ok.is at c.in_ok-problem.ensures.agrees in
+    loads_all words (check_phase c.args.limit holds problem solution) (g.F.Files.asked c.args.files.now) (g.F.Files.asked c.check_solution.new.files) (g.F.Files.asked c.load_problem.new.files) r c.load_problem.ensures.asks e.asks
+    (rest_asked words r (solution_named names solution c.check_solution.result e.input)) (solution_within c.args.limit holds problem solution c.in-Ok.problem first)
+    (then_agrees names (problem_phase c.args.limit holds problem) (λ p. solution_phase c.args.limit holds names p solution) c.in-Ok.problem first r
+    (subst (λ (phase : Phase PlainRun). Agrees names phase r)
+    (solution_same c.args.limit holds (g.F.Files.holds c.load_problem.new.files) names c.in-Ok.problem solution c.load_problem.ensures.same) (e.agrees names)))
 
 pub returns-in-Err-clause-checks : goal.returns-in-Err-clause-checks
-returns-in-Err-clause-checks g c = λ b told.
-    let read = rw c.in-Err.is at c.in_ok-problem.ensures.loaded b.problem told.problem in
-    unread_checks c.args.limit b c.in-Err.fault read.0 read.1
+returns-in-Err-clause-checks g c =
+    let problem = c.args.problem.now in
+    let solution = c.args.solution.now in
+    let holds = g.F.Files.holds c.args.files.now in
+    loads_fault (verify_words problem solution) (check_phase c.args.limit holds problem solution) (g.F.Files.asked c.args.files.now) (g.F.Files.asked c.load_problem.new.files) c.in-Err.fault (rw c.in-Err.is at c.in_ok-problem.ensures.input) c.load_problem.ensures.asks
+    (check_within c.args.limit holds problem solution) (faulty_first (problem ∷ []) (problem_phase c.args.limit holds problem) (λ p. solution_phase c.args.limit holds (problem ∷ solution ∷ []) p solution) c.in-Err.fault (rw c.in-Err.is at c.in_ok-problem.ensures.agrees))
+
+pub returns-in_err-problem-clause-checks : goal.returns-in_err-problem-clause-checks
+returns-in_err-problem-clause-checks g c =
+    let problem = c.args.problem.now in
+    let solution = c.args.solution.now in
+    let holds = g.F.Files.holds c.args.files.now in
+    rw (handed_on _ _ c.from_residual.ensures.1)
+    (loads_none (verify_words problem solution) (check_phase c.args.limit holds problem solution) (g.F.Files.asked c.args.files.now) (g.F.Files.asked c.load_problem.new.files) c.in_err-problem.field-0.0 c.load_problem.ensures.asks (check_within c.args.limit holds problem solution)
+    (ended_first (problem ∷ []) (problem_phase c.args.limit holds problem) (λ p. solution_phase c.args.limit holds (problem ∷ solution ∷ []) p solution) c.in_err-problem.field-0.0 c.in_err-problem.ensures.agrees))

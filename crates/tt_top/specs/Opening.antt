@@ -1,0 +1,75 @@
+-- The session that the files open, and what is written of it.
+use Rattle.std.specs.Prelude.{ℕ, List, [], ◌∷◌, ◌++◌, length, None, Some, Option, Result, Ok, Err, codes}
+use Rattle.tt_problem.specs.declared.parts.Parts.{Parts}
+use Rattle.tt_fields.specs.Answer.{Fault}
+use Rattle.tt_read.specs.Tables.{problem_of}
+use Rattle.tt_solution.specs.Timetable.{Timetable}
+use Rattle.tt_solution.specs.Tables.{published_of}
+use Rattle.tt_text.specs.Fields.{field}
+use Rattle.tt_desk.specs.Chain.{◌>>=◌}
+use Rattle.tt_desk.specs.Desk.{Session, opening_desk}
+use Rattle.tt_desk.specs.Replies.{replies_to}
+
+-- ---- the files before the script
+
+-- a file with a fault: the line that says so, and the status of the run
+pub record FaultyFile : Type 0 where
+  pub line : List ℕ
+  pub status : ℕ
+
+-- the line on a fault of a file
+abbrev pub fault_line : List ℕ → Fault → List ℕ
+fault_line file f = file ++ field (codes " refused ") f.number ++ codes " " ++ f.path ++ codes "\n"
+
+-- what the problem file gives
+abbrev pub problem_read : Result Parts Fault → Result Parts FaultyFile
+problem_read (Ok p) = Ok p
+problem_read (Err f) = Err (record { line = fault_line (codes "problem") f; status = 3 })
+
+-- what a published file gives
+abbrev pub timetable_read : Result Timetable Fault → Result Timetable FaultyFile
+timetable_read (Ok t) = Ok t
+timetable_read (Err f) = Err (record { line = fault_line (codes "published") f; status = 4 })
+
+-- nothing is published where there is no such file
+abbrev pub published_in : Parts → Option (List ℕ) → Result (Option Timetable) FaultyFile
+published_in p None = Ok None
+published_in p (Some bytes) = do
+  t ← timetable_read (published_of p bytes)
+  Ok (Some t)
+
+-- the session with which the script begins
+abbrev pub opening_session : Parts → Option Timetable → Session
+opening_session p t = record { desk = opening_desk p; published = t }
+
+-- the same by what the published file gives
+abbrev pub started : Parts → Result (Option Timetable) FaultyFile → Result Session FaultyFile
+started p read = do
+  t ← read
+  Ok (opening_session p t)
+
+-- the same by what the files hold, or the first file that has a fault
+unfoldable pub opened : (problem : List ℕ) → (published : Option (List ℕ)) → Result Session FaultyFile
+opened problem published = do
+  p ← problem_read (problem_of problem)
+  started p (published_in p published)
+
+-- ---- what is written
+
+-- the numbers of classes, rooms, distributions and students
+abbrev pub opening_line : Parts → List ℕ
+opening_line p =
+    field (codes "open ") (length p.classes)
+    ++ field (codes " ") (length p.rooms)
+    ++ field (codes " ") (length p.rules)
+    ++ field (codes " ") (length p.students)
+    ++ codes "\n"
+
+-- the opening line, which is written before the script is opened, and the replies to these lines
+abbrev pub session_pieces : Session → (lines : List (List ℕ)) → List (List ℕ)
+session_pieces s lines = opening_line s.desk.problem ∷ replies_to s lines
+
+-- the same; where a file has a fault, the line on it alone
+abbrev pub opened_pieces : Result Session FaultyFile → (lines : List (List ℕ)) → List (List ℕ)
+opened_pieces (Err faulty) lines = faulty.line ∷ []
+opened_pieces (Ok s) lines = session_pieces s lines
