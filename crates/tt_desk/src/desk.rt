@@ -1,10 +1,12 @@
-ghost use Rattle.std.specs.Prelude.{◌≡◌, ◌<◌, [], IfOk, OnErr, length};
+ghost use Rattle.std.specs.Prelude.{◌≡◌, ◌<◌, ◌⊎◌, [], IfOk, OnErr, OnOk, length};
 ghost use Rattle.tt_script.specs.Forms.{HasDepth};
 ghost use Rattle.tt_desk.specs.Desk.{command_step, line_step};
-ghost use Rattle.tt_desk.specs.Replies.{reply_of};
+ghost use Rattle.tt_desk.specs.Refusals.{refusal_line};
+ghost use Rattle.tt_desk.specs.Replies.{HasReply, reply_of};
 ghost use Rattle.tt_desk.specs.Causes.{IsMemoryCause, MayTake};
 
 use crate::refusal::{Outcome, Refusal};
+use crate::reply::put_refusal;
 use crate::script::{Line, read_line};
 use crate::session::Session;
 use std::alloc::{AllocError, Global};
@@ -57,12 +59,10 @@ impl Session {
         }
     }
 
-    /// Does what a line asks for, or says why it is refused. The reply, whatever it held, has the
-    /// command's own lines then, which `finish_reply` makes whole. Only a line that has a reply
-    /// may find memory wanting, and then nothing is said of the session and the reply. The watcher is
-    /// told how far a long command has come, and when it is over.
-    #[tactic(auto, unfolding(crate::specs::Desk::line_step, crate::specs::Causes::IsMemoryCause), using(crate::proofs::ReplyLemmas::cause_replies))]
-    pub fn answer<W: Watcher>(
+    // Does what a line asks for, or says why it is refused. Its own lines are put into the reply,
+    // whatever that held.
+    #[tactic(auto, unfolding(crate::specs::Desk::line_step, crate::specs::Causes::IsMemoryCause))]
+    fn do_line<W: Watcher>(
         &mut self,
         alloc: Global,
         line: &[u8],
@@ -71,7 +71,6 @@ impl Session {
     ) -> Result<Outcome, AllocError>
         ensures ok { IfOk result (λ outcome. line_step self.old line.now ≡ record { session = self.new; outcome = outcome; lines = reply.new }) }
         ensures memory { OnErr result (IsMemoryCause self.old line.now) }
-        ensures replies { OnErr result (0 < length (reply_of (line_step self.old line.now))) }
     {
         reply.clear();
         match read_line(alloc, line)? {
@@ -84,4 +83,39 @@ impl Session {
             }
         }
     }
+
+    /// Answers a line: does what it asks for, or says why it is refused, and makes the reply,
+    /// whatever that held. Only a line that has a reply may find memory wanting, and then nothing is
+    /// said of the session and the reply. The watcher is told how far a long command has come, and
+    /// when it is over.
+    #[tactic(auto, using(crate::proofs::ReplyLemmas::cause_replies))]
+    pub fn answer<W: Watcher>(
+        &mut self,
+        alloc: Global,
+        line: &[u8],
+        reply: &mut Reply,
+        watcher: &mut W,
+    ) -> Result<Outcome, AllocError>
+        ensures session { OnOk result ((line_step self.old line.now).session ≡ self.new) }
+        ensures outcome { IfOk result (λ outcome. (line_step self.old line.now).outcome ≡ outcome) }
+        ensures reply { OnOk result (reply_of (line_step self.old line.now) ≡ reply.new) }
+        ensures memory { OnErr result (IsMemoryCause self.old line.now ⊎ HasReply (line_step self.old line.now).outcome) }
+        ensures replies { OnErr result (0 < length (reply_of (line_step self.old line.now))) }
+    {
+        let outcome = self.do_line(alloc, line, reply, watcher)?;
+        self.finish_reply(reply, outcome)?;
+        Ok(outcome)
+    }
+}
+
+/// Answers a line of more than 65,536 bytes, whatever it holds and whatever the reply held: it is
+/// refused.
+pub fn refuse_long_line(reply: &mut Reply) -> Result<Outcome, AllocError>
+    ensures outcome { IfOk result (λ outcome. outcome ≡ Outcome.Refused Refusal.BadLine) }
+    ensures reply { OnOk result (reply.new ≡ refusal_line Refusal.BadLine) }
+    ensures replies { OnErr result (0 < length (refusal_line Refusal.BadLine)) }
+{
+    reply.clear();
+    put_refusal(reply, Refusal::BadLine)?;
+    Ok(Outcome::Refused(Refusal::BadLine))
 }

@@ -113,7 +113,7 @@ fn add_refusal(reply: &mut Reply, refusal: Refusal) -> Result<(), AllocError>
 }
 
 // The line of a refusal, in an empty reply.
-fn put_refusal(reply: &mut Reply, refusal: Refusal) -> Result<(), AllocError>
+pub(crate) fn put_refusal(reply: &mut Reply, refusal: Refusal) -> Result<(), AllocError>
     requires { reply.old ≡ [] }
     ensures { OnOk result (reply.new ≡ refusal_line refusal) }
 {
@@ -224,10 +224,10 @@ pub(crate) fn add_suggested(
 }
 
 impl Session {
-    /// Makes the reply to a line, by what became of it. For an accepted command the reply has the
-    /// command's own lines before. Only a line that has a reply takes memory.
+    // Makes the reply to a line, by what became of it. For an accepted command the reply has the
+    // command's own lines before. Only a line that has a reply takes memory.
     #[tactic(auto, using(crate::proofs::ReplyLemmas::reply_some))]
-    pub fn finish_reply(&self, reply: &mut Reply, outcome: Outcome) -> Result<(), AllocError>
+    pub(crate) fn finish_reply(&self, reply: &mut Reply, outcome: Outcome) -> Result<(), AllocError>
         ensures ok { OnOk result (reply.new ≡ reply_to self.now reply.old outcome) }
         ensures memory { OnErr result (HasReply outcome) }
         ensures replies { OnErr result (0 < length (reply_to self.now reply.old outcome)) }
