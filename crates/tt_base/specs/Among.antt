@@ -1,4 +1,4 @@
--- Pairs among the items of a list.
+-- Theorem. Pairs among the items of a list.
 use Rattle.std.specs.Prelude.{ℕ, ◌+◌, Bool, List, [], ◌∷◌, count_by}
 
 -- how many pairs of items are related, each item with each later one

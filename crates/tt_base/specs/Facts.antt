@@ -1,4 +1,4 @@
--- Making a value that needs a fact: it is there exactly where the fact holds.
+-- Theorem. Making a value that needs a fact: it is there exactly where the fact holds.
 use Rattle.std.specs.Prelude.{ℕ, ◌^◌, ◌<◌, ◌≤◌, Option, Some, None}
 use Rattle.std.proofs.Common.{suc, inl, inr}
 use Rattle.std.proofs.lemmas.Bool.{cases_lt}

@@ -1,4 +1,4 @@
--- A limit that several crates share.
+-- Theorem. A limit that several crates share.
 use Rattle.std.specs.Prelude.{ℕ}
 
 -- the most members that a distribution has

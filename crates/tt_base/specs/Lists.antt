@@ -1,4 +1,4 @@
--- Numbers in lists, the order of lists, and the least of a list.
+-- Theorem. Numbers in lists, the order of lists, and the least of a list.
 use Rattle.std.specs.Prelude.{ℕ, Bool, List, [], ◌∷◌, Option, Some, None, nat_eq}
 use Rattle.std.specs.Cmp.Lexicographic.{slice_cmp}
 use Rattle.std.specs.List.{best_of, list_any}

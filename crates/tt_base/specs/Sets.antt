@@ -1,4 +1,4 @@
--- Sets of days or weeks, as numbers: place i is in the set where bit i is 1.
+-- Theorem. Sets of days or weeks, as numbers: place i is in the set where bit i is 1.
 use Rattle.std.specs.Prelude.{ℕ, ◌+◌, ◌*◌, Bool, not, ◌&&◌, ◌||◌, ◌==◌, List, [], ◌∷◌, length, count_by, Option, Some, None, if◌then◌else◌}
 use Rattle.std.specs.Int.{bit_at}
 use Rattle.std.specs.List.{list_any, list_all, range_with_len, position_or_len}

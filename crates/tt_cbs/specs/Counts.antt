@@ -1,4 +1,4 @@
--- Counts by key. A key without a count has 0.
+-- Theorem. Counts by key. A key without a count has 0.
 use Rattle.std.specs.Prelude.{ℕ, ◌+◌, ◌-◌, ◌==◌, if◌then◌else◌, unwrap_or}
 use Rattle.std.specs.FinMap.{FinMap, get, insert, remove}
 use Rattle.tt_bits.specs.declared.times.Key.{Key}

@@ -1,4 +1,4 @@
--- That no count is 0. Proofs alone need it.
+-- Proof. That no count is 0.
 use Rattle.std.specs.Prelude.{ℕ, ◌≢◌, List, Option, Some}
 use Rattle.std.specs.BTreeMap.{is_at}
 use Rattle.std.specs.Map.{lookup}

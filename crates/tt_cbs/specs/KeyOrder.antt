@@ -1,4 +1,4 @@
--- The order of keys, by their fields as they stand.
+-- Theorem. The order of keys, by their fields as they stand.
 use Rattle.std.specs.Prelude.{ℕ, refl}
 use Rattle.std.specs.Ordering.{nat_cmp, ordering_then}
 use Rattle.std.specs.declared.cmp.Ordering.{Ordering}

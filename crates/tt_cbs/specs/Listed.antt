@@ -1,4 +1,4 @@
--- The counts of a class.
+-- Theorem. The counts of a class.
 use Rattle.std.specs.Prelude.{ℕ, Bool, List, take_while, ◌==◌, [], if◌then◌else◌}
 use Rattle.std.specs.List.{filter}
 use Rattle.tt_bits.specs.declared.times.Key.{Key}

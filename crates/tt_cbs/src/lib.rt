@@ -1,4 +1,5 @@
-//! The counts of the conflict-based statistics (Müller 2005), by key.
+//! The counts of the conflict-based statistics (Müller 2005): a map from keys to positive counts,
+//! walked in the order of the keys.
 #![tactic(auto)]
 
 ghost use Rattle.std.specs.Prelude.{◌≡◌, ◌-◌, ◌+◌, ◌<◌, ◌^◌, OnOk, OnErr};

@@ -1,4 +1,4 @@
--- Whether the subparts that are still to come can be filled. Proofs alone need it.
+-- Proof. Whether the subparts that are still to come can be filled.
 use Rattle.std.specs.Prelude.{ℕ, Bool, true, ◌&&◌, ◌||◌, List}
 use Rattle.std.specs.List.{list_all, list_any}
 use Rattle.std.specs.Option.{option_map_or}

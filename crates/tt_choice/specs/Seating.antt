@@ -1,4 +1,4 @@
--- Which classes a student may get.
+-- Contract. Which classes a student may get.
 use Rattle.std.specs.Prelude.{◌≡◌, ℕ, ◌<◌, true, List, None, All, length}
 use Rattle.tt_problem.specs.declared.parts.Parts.{Parts}
 use Rattle.tt_struct.specs.Enrolments.{is_enrolment}

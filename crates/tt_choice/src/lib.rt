@@ -1,5 +1,6 @@
-//! The choices of a course: one class of each subpart of one of its configurations, and the least of
-//! those that a student may take.
+//! The choices of a course: one class of each subpart of one of its configurations.
+//! `least_of_course` gives the least of those that a student may take, or none exactly where none
+//! is allowed (`choice`).
 #![tactic(auto)]
 
 mod ahead;

@@ -1,4 +1,4 @@
--- Why a line is refused, and what is written then.
+-- Theorem. Why a line is refused, and what is written then.
 use Rattle.std.specs.Prelude.{ℕ, List, ◌++◌, codes}
 use Rattle.tt_explain.specs.Why.{block_text}
 use Rattle.tt_text.specs.Fields.{field}

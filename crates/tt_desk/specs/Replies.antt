@@ -1,4 +1,4 @@
--- The replies to the lines of a script.
+-- Theorem. The replies to the lines of a script.
 use Rattle.std.specs.Prelude.{ℕ, ⊤, Bool, true, false, List, [], ◌∷◌, ◌++◌, map, if◌then◌else◌, Option, option_map, codes}
 use Rattle.std.specs.List.{list_any}
 use Rattle.tt_score.specs.declared.totals.Totals.{Totals}

@@ -1,4 +1,4 @@
--- Random words, and the draw of one item of a list.
+-- Theorem. Random words, and the draw of one item of a list.
 use Rattle.std.specs.Prelude.{ℕ, ◌*◌, ◌/◌, ◌^◌, List, Option, length, slice_get}
 use Rattle.rand_core.specs.Stream.{Stream}
 use Rattle.rand_core.specs.Steps.{stream_of, steps_u32}

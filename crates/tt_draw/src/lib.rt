@@ -1,4 +1,5 @@
-//! Random words, and the draw of one item of a list.
+//! Random words, and the draw of one item of a list: `draw` is `word * count / 2^32`, the one place
+//! at which a random word picks an item.
 #![tactic(auto)]
 
 ghost use Rattle.std.specs.Prelude.{◌≡◌, ◌≤◌, ◌^◌};

@@ -1,4 +1,5 @@
-//! Flags by number, of which the one at a place among those that are set is found in few steps.
+//! Flags by number. `count` is how many are set, and `nth` the number of the one at a place among
+//! those that are set, found in few steps.
 #![tactic(auto)]
 
 ghost use Rattle.std.specs.Prelude.{◌≡◌, ◌-◌, ◌<◌, ◌^◌, length, replicate, slice_get, slice_set, IfOk, false};

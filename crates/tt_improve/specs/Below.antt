@@ -1,4 +1,4 @@
--- A walk over values that keeps the first of those with the least number below a bound. Proofs alone need it.
+-- Proof. A walk over values that keeps the first of those with the least number below a bound.
 use Rattle.std.specs.Prelude.{ℕ, Bool, ◌&&◌, nat_lt, List, Some, None, fold, if◌then◌else◌}
 use Rattle.tt_bits.specs.declared.times.Value.{Value}
 use Rattle.tt_improve.specs.declared.classes.Best.{Best}

@@ -1,4 +1,4 @@
--- A round on a class.
+-- Theorem. A round on a class.
 use Rattle.std.specs.Prelude.{ℕ, Bool, ◌&&◌, ◌==◌, nat_lt, List, [], ◌∷◌, Option, Some, None, length, if◌then◌else◌}
 use Rattle.std.specs.Option.{is_none, option_and_then}
 use Rattle.std.specs.List.{filter}

@@ -1,4 +1,4 @@
--- What a round stands on, and what it leaves. Proofs alone need it.
+-- Proof. What a round stands on, and what it leaves.
 use Rattle.std.specs.Prelude.{◌≡◌, ℕ, ◌<◌, ◌≤◌, true, length}
 use Rattle.tt_base.specs.Lists.{is_listed}
 use Rattle.tt_bits.specs.declared.times.Value.{Value}

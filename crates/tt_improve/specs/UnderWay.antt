@@ -1,4 +1,4 @@
--- How far the rounds have come. Proofs alone need it.
+-- Contract. How far the rounds have come.
 use Rattle.std.specs.Prelude.{ℕ}
 use Rattle.tt_state.specs.Snapshots.{Snapshot}
 use Rattle.tt_improve.specs.Rounds.{Improvement}

@@ -1,4 +1,4 @@
--- The classes of a generated problem.
+-- Theorem. The classes of a generated problem.
 use Rattle.std.specs.Prelude.{option_map, ℕ, ◌+◌, ◌*◌, ◌%◌, ◌==◌, List, [], ◌∷◌, false, Option, Some, None, if◌then◌else◌, codes}
 use Rattle.serde_json.specs.Data.{Data, boolean, string, object, Members, member, no_members}
 use Rattle.tt_make.specs.Draws.{Draws, ◌>>=◌, give, draw, each}

@@ -1,4 +1,4 @@
--- The courses of a generated problem. They have its classes in the order of their ids.
+-- Theorem. The courses of a generated problem. They have its classes in the order of their ids.
 use Rattle.std.specs.Prelude.{ℕ, ◌+◌, ◌-◌, ◌*◌, ◌/◌, ◌%◌, ◌==◌, List, [], ◌∷◌, Some, None, nat_le, if◌then◌else◌, codes}
 use Rattle.serde_json.specs.Data.{Data, object, member, no_members}
 use Rattle.tt_make.specs.Draws.{Draws, ◌>>=◌, give, each}

@@ -1,4 +1,4 @@
--- What is made with numbers that a generator gives one after another.
+-- Theorem. What is made with numbers that a generator gives one after another.
 use Rattle.std.specs.Prelude.{ℕ, zero, suc, ◌+◌, List, [], ◌∷◌, ◌++◌}
 use Rattle.rand_pcg.specs.Lcg.{Lcg}
 use Rattle.rand_pcg.specs.Pcg.{pcg32}

@@ -1,4 +1,4 @@
--- Keys that are put one by one stand in their order. Proofs alone need it.
+-- Proof. Keys that are put one by one stand in their order.
 use Rattle.std.specs.Prelude.{ℕ, List, Option, Some, None}
 use Rattle.serde_json.specs.Data.{Data, Members, put}
 

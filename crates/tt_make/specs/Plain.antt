@@ -1,4 +1,4 @@
--- No number of a generated problem has a point. Proofs alone need it.
+-- Proof. No number of a generated problem has a point.
 use Rattle.std.proofs.Common.{◌≡◌, ℕ, zero, suc, ◌+◌, List, [], ◌∷◌, ◌++◌, Bool, Option, Some, None, inl, inr, ◌%◌, ◌==◌, true, false, ◌||◌, refl}
 use Rattle.std.specs.Prelude.{⊤}
 use Rattle.std.proofs.lemmas.Bool.{cases_Bool}

@@ -1,4 +1,4 @@
--- The distributions of a generated problem.
+-- Theorem. The distributions of a generated problem.
 use Rattle.std.specs.Prelude.{ℕ, ◌+◌, ◌-◌, ◌*◌, ◌/◌, ◌%◌, ◌==◌, List, [], ◌∷◌, true, if◌then◌else◌, codes}
 use Rattle.serde_json.specs.Data.{Data, boolean, string, object, member, no_members}
 use Rattle.tt_make.specs.Draws.{Draws, ◌>>=◌, give, draw}

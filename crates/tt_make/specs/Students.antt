@@ -1,4 +1,4 @@
--- The students of a generated problem.
+-- Theorem. The students of a generated problem.
 use Rattle.std.specs.Prelude.{ℕ, ◌+◌, codes}
 use Rattle.serde_json.specs.Data.{Data, object, member, no_members}
 use Rattle.tt_make.specs.Draws.{Draws, ◌>>=◌, give, draw, each}

@@ -1,4 +1,4 @@
--- The JSON values that the parts of a problem are built of.
+-- Theorem. The JSON values that the parts of a problem are built of.
 use Rattle.std.specs.Prelude.{ℕ, List, [], Option, Some, None, slice_get, unwrap_or}
 use Rattle.serde_json.specs.Data.{Data, number, unsigned, array, Members, member}
 use Rattle.serde_json.specs.View.{items_of}

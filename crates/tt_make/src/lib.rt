@@ -1,5 +1,6 @@
 //! Makes problems of any size, to try the desk on. A problem depends on its seed and its number of
-//! classes alone.
+//! classes alone. `make_text` is the text of its definition, one JSON value whose parts are drawn
+//! in order; the code writes it part by part. Nothing says that a made problem has no fault.
 #![tactic(auto)]
 
 mod choices;

@@ -1,4 +1,4 @@
--- Placed classes that have the same room and overlap.
+-- Theorem. Placed classes that have the same room and overlap.
 use Rattle.std.specs.Prelude.{ℕ, Bool, false, not, ◌&&◌, ◌==◌, List, Option, None, slice_set, count_by}
 use Rattle.std.specs.Option.{option_map_or}
 use Rattle.tt_base.specs.Among.{pairs_among}

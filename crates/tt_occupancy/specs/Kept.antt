@@ -1,4 +1,4 @@
--- What an occupancy keeps. Proofs alone need it: what callers see stands in Occupied.
+-- Proof. What an occupancy keeps. What callers see stands in Occupied.
 use Rattle.std.specs.Prelude.{◌≡◌, ℕ, ◌<◌, ◌^◌, List, Option, length}
 use Rattle.tt_bits.specs.declared.times.Spot.{Spot}
 use Rattle.tt_occupancy.specs.declared.Occupancy.TheInside.{Inside}

@@ -1,4 +1,4 @@
--- The placed classes of each room.
+-- Contract. The placed classes of each room.
 use Rattle.std.specs.Prelude.{◌≡◌, ℕ, ◌+◌, Bool, false, List, Option, Some, is_some, length, count_by}
 use Rattle.std.specs.Option.{option_map_or}
 use Rattle.tt_bits.specs.declared.times.Spot.{Spot}

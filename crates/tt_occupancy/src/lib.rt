@@ -1,4 +1,6 @@
-//! Where classes stand: the spots of the placed classes, and the clashes among them.
+//! Where classes stand: the spots of the placed classes, and which of them clash in a room.
+//! Whatever calls were made, each number is the count over the spots held, and `classes_in` gives
+//! the placed classes of a room, in order.
 #![tactic(auto)]
 
 ghost use Rattle.std.specs.Prelude.{◌≡◌, ◌<◌, ◌≤◌, Some, None, IsSome, IfOk, IfSome, length, replicate, slice_set, []};

@@ -1,4 +1,4 @@
--- What a group of a pair rule is by its fields.
+-- Proof. What a group of a pair rule is by its fields.
 use Rattle.std.specs.Prelude.{ℕ, List, Option, length}
 use Rattle.tt_bits.specs.declared.times.Spot.{Spot}
 use Rattle.tt_travel.specs.Table.{Table}

@@ -1,4 +1,4 @@
--- Another member of a rule, listed before or after the one that gets a spot.
+-- Contract. Another member of a rule, listed before or after the one that gets a spot.
 use Rattle.std.specs.Prelude.{Bool}
 use Rattle.tt_bits.specs.declared.pairs.PairKind.{PairKind}
 use Rattle.tt_bits.specs.declared.times.Spot.{Spot}

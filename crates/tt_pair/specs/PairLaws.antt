@@ -1,4 +1,4 @@
--- The laws of violated pairs, for each kind alike. Proofs alone need them.
+-- Proof. The laws of violated pairs, for each kind alike.
 use Rattle.std.proofs.Common.{◌≡◌, ℕ, ◌+◌, ◌-◌, ◌*◌, ◌/◌, ◌<◌, ◌≤◌, ◌^◌, List, [], ◌∷◌, Option, Some, None, length, take, pos, refl, ap, zero, suc, arith, cond}
 use Rattle.std.specs.Prelude.{◌+ℤ◌, slice_set, replicate}
 use Rattle.std.proofs.lemmas.List.Sums.{sum_by-cons}

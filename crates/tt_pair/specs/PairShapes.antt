@@ -1,4 +1,4 @@
--- A group of a pair rule as numbers.
+-- Contract. A group of a pair rule as numbers.
 use Rattle.std.specs.Prelude.{ℕ, List, [], ◌∷◌, slice_index, slice_index_or}
 use Rattle.tt_bits.specs.declared.pairs.PairKind.{PairKind}
 use Rattle.tt_bits.specs.declared.pairs.PairKind.TheVariants.{SameStart, SameTime, DifferentTime, SameDays, DifferentDays, SameWeeks, DifferentWeeks, Overlap, NotOverlap, SameRoom, DifferentRoom, SameAttendees, Precedence, WorkDay, MinGap}

@@ -1,4 +1,4 @@
--- The pairs of placed members that break a rule.
+-- Theorem. The pairs of placed members that break a rule.
 use Rattle.std.specs.Prelude.{◌≡◌, ℕ, ◌+◌, Bool, not, List, Option, count_by, take, drop, suc}
 use Rattle.tt_base.specs.Among.{pairs_among}
 use Rattle.tt_bits.specs.declared.pairs.PairKind.{PairKind}

@@ -1,5 +1,6 @@
-//! Rules on pairs of classes: the number of pairs of placed members that break the rule, kept
-//! while members come and go.
+//! Rules on pairs of classes, fifteen types: the number of pairs of placed members that break the
+//! rule, kept while members come and go. A `PairGroup` is a `Measure`: its amount is the
+//! definition's (`sum`, `delta`, `most` of `new`), and `gain` says by how much a spot raises it.
 #![tactic(auto)]
 
 ghost use Rattle.std.specs.Prelude.{◌≡◌, ℕ, ◌+◌, ◌-◌, ◌*◌, ◌/◌, ◌<◌, ◌≤◌, pos, false, Some, None, IfOk, IfSome, length, replicate, count_by, List, Option};

@@ -1,4 +1,4 @@
--- The values of a class, and what they stand for.
+-- Theorem. The values of a class, and what they stand for.
 use Rattle.std.specs.Prelude.{ℕ, ◌<◌, ◌≤◌, List, [], Option, IfSome, length, slice_get, map, max, option_and_then}
 use Rattle.std.specs.List.{enumerate_from, flat_map, range_with_len}
 use Rattle.std.specs.Option.{option_map, option_map_or}

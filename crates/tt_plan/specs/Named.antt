@@ -1,4 +1,4 @@
--- The value that a time and a room name.
+-- Theorem. The value that a time and a room name.
 use Rattle.std.specs.Prelude.{ℕ, ◌-◌, ◌&&◌, ◌==◌, nat_le, Option, Some, None, Result, Ok, Err, length, slice_get, position, option_and_then, if◌then◌else◌}
 use Rattle.std.specs.Option.{option_map_or}
 use Rattle.tt_bits.specs.declared.times.Value.{Value}

@@ -1,4 +1,7 @@
-//! The values that a class may have, and what each of them stands for.
+//! The values that a class may have, its domain, and what each of them stands for. `domain_size`,
+//! `value_at`, `spot`, `time_penalty` and `room_penalty` are what the list of a class's values says
+//! (`size`, `value`, `spot`, `penalty`); no such list is built. `find` gives the value that a time
+//! and a room name, or exactly why there is none (`value`).
 #![tactic(auto)]
 
 mod named;

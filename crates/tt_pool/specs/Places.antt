@@ -1,4 +1,4 @@
--- Where in a list its elements pass a test.
+-- Theorem. Where in a list its elements pass a test.
 use Rattle.std.specs.Prelude.{ℕ, ◌+◌, Bool, List, [], ◌∷◌, if◌then◌else◌}
 
 -- the places of the elements that pass a test, where the first element stands at `from`

@@ -1,4 +1,6 @@
-//! Many lists of numbers in one vector of nodes.
+//! Many lists of numbers in one vector of nodes. After any calls each list is what `insert`,
+//! `insert_in_order`, `remove` and `remove_item` make of it, and `spare` is how many items more
+//! find room (`lists`, `spare`). Only `new` takes memory.
 #![tactic(auto)]
 
 ghost use Rattle.std.specs.Prelude.{◌≡◌, ◌≢◌, ℕ, ◌==◌, ◌+◌, ◌-◌, ◌<◌, ◌≤◌, true, List, [], ◌∷◌, ◌++◌, length, map, IfOk, nat_lt, slice_index, slice_index_or, slice_set, replicate, count_by};

@@ -1,4 +1,4 @@
--- What a roster keeps, and what makes it one of a problem.
+-- Contract. What a roster keeps, and what makes it one of a problem.
 use Rattle.std.specs.Prelude.{◌≡◌, ℕ, ◌+◌, ◌<◌, ◌≤◌, ◌^◌, length, map, sum, sum_by, All, IfSome, slice_index}
 use Rattle.tt_travel.specs.Table.{IsRoomOf}
 use Rattle.tt_bits.specs.Spots.{spot_at}

@@ -1,4 +1,4 @@
--- The forms of a line, and the command of each.
+-- Theorem. The forms of a line, and the command of each.
 use Rattle.std.specs.Prelude.{ℕ, ◌≤◌, ⊤, IsTrue, IsSome, List, [], ◌∷◌, Option, None, Some, option_map, if◌then◌else◌, codes, bytes_eq}
 use Rattle.std.specs.Option.{option_zip}
 use Rattle.tt_text.specs.Decimal.{decimal_of, at_most}

@@ -1,4 +1,4 @@
--- Proofs alone need it. Which classes are candidates, as the code keeps it.
+-- Proof. Which classes are candidates, as the code keeps it.
 use Rattle.std.specs.Prelude.{ℕ, ◌≡◌, ◌<◌, false, List, length, slice_index_or}
 use Rattle.tt_bits.specs.declared.times.Closure.{Closure}
 use Rattle.tt_problem.specs.declared.parts.Parts.{Parts}

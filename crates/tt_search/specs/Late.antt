@@ -1,4 +1,4 @@
--- Proofs alone need it. Flags by class that are kept while classes are forced to values.
+-- Proof. Flags by class that are kept while classes are forced to values.
 use Rattle.std.specs.Prelude.{ℕ, ◌≡◌, ◌<◌, Bool, false, List, slice_index_or}
 use Rattle.tt_base.specs.Lists.{is_listed}
 

@@ -1,4 +1,4 @@
--- Proofs alone need it. What the code of a turn keeps: the numbers of prices and ranks, in the order in which they are compared, offers,
+-- Proof. What the code of a turn keeps: the numbers of prices and ranks, in the order in which they are compared, offers,
 -- and classes.
 use Rattle.std.specs.Prelude.{ℕ, ◌≡◌, List, [], ◌∷◌, Option, Some, None, if◌then◌else◌}
 use Rattle.tt_plan.specs.Domain.{IsOfDomain}

@@ -1,4 +1,4 @@
--- Proofs alone need it. The numbers that the code compares.
+-- Proof. The numbers that the code compares.
 use Rattle.std.specs.Prelude.{ℕ, Bool, true, List, [], ◌∷◌, Option, Some, None}
 use Rattle.tt_base.specs.Lists.{comes_before}
 use Rattle.tt_suggest.specs.declared.suggestion.Rank.{Rank}

@@ -1,4 +1,4 @@
--- Suggestions, and the best of them.
+-- Theorem. Suggestions, and the best of them.
 use Rattle.std.specs.Prelude.{ℕ, List, [], ◌∷◌, Option, map}
 use Rattle.tt_base.specs.Lists.{first_least}
 use Rattle.tt_problem.specs.declared.parts.Parts.{Parts}

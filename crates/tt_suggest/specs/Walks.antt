@@ -1,4 +1,4 @@
--- Proofs alone need it. Where the walk is, and what it has found.
+-- Proof. Where the walk is, and what it has found.
 use Rattle.std.specs.Prelude.{ℕ, ◌≡◌, ◌+◌, ◌<◌, ◌≤◌, ◌∷◌, ◌++◌, [], All, List, Option, length, map}
 use Rattle.std.specs.List.{flat_map, sum_by}
 use Rattle.tt_base.specs.Lists.{least_after}

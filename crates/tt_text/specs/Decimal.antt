@@ -1,4 +1,4 @@
--- A number as a word of decimal digits.
+-- Theorem. A number as a word of decimal digits.
 use Rattle.std.specs.Prelude.{ℕ, List, length, Bool, ◌&&◌, Option, Some, None, nat_lt, nat_le, if◌then◌else◌}
 use Rattle.std.specs.Char.{is_ascii_digit}
 use Rattle.std.specs.List.{list_all}

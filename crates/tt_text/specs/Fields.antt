@@ -1,4 +1,4 @@
--- Words and numbers.
+-- Theorem. Words and numbers.
 use Rattle.std.specs.Prelude.{ℕ, List, ◌++◌, decimal}
 
 -- a word, and a number in decimal digits

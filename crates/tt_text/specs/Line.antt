@@ -1,4 +1,4 @@
--- The words of a line, parted by spaces and tabs.
+-- Theorem. The words of a line, parted by spaces and tabs.
 use Rattle.std.specs.Prelude.{ℕ, List, length, Bool, ◌||◌, ◌==◌, nat_lt}
 use Rattle.std.specs.List.{filter, slice_split}
 

@@ -133,7 +133,6 @@ asks_append a None (Some c) xs ys first second = absurd second
 asks_append None (Some b) (Some c) xs ys first second = absurd first
 asks_append (Some a) (Some b) (Some c) xs ys first second = second ∙ ap (λ t. t ++ ys) first ∙ append_assoc a xs ys
 
-
 module _ (words : FileWords) (o : Outside) where
   all_words : length (first_words words) ≤ length (file_words words)
   all_words = let is : length (file_words words) ≡ length (first_words words) + length (option_to_list words.script) = length-append (first_words words) (option_to_list words.script) in omega arith

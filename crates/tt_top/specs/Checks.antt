@@ -1,4 +1,4 @@
--- Proofs alone need it. What reading the two files of `verify` and checking the solution leave.
+-- Proof. What reading the two files of `verify` and checking the solution leave.
 use Rattle.std.specs.Prelude.{ℕ, List, [], ◌∷◌, Result, Ok, Err, if◌then◌else◌}
 use Rattle.tt_top.specs.declared.end.End.{End}
 use Rattle.tt_top.specs.declared.end.InputFault.{InputFault}

@@ -1,4 +1,4 @@
--- Proofs alone need it. How the phases of a run end, and what each of them leaves.
+-- Proof. How the phases of a run end, and what each of them leaves.
 use Rattle.std.specs.Prelude.{◌≡◌, ◌≢◌, ◌≤◌, ◌<◌, ◌⊎◌, ℕ, Bool, true, false, ⊤, IfErr, IfSome, IsSome, List, [], ◌∷◌, ◌++◌, length, take, codes, None, Some, Option, Result, Ok, Err, if◌then◌else◌}
 use Rattle.std.specs.List.{concat}
 use Rattle.tt_io.specs.Causes.{Writes, one_more, AsksAll}

@@ -1,4 +1,4 @@
--- The session that the files open, and what is written of it.
+-- Theorem. The session that the files open, and what is written of it.
 use Rattle.std.specs.Prelude.{ℕ, List, [], ◌∷◌, ◌++◌, length, None, Some, Option, Result, Ok, Err, codes}
 use Rattle.tt_problem.specs.declared.parts.Parts.{Parts}
 use Rattle.tt_fields.specs.Answer.{Fault}

@@ -1,4 +1,4 @@
--- What a plain run does, by what its files hold.
+-- Theorem. What a plain run does, by what its files hold.
 use Rattle.std.specs.Prelude.{ℕ, nat_lt, ◌==◌, List, [], ◌∷◌, ◌++◌, length, if◌then◌else◌, None, Some, Option, Result, Ok, Err, ok_or, codes}
 use Rattle.std.specs.List.{concat}
 use Rattle.tt_problem.specs.declared.parts.Parts.{Parts}

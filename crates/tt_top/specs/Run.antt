@@ -1,4 +1,4 @@
--- The clauses of the top call.
+-- Theorem. The clauses of the top call.
 use Rattle.std.specs.Prelude.{◌≡◌, ◌≢◌, ◌≤◌, ◌<◌, ℕ, Bool, List, [], ◌∷◌, ◌++◌, ◌⊎◌, IfSome, IsSome, take, length, if◌then◌else◌, None, Some, Option, option_and_then}
 use Rattle.std.specs.List.{concat}
 use Rattle.tt_io.specs.Causes.{Writes, one_more, AsksAll}

@@ -1,4 +1,7 @@
-//! The top call: words, files, the session and its replies, and the theorem on what is written.
+//! The top call, `run`: words, files, the phases of a run, and the theorem on what it writes, which
+//! `README.md` tells in words. Its clause `form` is `IsRun` of `specs/Run.antt`, for every command
+//! line and every `Files` and `Sink`; `run_within` has the same clause over a limit of the
+//! caller's.
 #![tactic(auto)]
 
 mod end;

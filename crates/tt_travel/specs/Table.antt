@@ -1,4 +1,4 @@
--- The table of travel between rooms, in slots.
+-- Theorem. The table of travel between rooms, in slots.
 use Rattle.std.specs.Prelude.{◌≡◌, ℕ, ◌+◌, ◌*◌, ◌<◌, ◌≤◌, ◌⊎◌, ◌==◌, List, Option, Some, None, slice_index, slice_set, replicate, length, IfSome, if◌then◌else◌}
 
 -- the most rooms that a table has

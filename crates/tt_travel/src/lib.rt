@@ -1,4 +1,5 @@
-//! Travel between the rooms of a problem.
+//! Travel between the rooms of a problem: a table that is the same both ways, and 0 from a room to
+//! itself.
 #![tactic(auto)]
 
 ghost use Rattle.std.specs.Prelude.{◌≡◌, ◌≢◌, ℕ, ◌+◌, ◌*◌, ◌<◌, ◌≤◌, Some, IfOk, length};

@@ -1,4 +1,4 @@
--- What the tables are read with.
+-- Theorem. What the tables are read with.
 use Rattle.std.specs.Prelude.{ℕ, ◌≤◌, List, Option, length, IfSome}
 use Rattle.tt_problem.specs.Valid.{IsValidTerm}
 use Rattle.tt_fields.specs.declared.kinds.Known.{Known}

@@ -1,4 +1,4 @@
--- What the code has read so far.
+-- Contract. What the code has read so far.
 use Rattle.std.specs.Prelude.{◌≡◌, ℕ, ◌≤◌, List, length, map, All, IfSome, nat_eq}
 use Rattle.std.specs.List.{IsDistinct}
 use Rattle.tt_tree.specs.declared.context as context

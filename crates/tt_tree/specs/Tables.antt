@@ -1,4 +1,4 @@
--- The tables of rooms and courses, one line for each key, in the order in which they are read.
+-- Theorem. The tables of rooms and courses, one line for each key, in the order in which they are read.
 use Rattle.std.specs.Prelude.{ℕ, ◌+◌, ◌-◌, ◌==◌, ◌||◌, List, [], ◌∷◌, ◌++◌, length, Bool, true, false, Result, Ok, codes, nat_lt, if◌then◌else◌}
 use Rattle.tt_bits.specs.declared.times.Time.{Time}
 use Rattle.tt_bits.specs.Sets.{days_text, weeks_text}

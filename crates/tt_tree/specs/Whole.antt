@@ -1,4 +1,4 @@
--- How many classes courses have. Proofs alone need it.
+-- Contract. How many classes courses have.
 use Rattle.std.specs.Prelude.{◌≡◌, ℕ, List, Ok, length}
 use Rattle.tt_fields.specs.Answer.{Part}
 use Rattle.tt_tree.specs.Context.{Context}

@@ -1,5 +1,6 @@
-//! The rooms and the courses of a problem file, in the JSON form of the ITC 2019 format. Each list is
-//! read twice: before any id is known, and with the ids of rooms and classes known.
+//! The rooms and the courses of a problem file, as the tables of its definitions
+//! (`specs/Tables.antt`) read them: what is read, or exactly the first fault (`reads`). Each list
+//! is read twice: before any id is known, and with the ids of rooms and classes known.
 #![tactic(auto)]
 
 mod context;

@@ -1,4 +1,4 @@
--- Sums as the code has them. Proofs alone need it.
+-- Proof. Sums as the code has them.
 use Rattle.std.specs.Prelude.{◌≡◌, ℕ, List, [], Option, slice_get}
 use Rattle.std.specs.Option.{option_map_or}
 use Rattle.tt_bits.specs.declared.times.Spot.{Spot}

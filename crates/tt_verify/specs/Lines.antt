@@ -1,4 +1,4 @@
--- How violations and sums are written.
+-- Theorem. How violations and sums are written.
 use Rattle.std.specs.Prelude.{ℕ, ◌+◌, ◌==◌, List, ◌++◌, codes, if◌then◌else◌}
 use Rattle.std.specs.List.{flat_map}
 use Rattle.tt_problem.specs.declared.parts.Parts.{Parts}

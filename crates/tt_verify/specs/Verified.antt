@@ -1,4 +1,4 @@
--- What the check of a published timetable writes.
+-- Theorem. What the check of a published timetable writes.
 use Rattle.std.specs.Prelude.{ℕ, List, [], ◌++◌, length}
 use Rattle.tt_problem.specs.declared.parts.Parts.{Parts}
 use Rattle.tt_score.specs.declared.totals.Totals.{Totals}

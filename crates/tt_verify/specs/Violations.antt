@@ -1,4 +1,4 @@
--- What is wrong with a published timetable, in order.
+-- Theorem. What is wrong with a published timetable, in order.
 use Rattle.std.specs.Prelude.{ℕ, ◌==◌, false, not, is_none, nat_lt, List, [], ◌∷◌, ◌++◌, Option, None, length, map, count_by, slice_get, slice_index_or, if◌then◌else◌}
 use Rattle.std.specs.List.{flat_map, range_with_len}
 use Rattle.std.specs.Option.{option_map_or}

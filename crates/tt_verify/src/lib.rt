@@ -1,5 +1,7 @@
-//! The check of a published timetable against its problem: everything that is wrong with it, one
-//! line each, and what it costs. All is counted from nothing, by lists of this crate's own.
+//! The check of a published timetable against its problem. `verify` appends the text of its
+//! definition, a line for each violation, the sums and the last line (`text`), and answers the
+//! number of violations (`count`). All is counted from nothing, by lists of this crate's own: its
+//! code calls nothing of the score, the rosters or the groups of the desk, which no clause can say.
 #![tactic(auto)]
 
 mod amounts;

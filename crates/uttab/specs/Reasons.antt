@@ -1,4 +1,4 @@
--- What the program writes to standard error.
+-- Contract. What the program writes to standard error.
 use Rattle.std.specs.Prelude.{ℕ, List, ◌++◌, Option, None, Some, ◌==◌, if◌then◌else◌, codes}
 use Rattle.uttab.specs.declared.reason.Reason.{Reason}
 

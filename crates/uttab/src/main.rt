@@ -1,4 +1,8 @@
-//! The program `uttab`: the top call over the files and the output of the system.
+//! The program `uttab`: the top call over the files and the output of the system. An argument's
+//! bytes are its word, an empty one where they aren't UTF-8 (`text`, `other`);
+//! `NoArguments::status` is 9 or 7 (`absent`, `memory`); a `Reason` is shown as the line for 5 to
+//! 9, with the name and the cause that it is given (`output`). What `main` does with them is tested
+//! alone.
 #![tactic(auto)]
 
 mod arguments;
