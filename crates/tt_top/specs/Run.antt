@@ -94,6 +94,10 @@ pub record AsksInOrder (words : FileWords) (o : Outside) (names : List (List ℕ
   -- a run that ends early without having asked for a script has written nothing, but for a failed write
   pub quiet : 5 ≤ status → status ≢ 6 → length names ≤ length (first_words words) → Writes o.before.written o.now.written []
 
+-- The script is among the names asked for.
+abbrev pub AsksScript : FileWords → (names : List (List ℕ)) → Type 0
+AsksScript words names = length (first_words words) < length names
+
 -- the statuses that a run with files can have
 pub record IsStatus (status : ℕ) : Type 0 where
   pub at_most : status ≤ 8
@@ -112,7 +116,7 @@ pub record Begins (r : PlainRun) (words : FileWords) (o : Outside) (names : List
   pub line : status ≢ 6 → Wrote o (λ text. (text ≡ []) ⊎ IsFront (text_of r) text)
   pub first : IsFront names r.names
   -- the script is asked for after the first line
-  pub after_line : length (first_words words) < length names → Wrote o (λ text. IsFront (text_of r) text)
+  pub after_line : AsksScript words names → Wrote o (λ text. IsFront (text_of r) text)
 
 -- The text is what a plain desk writes for some bytes of a problem, of a published file or none, and for some lines: the first of
 -- its pieces, each whole.
@@ -126,8 +130,8 @@ pub record IsDeskText (text : List ℕ) : Type 0 where
 pub record IsFileRun (words : FileWords) (limit : ℕ) (o : Outside) (status : ℕ) : Type 0 where
   pub names : List (List ℕ)
   pub run : UsesFiles words (file_run limit o.holds words) o names status
-  -- where memory is wanting, nothing is written, or less than the whole, or the first line where there is a script
-  pub wanting : status ≡ 7 → IfSome (file_run limit o.holds words) (λ r. Wrote o (λ text. (text ≡ []) ⊎ (IsLess text (text_of r) ⊎ (IsSome words.script × (text ≡ concat (take 1 r.pieces))))))
+  -- where memory is wanting, nothing is written, or less than the whole, or the first line where the script was asked for
+  pub wanting : status ≡ 7 → IfSome (file_run limit o.holds words) (λ r. Wrote o (λ text. (text ≡ []) ⊎ (IsLess text (text_of r) ⊎ (AsksScript words names × (text ≡ concat (take 1 r.pieces))))))
   -- what is done before the script is opened, whatever it holds
   pub begins : IfSome (lines_run limit o.holds words []) (λ r. Begins r words o names status)
   -- where a call on the files failed, nothing is written, or the first line and the reply to each line that was taken whole
