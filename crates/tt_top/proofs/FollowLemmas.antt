@@ -1,6 +1,6 @@
 -- How a run follows the plain one.
-use Rattle.std.proofs.Common.{◌≡◌, ◌≢◌, ◌≤◌, ◌<◌, ℕ, Bool, true, false, List, [], ◌∷◌, ◌++◌, None, Some, Option, Result, Ok, Err, refl, sym, ◌∙◌, ap, append_assoc, subst, arith, inl, inr, length, take}
-use Rattle.std.specs.Prelude.{◌⊎◌, ◌+◌, IfErr, IfSome, IsOk, IsSome, ok_or, option_and_then, option_to_list}
+use Rattle.std.proofs.Common.{◌≡◌, ◌≢◌, ◌≤◌, ℕ, Bool, List, [], ◌∷◌, ◌++◌, None, Some, Option, Result, Ok, Err, refl, sym, ◌∙◌, ap, append_assoc, subst, arith, inl, inr, length, take}
+use Rattle.std.specs.Prelude.{◌⊎◌, ◌+◌, IfErr, IfSome, IsOk, IsSome, option_and_then, option_to_list}
 use Rattle.std.specs.List.{concat}
 use Rattle.std.proofs.lemmas.List.{append-nil, length-append}
 use Rattle.std.proofs.Math.Seq.{take-length}

@@ -24,7 +24,7 @@ use Rattle.tt_desk.specs.Desk.{Session, Answer, carried_out, step_from, step_of,
 use Rattle.tt_desk.specs.Replies.{is_end, is_refused, reply_of, replies_to, refuses}
 use Rattle.tt_top.specs.declared.end.End.{End}
 use Rattle.tt_top.specs.declared.end.End.TheVariants.{Files, Sink, Memory, TooLong}
-use Rattle.tt_top.specs.Pieces.{whole_lines, ends_script, has_quit, is_long_script, answered_part, taken_of}
+use Rattle.tt_top.specs.Pieces.{whole_lines, ends_script, has_quit, is_long_script, taken_of}
 use Rattle.tt_top.specs.Ends.{Serves, ServesNext, ServesSome, Answers, AnswersLine, TakesLine, EndsScript, WritesReplies, WritesFirst, past_limit, replies_within}
 use Rattle.tt_top.proofs.ServeLemmas.{HasSent, HasSent-more, HasSent-all, HasSent-first, HasSent-less, HasSent-front, HasSent-same, replies-next, replies-last, refuses-next, refused_more, reply_is_next}
 use Rattle.tt_top.proofs.PieceLemmas.{first_of_lines, cut_at_end, leading_one, IsWhole, whole_empty, whole_more, lines_more, whole_is, taken_front, limit_front}

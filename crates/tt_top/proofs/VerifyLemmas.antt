@@ -1,5 +1,5 @@
 -- How the phases of a run that checks a solution file follow the plain run.
-use Rattle.std.proofs.Common.{◌≡◌, ◌≢◌, ◌≤◌, ℕ, List, [], ◌∷◌, ◌++◌, None, Some, Option, Result, Ok, Err, refl, sym, ◌∙◌, ap, subst, arith, inl, inr}
+use Rattle.std.proofs.Common.{◌≡◌, ◌≢◌, ◌≤◌, ℕ, List, [], ◌∷◌, None, Some, Option, Result, Ok, Err, refl, sym, ◌∙◌, ap, subst, arith}
 use Rattle.std.specs.Prelude.{IfOk, IfErr, IfSome, IsSome}
 use Rattle.std.proofs.lemmas.List.{append-nil}
 use Rattle.tt_io.specs.Causes.{Writes}
@@ -14,7 +14,7 @@ use Rattle.tt_top.specs.declared.end.Done.{Done}
 use Rattle.tt_top.specs.declared.end.Input.TheVariants.{Published}
 use Rattle.tt_top.specs.declared.end.InputFault.{InputFault}
 use Rattle.tt_top.specs.declared.verify_run.Check.{Check}
-use Rattle.tt_top.specs.Words.{FileWords, first_words, verify_words}
+use Rattle.tt_top.specs.Words.{FileWords, verify_words}
 use Rattle.tt_top.specs.PlainRun.{PlainRun, Phase, text_of, ends, last_phase, problem_phase, timetable_phase, checking, solution_phase, check_phase, verify_run}
 use Rattle.tt_top.specs.Run.{Outside, IsFront, Follows, HasCauses, AsksInOrder, IsVerifyRun}
 use Rattle.tt_top.specs.Ends.{faulty_file, end_status, done_status, status_of, HasEndCause, Agrees, Loads}

@@ -1,4 +1,4 @@
-use Rattle.std.proofs.Common.{refl, None, Some, Ok}
+use Rattle.std.proofs.Common.{Some, Ok}
 use Rattle.tt_base.proofs.ResultLemmas.{handed_on}
 use Rattle.tt_top.specs.PlainRun.{timetable_phase}
 use Rattle.tt_top.proofs.LoadLemmas.{made_agrees, faulty_first, ended_first, published_some, published_fault}
