@@ -2,10 +2,8 @@ ghost use Rattle.std.specs.Prelude.{◌≤◌};
 
 use std::alloc::{AllocError, Global};
 use std::test::Fail;
+use test_help::{assigns, state_of};
 use tt_bits::Value;
-use tt_plan::find;
-use tt_read::read;
-use tt_state::State;
 use tt_suggest::{Move, SuggestEnd, Suggested, suggest};
 use tt_text::Reply;
 
@@ -72,17 +70,6 @@ fn wide_text(alloc: Global) -> Result<Reply, AllocError> {
     Ok(out)
 }
 
-// Gives the second class its first time in the room with the id; false where there is none.
-fn assigns_second(state: &mut State, room: Option<u32>) -> bool {
-    if state.problem().class_count() != 2 {
-        return false;
-    }
-    match find(state.problem(), 1, 1, room) {
-        Ok(value) => state.assign(1, value).is_ok(),
-        Err(_) => false,
-    }
-}
-
 // The best way to place the first of two classes by so many placements, once the second has its
 // first time in the room with the id.
 fn asked(
@@ -94,13 +81,10 @@ fn asked(
     requires some { 1 ≤ depth }
     requires few { depth ≤ 3 }
 {
-    let Ok(problem) = read(alloc, text) else {
+    let Ok(mut state) = state_of(alloc, text) else {
         return None;
     };
-    let Ok(mut state) = State::start(alloc, problem) else {
-        return None;
-    };
-    if !assigns_second(&mut state, room) || state.problem().class_count() != 2 {
+    if !assigns(&mut state, 1, 1, room) || state.problem().class_count() != 2 {
         return None;
     }
     Some(suggest(alloc, &mut state, None, 0, depth))

@@ -1,11 +1,13 @@
 #![tactic(auto, using(tt_base::proofs::SetLemmas::set_words))]
 
-ghost use Rattle.std.specs.Prelude.{ℕ, ◌≡◌, ◌<◌, ◌≤◌, ◌^◌, ◌==◌, ◌&&◌, IfSome, nat_lt, slice_index};
+ghost use Rattle.std.specs.Prelude.{ℕ, ◌≡◌, ◌<◌, ◌≤◌, ◌^◌, ◌==◌, ◌&&◌, IfOk, IfSome, nat_lt, slice_index, string_bytes};
 ghost use Rattle.std.specs.Option.{option_map};
 ghost use Rattle.tt_base.specs.Sets.{has, share, within, first, count, read_set};
 
 use crate::reading::{read_bits, word_bits};
 use crate::words::BitWord;
+use crate::writing::set_text;
+use std::alloc::{AllocError, Global};
 
 /// A set of weeks of the term that is not empty. Week 0 is the first week, and 128 is the most
 /// that a set has.
@@ -17,7 +19,7 @@ pub struct Weeks {
 }
 
 impl Weeks {
-    ghost use Rattle.tt_bits.specs.Sets.{week_set, weeks_text, weeks_word};
+    ghost use Rattle.tt_bits.specs.Sets.{week_set, set_text, weeks_text, weeks_word};
     ghost use Rattle.tt_bits.specs.Words.{word_set};
 
     /// The weeks of a text of `n` characters 0 and 1, as in the format of ITC 2019: the leftmost
@@ -93,5 +95,13 @@ impl Weeks {
         ensures in_range { result ≤ 128 }
     {
         self.bits.count_ones() as u8
+    }
+
+    /// The text of `n` weeks, a 1 for each that is in the set, the leftmost for week 0.
+    pub fn text(&self, alloc: Global, n: u8) -> Result<String, AllocError>
+        requires { n ≤ 128 }
+        ensures { IfOk result (λ text. string_bytes text ≡ set_text n (week_set self.now)) }
+    {
+        set_text(alloc, self.bits, n)
     }
 }

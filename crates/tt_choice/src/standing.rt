@@ -1,7 +1,7 @@
 ghost use Rattle.std.specs.Prelude.{◌≡◌, ℕ, ◌<◌, Some, List, length};
 ghost use Rattle.tt_bits.specs.Spots.{spot_at};
 ghost use Rattle.tt_bits.specs.declared.times.Spot.{Spot};
-ghost use Rattle.tt_score.specs.Fits.{student_lists};
+ghost use Rattle.tt_score.specs.Fits.{occupancy_of, student_lists};
 
 use tt_bits::Spot;
 use tt_problem::Problem;
@@ -9,16 +9,15 @@ use tt_roster::conflict;
 use tt_score::Score;
 use tt_state::{State, others_with};
 
-/// What the choices of a student are judged by: a score, the spot of each of its classes or none, and
-/// those of the classes already taken whose parent may be missing yet.
+/// What the choices of a student are judged by: a score, and those of the classes already taken whose
+/// parent may be missing yet.
 #[derive(Drop)]
 pub(crate) struct Standing<'a> {
     problem: &'a Problem,
     score: &'a Score,
-    spots: &'a [Option<Spot>],
     student: u32,
     wanting: &'a [u32],
-    ghost rooms: { (class : ℕ) (spot : Spot) (room : ℕ) → spot_at spots.now class ≡ Some spot → spot.room ≡ Some room → room < problem.now.travel.rooms },
+    ghost rooms: { (class : ℕ) (spot : Spot) (room : ℕ) → spot_at (occupancy_of score.now).spots class ≡ Some spot → spot.room ≡ Some room → room < problem.now.travel.rooms },
     ghost student_within: { student < length (student_lists score.now) },
 }
 
@@ -43,7 +42,6 @@ impl<'a> Standing<'a> {
         Standing {
             problem,
             score,
-            spots: score.occupancy().spots(),
             student,
             wanting,
         }
@@ -82,12 +80,9 @@ impl<'a> Standing<'a> {
 
     /// The spot of a class, if it is placed.
     fn spot_of(&self, class: u32) -> Option<Spot>
-        ensures { result ≡ spot_at self.now.spots.now class }
+        ensures { result ≡ spot_at (occupancy_of self.now.score.now).spots class }
     {
-        match self.spots.get(class as usize) {
-            Some(spot) => *spot,
-            None => None,
-        }
+        self.score.spot(class)
     }
 
     /// Whether two classes are placed, and nobody can attend both.

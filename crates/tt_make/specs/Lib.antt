@@ -1,7 +1,6 @@
 pub mod Classes
 pub mod Courses
 pub mod Draws
-pub mod Members
 pub mod Plain
 pub mod Rooms
 pub mod Rules

@@ -10,10 +10,10 @@ ghost use Rattle.tt_make.specs.Plain.{time_plain, choice_plain, class_plain};
 use crate::choices::Choices;
 use crate::parts::{Part, drawn};
 use crate::times::Times;
-use crate::values::Object;
 use rand_pcg::Lcg64Xsh32;
 use serde_json::Value;
 use std::alloc::{AllocError, Global};
+use tt_json::Object;
 
 /// The classes without a parent, by their ids.
 #[derive(Drop)]

@@ -10,10 +10,11 @@ ghost use Rattle.tt_make.specs.Plain.{course_plain};
 
 use crate::classes::{Children, Parents};
 use crate::parts::{Part, drawn};
-use crate::values::{Object, pair, single};
+use crate::values::{pair, single};
 use rand_pcg::Lcg64Xsh32;
 use serde_json::Value;
 use std::alloc::{AllocError, Global};
+use tt_json::Object;
 
 /// The courses of a problem, by their ids.
 #[derive(Drop)]

@@ -7,10 +7,11 @@ ghost use Rattle.tt_make.specs.Plain.{room_plain};
 
 use crate::draws::draw;
 use crate::parts::Part;
-use crate::values::{Object, single};
+use crate::values::single;
 use rand_pcg::Lcg64Xsh32;
 use serde_json::Value;
 use std::alloc::{AllocError, Global};
+use tt_json::Object;
 
 /// The rooms of a problem, by their ids.
 #[derive(Drop)]

@@ -9,10 +9,10 @@ ghost use Rattle.tt_make.specs.Plain.{rule_plain};
 
 use crate::draws::draw;
 use crate::parts::Part;
-use crate::values::Object;
 use rand_pcg::Lcg64Xsh32;
 use serde_json::Value;
 use std::alloc::{AllocError, Global};
+use tt_json::Object;
 
 /// The distributions of a problem, counted from 0.
 #[derive(Drop)]

@@ -7,10 +7,10 @@ ghost use Rattle.tt_make.specs.Plain.{student_plain, request_plain};
 
 use crate::draws::draw;
 use crate::parts::{Part, drawn};
-use crate::values::Object;
 use rand_pcg::Lcg64Xsh32;
 use serde_json::Value;
 use std::alloc::{AllocError, Global};
+use tt_json::Object;
 
 /// The students of a problem, by their ids.
 #[derive(Drop)]

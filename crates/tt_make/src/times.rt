@@ -8,10 +8,10 @@ ghost use Rattle.tt_make.specs.Plain.{time_plain};
 
 use crate::draws::draw;
 use crate::parts::Part;
-use crate::values::Object;
 use rand_pcg::Lcg64Xsh32;
 use serde_json::Value;
 use std::alloc::{AllocError, Global};
+use tt_json::Object;
 
 /// The times that a class may have.
 #[derive(Drop)]
@@ -31,7 +31,14 @@ impl Part for Times {
         let length = draw(words, 3);
         let weeks = draw(words, 3);
         let penalty = draw(words, 5);
-        time_value(alloc, days, start, length, weeks, penalty)
+        let drawn = DrawnTime {
+            days,
+            start,
+            length,
+            weeks,
+            penalty,
+        };
+        time_value(alloc, drawn)
     }
 }
 
@@ -56,26 +63,29 @@ fn week_word(k: u32) -> &'static str
     WEEKS[k as usize]
 }
 
-#[tactic(auto, unfolding(crate::specs::Classes::time_data))]
-fn time_value(
-    alloc: Global,
+/// The numbers that are drawn for a time, each counted from 0.
+#[derive(Clone, Copy)]
+struct DrawnTime {
     days: u32,
     start: u32,
     length: u32,
     weeks: u32,
     penalty: u32,
-) -> Result<Value, AllocError>
-    requires days { days < 9 }
-    requires start { start < 10 }
-    requires length { length < 3 }
-    requires weeks { weeks < 3 }
-    ensures { IfOk result (λ v. view v ≡ time_data days start length weeks penalty) }
+}
+
+#[tactic(auto, unfolding(crate::specs::Classes::time_data))]
+fn time_value(alloc: Global, drawn: DrawnTime) -> Result<Value, AllocError>
+    requires days { drawn.days < 9 }
+    requires start { drawn.start < 10 }
+    requires length { drawn.length < 3 }
+    requires weeks { drawn.weeks < 3 }
+    ensures { IfOk result (λ v. view v ≡ time_data drawn.days drawn.start drawn.length drawn.weeks drawn.penalty) }
 {
     let time = Object::new(alloc)
-        .text("days", day_word(days))?
-        .number("start", 96 + 12 * start)?
-        .number("length", 10 + 6 * length)?
-        .text("weeks", week_word(weeks))?
-        .number("penalty", penalty)?;
+        .text("days", day_word(drawn.days))?
+        .number("start", 96 + 12 * drawn.start)?
+        .number("length", 10 + 6 * drawn.length)?
+        .text("weeks", week_word(drawn.weeks))?
+        .number("penalty", drawn.penalty)?;
     Ok(time.into_value())
 }

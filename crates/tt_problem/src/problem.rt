@@ -1,7 +1,7 @@
 ghost use Rattle.std.specs.Prelude.{◌≡◌, ◌<◌, ◌≤◌, length, slice_get, Some, IfOk, IfSome};
 ghost use Rattle.tt_travel.specs.Table.{most_rooms};
 ghost use Rattle.tt_problem.specs.Spans.{IsSpanWithin};
-ghost use Rattle.tt_problem.specs.Valid.{AreValidWeights, IsValid, IsValidClass, IsValidRoom, IsValidRule, IsValidStudent};
+ghost use Rattle.tt_problem.specs.Valid.{class_ids, student_ids, AreValidWeights, IsValid, IsValidClass, IsValidRoom, IsValidRule, IsValidStudent};
 ghost use Rattle.tt_problem.specs.RulePlaces.{rules_of};
 ghost use Rattle.tt_problem.specs.Places.{place_of_id, class_id, student_id, class_of, room_of, student_of, subpart_of, config_of, course_of};
 
@@ -274,6 +274,20 @@ impl Problem {
         ensures { result.now ≡ rules_of self.now class }
     {
         self.index.rule_places[class as usize].as_slice()
+    }
+
+    /// The ids of the classes, in order.
+    pub fn class_ids(&self) -> &IndexSet<u32>
+        ensures { result.now.keys ≡ class_ids self.now.classes }
+    {
+        &self.index.ids.classes
+    }
+
+    /// The ids of the students, in order.
+    pub fn student_ids(&self) -> &IndexSet<u32>
+        ensures { result.now.keys ≡ student_ids self.now.students }
+    {
+        &self.index.ids.students
     }
 }
 

@@ -1,6 +1,6 @@
 ghost use Rattle.tt_score.specs.Small.{AreSmall};
 
-use crate::classes::{ClassSums, paid_with, spot_now, with, without};
+use crate::classes::{ClassSums, paid_with, spot_now};
 use crate::closing::newly_closed;
 use crate::group::Group;
 use crate::joint::JointRoster;
@@ -10,7 +10,7 @@ use crate::students::{conflicts_with, students_with_courses, unsectioned_at};
 use crate::totals::{Totals, weighted};
 use crate::trial::costs_with;
 use std::alloc::{AllocError, Global};
-use tt_bits::{Time, Value};
+use tt_bits::{Spot, Time, Value};
 use tt_clash::{Closures, conflicts, conflicts_within};
 use tt_measure::Measure;
 use tt_occupancy::Occupancy;
@@ -35,7 +35,7 @@ pub struct Score {
 }
 
 impl Score {
-    ghost use Rattle.std.specs.Prelude.{◌≡◌, ◌↔◌, ◌<◌, ◌≤◌, ◌++◌, ◌∷◌, All, Some, None, IsSome, IfSome, IfOk, OnOk, OnErr, [], false, true, length, slice_index, replicate, slice_get, slice_set, slice_index_or, option_and_then, take};
+    ghost use Rattle.std.specs.Prelude.{◌≡◌, ◌↔◌, ◌<◌, ◌≤◌, ◌++◌, ◌∷◌, All, Some, None, IsSome, IfSome, IsTrue, IfOk, OnOk, OnErr, [], false, true, length, slice_index, replicate, slice_get, slice_set, slice_index_or, option_and_then, take};
     ghost use Rattle.std.specs.Option.{option_map_or};
     ghost use Rattle.tt_problem.specs.declared.parts.Parts.{Parts};
     ghost use Rattle.tt_problem.specs.declared.parts.Rule.{Rule};
@@ -47,6 +47,7 @@ impl Score {
     ghost use Rattle.tt_score.specs.Amounts.{rule_amount, rule_cost};
     ghost use Rattle.tt_score.specs.Fits.{Fits, plan_of, student_lists, closures_of, occupancy_of, roster_of, group_count};
     ghost use Rattle.tt_base.specs.Lists.{is_listed};
+    ghost use Rattle.tt_bits.specs.Spots.{spot_at};
     ghost use Rattle.tt_roster.specs.Lists.{with_class, without_class, list_of};
     ghost use Rattle.tt_score.specs.Totals.{totals_of};
 
@@ -177,14 +178,7 @@ impl Score {
         ensures fits { Fits problem.now self.new }
     {
         let spot = tt_plan::spot(problem, class, value);
-        self.classes = with(
-            problem,
-            &self.closures,
-            self.plan.as_slice(),
-            class,
-            value,
-            self.classes,
-        );
+        self.classes.add(problem, &self.closures, class, value);
         self.rules = set_in_rules(
             problem,
             &self.occupancy,
@@ -211,14 +205,7 @@ impl Score {
         let Some(value) = self.plan[class as usize] else {
             unreachable!()
         };
-        self.classes = without(
-            problem,
-            &self.closures,
-            self.plan.as_slice(),
-            class,
-            value,
-            self.classes,
-        );
+        self.classes.remove(problem, &self.closures, class, value);
         self.rules = set_in_rules(
             problem,
             &self.occupancy,
@@ -452,5 +439,33 @@ impl Score {
             marks,
             order,
         )
+    }
+
+    /// The value of a class, if it has one.
+    pub fn value(&self, class: u32) -> Option<Value>
+        ensures { result ≡ slice_index_or (plan_of self.now) class None }
+    {
+        match self.plan.get(class as usize) {
+            None => None,
+            Some(value) => *value,
+        }
+    }
+
+    /// The spot of a class, if it is placed.
+    pub fn spot(&self, class: u32) -> Option<Spot>
+        ensures { result ≡ spot_at (occupancy_of self.now).spots class }
+    {
+        match self.occupancy.spots().get(class as usize) {
+            None => None,
+            Some(spot) => *spot,
+        }
+    }
+
+    /// Whether a student has no class.
+    pub fn has_no_class(&self, student: u32) -> bool
+        requires { student < length (student_lists self.now) }
+        ensures { IsTrue result ↔ (list_of (student_lists self.now) student ≡ []) }
+    {
+        self.roster.roster().classes(student).next().is_none()
     }
 }

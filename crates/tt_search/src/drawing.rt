@@ -9,11 +9,9 @@ ghost use Rattle.tt_search.specs.Drawing.{AreCandidates, AreHopeful};
 
 use std::alloc::{AllocError, Global};
 use tt_bits::Value;
-use tt_clash::{Closures, blocked};
 use tt_draw::draw;
 use tt_flags::Flags;
-use tt_plan::{domain_size, spot, value_at};
-use tt_problem::Problem;
+use tt_plan::{domain_size, value_at};
 use tt_state::State;
 
 /// The candidates of a turn, kept while classes are forced to values.
@@ -26,51 +24,37 @@ pub(crate) struct Candidates {
 }
 
 /// Whether a value isn't blocked.
-#[tactic(auto, unfolding(tt_state::specs::Values::blocked_of))]
-pub(crate) fn is_open(problem: &Problem, closures: &Closures, class: u32, value: Value) -> bool
-    requires { IsOfDomain problem.now class value }
-    ensures value { result ≡ is_open problem.now closures.now class value }
-    ensures free { IsTrue result → blocked_of problem.now closures.now class value ≡ None }
+pub(crate) fn is_open(state: &State, class: u32, value: Value) -> bool
+    requires { IsOfDomain state.now.problem class value }
+    ensures value { result ≡ is_open state.now.problem state.now.present.closures class value }
+    ensures free { IsTrue result → blocked_of state.now.problem state.now.present.closures class value ≡ None }
 {
-    blocked(problem, closures, class, spot(problem, class, value)).is_none()
+    state.blocked(class, value).is_none()
 }
 
 /// Whether a class has a value that isn't blocked.
 #[tactic(auto, using(tt_base::proofs::ListLemmas::drop_at))]
-fn has_open_value(problem: &Problem, closures: &Closures, class: u32) -> bool
-    requires { class < length problem.now.classes }
-    ensures { result ≡ has_open_value problem.now closures.now class }
+fn has_open_value(state: &State, class: u32) -> bool
+    requires { class < length state.now.problem.classes }
+    ensures { result ≡ has_open_value state.now.problem state.now.present.closures class }
 {
+    let problem = state.problem();
     for k in 0..domain_size(problem, class) {
-        if is_open(problem, closures, class, value_at(problem, class, k)) {
+        if is_open(state, class, value_at(problem, class, k)) {
             return true;
         }
     }
     false
 }
 
-/// The value that a class has in a plan.
-pub(crate) fn value_of(plan: &[Option<Value>], class: u32) -> Option<Value>
-    ensures { result ≡ slice_index_or plan.now class None }
-{
-    match plan.get(class as usize) {
-        None => None,
-        Some(value) => *value,
-    }
-}
-
 /// Whether each class has an open value.
-fn hopeful_classes(
-    alloc: Global,
-    problem: &Problem,
-    closures: &Closures,
-) -> Result<Vec<bool>, AllocError>
-    ensures whole { IfOk result (λ flags. length flags.items ≡ length problem.now.classes) }
-    ensures hopeful { IfOk result (λ flags. (class : ℕ) → class < length problem.now.classes → slice_index_or flags.items class false ≡ has_open_value problem.now closures.now class) }
+fn hopeful_classes(alloc: Global, state: &State) -> Result<Vec<bool>, AllocError>
+    ensures whole { IfOk result (λ flags. length flags.items ≡ length state.now.problem.classes) }
+    ensures hopeful { IfOk result (λ flags. (class : ℕ) → class < length state.now.problem.classes → slice_index_or flags.items class false ≡ has_open_value state.now.problem state.now.present.closures class) }
 {
     let mut flags = Vec::new(alloc);
-    for class in 0..problem.class_count() {
-        flags.push(has_open_value(problem, closures, class))?;
+    for class in 0..state.problem().class_count() {
+        flags.push(has_open_value(state, class))?;
     }
     Ok(flags)
 }
@@ -81,7 +65,7 @@ impl Candidates {
         ensures { IfOk result (λ c. AreCandidates state.now.problem state.now.present c []) }
     {
         let count = state.problem().class_count();
-        let hopeful = hopeful_classes(alloc, state.problem(), state.score().closures())?;
+        let hopeful = hopeful_classes(alloc, state)?;
         let free = Flags::new(alloc, count)?;
         let mut candidates = Candidates { hopeful, free };
         candidates.look_at_all(state);
@@ -108,7 +92,7 @@ impl Candidates {
         if class >= state.problem().class_count() {
             return;
         }
-        let unplaced = value_of(state.score().plan(), class).is_none();
+        let unplaced = state.score().value(class).is_none();
         self.free
             .set(class, unplaced && self.hopeful[class as usize]);
     }

@@ -9,7 +9,7 @@ ghost use Rattle.tt_search.specs.Drawing.{AreCandidates};
 ghost use Rattle.tt_search.specs.Full.{full_price, full_value};
 ghost use Rattle.tt_search.specs.Numbers.{IsOpenValue, IsPriced, after_move, offered};
 
-use crate::drawing::{Candidates, is_open, value_of};
+use crate::drawing::{Candidates, is_open};
 use crate::price::{Price, is_stray};
 use tt_bits::{Key, Value};
 use tt_plan::{domain_size, value_at};
@@ -35,7 +35,7 @@ fn toll(state: &State, class: u32, value: Value, other: u32) -> u128
     ensures toll { result ≡ toll_of state.now.present class value other }
     ensures small { result ≤ 2 ^ 64 }
 {
-    let Some(other_value) = value_of(state.score().plan(), other) else {
+    let Some(other_value) = state.score().value(other) else {
         return 1;
     };
     let key = Key {
@@ -150,7 +150,7 @@ fn choice(state: &mut State, published: Option<&Published>, class: u32) -> Optio
     let mut best: Option<Offer> = None;
     for k in 0..domain_size(state.problem(), class) {
         let value = value_at(state.problem(), class, k);
-        if is_open(state.problem(), state.score().closures(), class, value) {
+        if is_open(state, class, value) {
             best = look_at(state, published, class, value, best);
         }
     }

@@ -2,7 +2,6 @@ ghost use Rattle.std.specs.Prelude.{◌≡◌, ◌+◌, ◌==◌, ◌∷◌, ◌
 ghost use Rattle.std.specs.List.{list_any};
 ghost use Rattle.tt_plan.specs.Domain.{IsOfDomain};
 ghost use Rattle.tt_state.specs.History.{with_taken};
-ghost use Rattle.tt_state.specs.Snapshots.{value_in};
 ghost use Rattle.tt_state.specs.Values.{blocked_of, conflicts_of};
 ghost use Rattle.tt_suggest.specs.Tree.{gives_child, is_on, is_value, may_follow, stays_at_root};
 ghost use Rattle.tt_suggest.specs.Walks.{node_of};
@@ -25,16 +24,6 @@ pub(crate) struct Branch {
     pub spare: u32,
     /// How many published classes are moved.
     pub moved: u32,
-}
-
-/// The value that a class has at present.
-fn value_now(state: &State, class: u32) -> Option<Value>
-    ensures { result ≡ value_in state.now.present class }
-{
-    match state.score().plan().get(class as usize) {
-        None => None,
-        Some(value) => *value,
-    }
 }
 
 /// Whether a value is the one that a class has.
@@ -66,7 +55,7 @@ impl Branch {
     fn stays_at_root(&self, state: &State, value: Value) -> bool
         ensures { result ≡ stays_at_root state.now.present self.now.path.items self.now.class value }
     {
-        let at_value = is_value(value_now(state, self.class), value);
+        let at_value = is_value(state.score().value(self.class), value);
         self.path.len() == 0 && at_value
     }
 

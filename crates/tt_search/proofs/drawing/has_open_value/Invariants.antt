@@ -6,4 +6,4 @@ use Rattle.tt_search.proofs.drawing.has_open_value.Given as goal
 
 abbrev pub invariant-loop-k : goal.invariant-loop-k
 invariant-loop-k l =
-    list_any (is_open l.problem l.closures l.class) (drop l.k (domain_of l.problem l.class)) ≡ has_open_value l.problem l.closures l.class
+    list_any (is_open l.state.problem l.state.present.closures l.class) (drop l.k (domain_of l.state.problem l.class)) ≡ has_open_value l.state.problem l.state.present.closures l.class

@@ -1,0 +1,10 @@
+//! Tests of what looks for a better timetable: the least enrolment, descent, the search, the repair
+//! and `recall`. It has no code of its own.
+#![tactic(auto)]
+
+#[cfg(test)]
+mod enrol_tests;
+#[cfg(test)]
+mod improve_tests;
+#[cfg(test)]
+mod search_tests;

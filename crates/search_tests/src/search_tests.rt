@@ -1,0 +1,140 @@
+ghost use Rattle.std.specs.Prelude.{IfOk};
+ghost use Rattle.tt_solution.specs.Timetable.{IsTimetableOf};
+
+use std::alloc::Global;
+use std::test::Fail;
+use test_help::{assigns, forces, small_problem, state_of};
+use tt_fields::FileFault;
+use tt_io::{Progress, Silent, Watcher};
+use tt_problem::Problem;
+use tt_read::read;
+use tt_search::{recall, repair, search};
+use tt_solution::{Published, read_published};
+use tt_state::State;
+
+/// A class with two times, the first without a penalty, and a student of its course.
+const TWO_TIMES: &str = r#"{"nrDays":1,"nrWeeks":1,"slotsPerDay":288,
+    "optimization":{"time":1,"room":1,"distribution":1,"student":1},
+    "courses":[{"id":1,"configs":[{"subparts":[{"classes":[{"id":1,"room":false,"times":[
+        {"days":"1","start":10,"length":4,"weeks":"1","penalty":0},
+        {"days":"1","start":20,"length":4,"weeks":"1","penalty":5}]}]}]}]}],
+    "students":[{"id":7,"courses":[1]}]}"#;
+
+/// That class, published at the second time with that student.
+const SECOND_TIME: &str =
+    r#"{"classes":[{"id":1,"days":"1","start":20,"weeks":"1","students":[7]}]}"#;
+
+/// Two classes that can't be at once in their one room, of which the second has two times.
+const ONE_ROOM: &str = r#"{"nrDays":1,"nrWeeks":1,"slotsPerDay":288,
+    "optimization":{"time":1,"room":1,"distribution":1,"student":1},
+    "rooms":[{"id":1}],
+    "courses":[{"id":1,"configs":[{"subparts":[{"classes":[
+        {"id":1,"rooms":[{"id":1,"penalty":0}],"times":[
+            {"days":"1","start":10,"length":4,"weeks":"1","penalty":9}]},
+        {"id":2,"rooms":[{"id":1,"penalty":0}],"times":[
+            {"days":"1","start":10,"length":4,"weeks":"1","penalty":0},
+            {"days":"1","start":11,"length":4,"weeks":"1","penalty":3}]}]}]}]}]}"#;
+
+// The timetable that is published for a problem.
+fn published(alloc: Global, problem: &Problem) -> Result<Published, FileFault>
+    ensures { IfOk result (λ t. IsTimetableOf problem.now t) }
+{
+    read_published(alloc, problem, SECOND_TIME.as_bytes())
+}
+
+// The total and the number of unplaced classes.
+fn totals(state: &State) -> (u128, u32) {
+    let totals = state.totals();
+    (totals.total, totals.unplaced)
+}
+
+// A watcher that counts what it is told, and keeps the last.
+#[derive(Drop)]
+struct Counting {
+    times: u32,
+    last: Option<Progress>,
+}
+
+impl Watcher for Counting {
+    fn tell(&mut self, progress: Progress) {
+        self.times = self.times.saturating_add(1);
+        self.last = Some(progress);
+    }
+
+    fn end(&mut self) {}
+}
+
+#[test]
+fn a_search_of_no_turn_changes_nothing(rt: HostRuntime) -> Result<(), Fail> {
+    let mut state = State::start(rt.alloc(), small_problem(rt.alloc())?).expect(&rt, "memory");
+    assert!(rt; search(rt.alloc(), &mut state, 0, 5, &mut Silent) == Ok(0));
+    assert!(rt; totals(&state) == (0, 1));
+    drop(state);
+    Ok(())
+}
+
+#[test]
+fn a_search_counts_what_was_pushed_out(rt: HostRuntime) -> Result<(), Fail> {
+    let mut state = state_of(rt.alloc(), ONE_ROOM.as_bytes())?;
+    assert!(rt; assigns(&mut state, 0, 1, Some(1)));
+    assert!(rt; forces(&mut state, 1, 1, Some(1)));
+    assert!(rt; forces(&mut state, 0, 1, Some(1)));
+    assert!(rt; totals(&state) == (9, 1));
+    assert!(rt; search(rt.alloc(), &mut state, 1, 1, &mut Silent) == Ok(1));
+    assert!(rt; totals(&state) == (3, 1));
+    drop(state);
+    Ok(())
+}
+
+#[test]
+fn a_search_tells_each_turn(rt: HostRuntime) -> Result<(), Fail> {
+    let mut state = state_of(rt.alloc(), ONE_ROOM.as_bytes())?;
+    let mut watcher = Counting {
+        times: 0,
+        last: None,
+    };
+    assert!(rt; search(rt.alloc(), &mut state, 5, 1, &mut watcher) == Ok(5));
+    let last = Progress::Turns {
+        made: 5,
+        of: 5,
+        unplaced: 1,
+    };
+    assert!(rt; watcher.times == 5);
+    assert!(rt; watcher.last == Some(last));
+    drop(state);
+    Ok(())
+}
+
+#[test]
+fn a_search_takes_the_least_total(rt: HostRuntime) -> Result<(), Fail> {
+    let mut state = state_of(rt.alloc(), TWO_TIMES.as_bytes())?;
+    assert!(rt; search(rt.alloc(), &mut state, 1, 1, &mut Silent) == Ok(1));
+    assert!(rt; totals(&state) == (0, 0));
+    drop(state);
+    Ok(())
+}
+
+#[test]
+fn a_repair_keeps_to_what_is_published(rt: HostRuntime) -> Result<(), Fail> {
+    let problem = read(rt.alloc(), TWO_TIMES.as_bytes())?;
+    let published = published(rt.alloc(), &problem).expect(&rt, "published");
+    let mut state = State::start(rt.alloc(), problem).expect(&rt, "memory");
+    assert!(rt; repair(rt.alloc(), &mut state, &published, 1, 1, &mut Silent) == Ok(1));
+    assert!(rt; totals(&state) == (5, 0));
+    drop(state);
+    drop(published);
+    Ok(())
+}
+
+#[test]
+fn what_is_published_is_recalled(rt: HostRuntime) -> Result<(), Fail> {
+    let problem = read(rt.alloc(), TWO_TIMES.as_bytes())?;
+    let published = published(rt.alloc(), &problem).expect(&rt, "published");
+    let mut state = State::start(rt.alloc(), problem).expect(&rt, "memory");
+    assert!(rt; recall(&mut state, &published) == Ok(()));
+    assert!(rt; totals(&state) == (5, 0));
+    assert!(rt; state.totals().unsectioned == 0);
+    drop(state);
+    drop(published);
+    Ok(())
+}

@@ -1,0 +1,159 @@
+ghost use Rattle.std.specs.Prelude.{◌≡◌, length, replicate, None};
+ghost use Rattle.tt_score.specs.Fits.{Fits, plan_of};
+
+use std::test::Fail;
+use test_help::value;
+use tt_clash::{Block, Closures, blocked};
+use tt_plan::spot;
+use tt_problem::Problem;
+use tt_read::read;
+use tt_score::Score;
+
+/// Two classes that share a room, and two that need none: one day in all for the latter two, and no
+/// day that the second and the last both meet on.
+const TEXT: &str = r#"{"nrDays":3,"nrWeeks":1,"slotsPerDay":288,
+    "optimization":{"time":1,"room":1,"distribution":1,"student":1},
+    "rooms":[{"id":71,"unavailable":[{"days":"100","start":0,"length":9,"weeks":"1"}]}],
+    "courses":[{"id":40,"configs":[{"subparts":[{"classes":[
+        {"id":21,"rooms":[{"id":71,"penalty":0}],"times":[
+            {"days":"100","start":10,"length":4,"weeks":"1","penalty":0},
+            {"days":"100","start":4,"length":4,"weeks":"1","penalty":0}]},
+        {"id":22,"rooms":[{"id":71,"penalty":0}],"times":[
+            {"days":"100","start":12,"length":4,"weeks":"1","penalty":0}]},
+        {"id":23,"room":false,"times":[
+            {"days":"010","start":30,"length":4,"weeks":"1","penalty":0},
+            {"days":"110","start":30,"length":4,"weeks":"1","penalty":0}]},
+        {"id":24,"room":false,"times":[
+            {"days":"100","start":30,"length":4,"weeks":"1","penalty":0}]}]}]}]}],
+    "distributions":[
+        {"type":"SameStart","penalty":1,"classes":[21,22]},
+        {"type":"MaxDays(1)","required":true,"classes":[23,24]},
+        {"type":"DifferentDays","required":true,"classes":[22,24]}]}"#;
+
+// Whether a value is blocked by its closed room, by the rule that the class alone breaks, or not.
+fn says_why(problem: &Problem, closures: &Closures) -> bool {
+    let Some(open) = value(problem, 0, 1, Some(71)) else {
+        return false;
+    };
+    let Some(closed) = value(problem, 0, 2, Some(71)) else {
+        return false;
+    };
+    let Some(long) = value(problem, 2, 2, None) else {
+        return false;
+    };
+    blocked(problem, closures, 0, spot(problem, 0, open)) == None
+        && blocked(problem, closures, 0, spot(problem, 0, closed)) == Some(Block::Closed)
+        && blocked(problem, closures, 2, spot(problem, 2, long)) == Some(Block::Rule(1))
+}
+
+// Whether the class in the room has to go for another there.
+fn makes_room(problem: &Problem, score: &mut Score) -> bool
+    requires fits { Fits problem.now score.old }
+    requires plan { plan_of score.old ≡ replicate (length problem.now.classes) None }
+{
+    if problem.class_count() != 4 {
+        return false;
+    }
+    let Some(there) = value(problem, 1, 1, Some(71)) else {
+        return false;
+    };
+    let Some(value) = value(problem, 0, 1, Some(71)) else {
+        return false;
+    };
+    score.place(problem, 1, there);
+    if blocked(problem, score.closures(), 0, spot(problem, 0, value)).is_some() {
+        return false;
+    }
+    let mut marks = [false; 4];
+    let mut order = [9; 4];
+    let count = score.conflicts(problem, 0, value, &mut marks, &mut order);
+    count == 1 && order[0] == 1 && marks == [false; 4]
+}
+
+// Whether the class that breaks a pair rule has to go, and then the one that takes a day too many.
+fn makes_days(problem: &Problem, score: &mut Score) -> bool
+    requires fits { Fits problem.now score.old }
+    requires plan { plan_of score.old ≡ replicate (length problem.now.classes) None }
+    ensures { Fits problem.now score.new }
+{
+    if problem.class_count() != 4 {
+        return false;
+    }
+    let Some(there) = value(problem, 1, 1, Some(71)) else {
+        return false;
+    };
+    let Some(early) = value(problem, 2, 1, None) else {
+        return false;
+    };
+    let Some(value) = value(problem, 3, 1, None) else {
+        return false;
+    };
+    score.place(problem, 1, there);
+    score.place(problem, 2, early);
+    if blocked(problem, score.closures(), 3, spot(problem, 3, value)).is_some() {
+        return false;
+    }
+    let mut marks = [false; 4];
+    let mut order = [9; 4];
+    let count = score.conflicts(problem, 3, value, &mut marks, &mut order);
+    count == 2 && order[0] == 1 && order[1] == 2 && score.totals().unplaced == 2
+}
+
+// What becomes of asking for no more than so many classes that have to go for the last class, where
+// one breaks a pair rule with it, and another takes a day too many.
+fn count_within(problem: &Problem, score: &mut Score, most: u32) -> Option<u32>
+    requires { Fits problem.now score.old }
+    ensures fits { Fits problem.now score.new }
+    ensures plan { plan_of score.new ≡ plan_of score.old }
+{
+    if problem.class_count() != 4 {
+        return None;
+    }
+    let value = value(problem, 3, 1, None)?;
+    if blocked(problem, score.closures(), 3, spot(problem, 3, value)).is_some() {
+        return None;
+    }
+    let mut marks = [false; 4];
+    let mut order = [9; 4];
+    score.conflicts_within(problem, 3, value, most, &mut marks, &mut order)
+}
+
+// Whether two classes have to go then, and none before.
+fn counts_no_further(problem: &Problem, score: &mut Score) -> bool
+    requires fits { Fits problem.now score.old }
+    requires plan { plan_of score.old ≡ replicate (length problem.now.classes) None }
+{
+    let before = count_within(problem, score, 0);
+    before == Some(0)
+        && makes_days(problem, score)
+        && count_within(problem, score, 2) == Some(2)
+        && count_within(problem, score, 1) == None
+}
+
+#[test]
+fn a_value_is_blocked_by_a_closed_room_or_a_rule(rt: HostRuntime) -> Result<(), Fail> {
+    let problem = read(rt.alloc(), TEXT.as_bytes())?;
+    assert!(rt; says_why(&problem, &Closures::new(rt.alloc())));
+    drop(problem);
+    Ok(())
+}
+
+#[test]
+fn a_class_in_the_room_has_to_go(rt: HostRuntime) -> Result<(), Fail> {
+    let problem = read(rt.alloc(), TEXT.as_bytes())?;
+    let mut score = Score::new(rt.alloc(), &problem).expect(&rt, "memory");
+    assert!(rt; makes_room(&problem, &mut score));
+    drop(score);
+    drop(problem);
+    Ok(())
+}
+
+#[test]
+fn classes_that_break_rules_have_to_go(rt: HostRuntime) -> Result<(), Fail> {
+    let problem = read(rt.alloc(), TEXT.as_bytes())?;
+    let mut score = Score::new(rt.alloc(), &problem).expect(&rt, "memory");
+    assert!(rt; counts_no_further(&problem, &mut score));
+    drop(score);
+    drop(problem);
+    Ok(())
+}

@@ -1,0 +1,142 @@
+use std::test::Fail;
+use test_help::{assigns, forces, state_of, value};
+use tt_bits::{Key, Value};
+use tt_clash::blocked;
+use tt_plan::spot;
+use tt_state::{Refusal, State};
+
+/// A room with two classes that may meet in it at one time, the second also a slot later; and a
+/// student who needs both.
+const TEXT: &str = r#"{"nrDays":1,"nrWeeks":1,"slotsPerDay":288,
+    "optimization":{"time":1,"room":1,"distribution":1,"student":1},
+    "rooms":[{"id":1}],
+    "courses":[{"id":1,"configs":[{"subparts":[
+        {"classes":[{"id":1,"rooms":[{"id":1,"penalty":0}],"times":[
+            {"days":"1","start":10,"length":4,"weeks":"1","penalty":0}]}]},
+        {"classes":[{"id":2,"rooms":[{"id":1,"penalty":0}],"times":[
+            {"days":"1","start":10,"length":4,"weeks":"1","penalty":2},
+            {"days":"1","start":11,"length":4,"weeks":"1","penalty":3}]}]}]}]}],
+    "students":[{"id":1,"courses":[1]}]}"#;
+
+/// The first value of each class.
+const FIRST: Value = Value { time: 0, room: 0 };
+
+// How often the second class at a value has pushed out the first class.
+fn count(state: &State, value: Value) -> u64 {
+    state.statistics().count(Key {
+        class: 1,
+        value,
+        other: 0,
+        other_value: FIRST,
+    })
+}
+
+// Whether the second class, a slot later in a step, takes the first one out, and goes back.
+fn forces_in_a_step(state: &mut State) -> bool {
+    let Some(value) = value(state.problem(), 1, 2, Some(1)) else {
+        return false;
+    };
+    if state.begin().is_err() {
+        return false;
+    }
+    let moment = state.mark_now();
+    if state.force_step(1, value) != Ok(()) {
+        return false;
+    }
+    let with = [state.totals().time, count(state, value)];
+    state.roll_back(moment);
+    with == [3, 1]
+        && state.score().plan() == [Some(FIRST), None].as_slice()
+        && count(state, value) == 0
+}
+
+// Whether the second class would push out the first one, and what the total would be.
+#[tactic(auto, unfolding(tt_state::specs::Values::blocked_of))]
+fn tries(state: &mut State) -> bool {
+    let Some(value) = value(state.problem(), 1, 2, Some(1)) else {
+        return false;
+    };
+    let spot = spot(state.problem(), 1, value);
+    if blocked(state.problem(), state.score().closures(), 1, spot).is_some() {
+        return false;
+    }
+    state.find_conflicts(1, value);
+    state.taken() == [0].as_slice() && state.trial(1, value) == 3
+}
+
+// Whether the second class, a slot later, would push out no more than so many classes.
+#[tactic(auto, unfolding(tt_state::specs::Values::blocked_of))]
+fn pushes_out_at_most(state: &mut State, most: u32) -> bool {
+    let Some(value) = value(state.problem(), 1, 2, Some(1)) else {
+        return false;
+    };
+    let spot = spot(state.problem(), 1, value);
+    if blocked(state.problem(), state.score().closures(), 1, spot).is_some() {
+        return false;
+    }
+    state.find_conflicts_within(1, value, most)
+}
+
+// Whether a student gets a list in a step, and loses it by an empty one.
+fn sections_in_a_step(state: &mut State) -> bool {
+    if state.problem().class_count() != 2 || state.problem().student_count() != 1 {
+        return false;
+    }
+    if state.begin().is_err() || state.section_step(0, &[1, 0]) != Ok(()) {
+        return false;
+    }
+    let with = state.totals().unsectioned;
+    if state.section_step(0, &[1]) != Err(Refusal::BadSection) {
+        return false;
+    }
+    if state.section_step(0, &[]) != Ok(()) {
+        return false;
+    }
+    with == 0 && state.totals().unsectioned == 1 && state.mark_now() == 2
+}
+
+#[test]
+fn a_forced_class_takes_another_out_and_gives_it_back(rt: HostRuntime) -> Result<(), Fail> {
+    let mut state = state_of(rt.alloc(), TEXT.as_bytes())?;
+    assert!(rt; assigns(&mut state, 0, 1, Some(1)));
+    assert!(rt; forces(&mut state, 1, 1, Some(1)));
+    assert!(rt; state.taken() == [0].as_slice());
+    assert!(rt; state.score().plan() == [None, Some(FIRST)].as_slice());
+    assert!(rt; count(&state, FIRST) == 1);
+    assert!(rt; state.undo() == Ok(()));
+    assert!(rt; state.score().plan() == [Some(FIRST), None].as_slice());
+    assert!(rt; count(&state, FIRST) == 0);
+    assert!(rt; state.taken() == [0].as_slice());
+    assert!(rt; forces_in_a_step(&mut state));
+    assert!(rt; tries(&mut state));
+    drop(state);
+    Ok(())
+}
+
+#[test]
+fn a_conflict_set_is_found_up_to_a_number_of_classes(rt: HostRuntime) -> Result<(), Fail> {
+    let mut state = state_of(rt.alloc(), TEXT.as_bytes())?;
+    assert!(rt; pushes_out_at_most(&mut state, 0));
+    assert!(rt; assigns(&mut state, 0, 1, Some(1)));
+    assert!(rt; pushes_out_at_most(&mut state, 1));
+    assert!(rt; state.taken() == [0].as_slice());
+    assert!(rt; !pushes_out_at_most(&mut state, 0));
+    assert!(rt; state.taken().len() == 0);
+    drop(state);
+    Ok(())
+}
+
+#[test]
+fn a_student_gets_a_list_within_a_step(rt: HostRuntime) -> Result<(), Fail> {
+    let mut state = state_of(rt.alloc(), TEXT.as_bytes())?;
+    assert!(rt; sections_in_a_step(&mut state));
+    drop(state);
+    Ok(())
+}
+
+#[test]
+fn a_refusal_for_want_of_memory_is_told_as_such(rt: HostRuntime) -> Result<(), Fail> {
+    let want = Refusal::Memory.want_of_memory();
+    assert_eq!(rt; Refusal::from(want), Refusal::Memory);
+    Ok(())
+}

@@ -1,0 +1,100 @@
+ghost use Rattle.std.specs.Prelude.{◌≡◌, length, replicate, None, []};
+ghost use Rattle.tt_roster.specs.Kept.{IsRosterOf};
+
+use std::test::Fail;
+use test_help::{problem, value};
+use tt_plan::spot;
+use tt_problem::Problem;
+use tt_problem::sums::most_seats;
+use tt_roster::Roster;
+
+// Whether a student of a new roster gets a class and leaves it.
+#[tactic(auto, using(tt_problem::proofs::SpanLemmas::few_subparts))]
+fn seats_a_student(problem: &Problem, roster: &mut Roster) -> bool
+    requires fits { IsRosterOf problem.now roster.old }
+    requires seats { roster.old.seats ≡ replicate (length problem.now.students) [] }
+{
+    problem.validity();
+    if problem.class_count() != 3 || problem.student_count() != 2 {
+        return false;
+    }
+    if most_seats(problem.parts(), problem.student(1)) != 2 {
+        return false;
+    }
+    roster.seat(problem, 1, 2);
+    let with = [roster.count(2), roster.count(0)] == [1, 0];
+    let class = roster.classes(1).next();
+    let student = roster.students(2).next();
+    roster.leave(problem, 1, 2);
+    with && [class, student] == [Some(2), Some(1)] && roster.count(2) == 0
+}
+
+// Whether a class of a new roster takes a spot and leaves it, without a conflict where nobody has
+// a class.
+fn places_a_class(problem: &Problem, roster: &mut Roster) -> bool
+    requires fits { IsRosterOf problem.now roster.old }
+    requires spots { roster.old.spots ≡ replicate (length problem.now.classes) None }
+{
+    if problem.class_count() != 3 {
+        return false;
+    }
+    let Some(value) = value(problem, 0, 1, Some(71)) else {
+        return false;
+    };
+    let spot = spot(problem, 0, value);
+    roster.place(problem, 0, spot);
+    let conflicts = [roster.conflicts(), roster.class_gain(problem, 2, spot)];
+    roster.unplace(problem, 0);
+    conflicts == [0, 0] && roster.conflicts() == 0
+}
+
+// Whether the joint row of a class has the student whom it has in common with another class.
+#[tactic(auto, using(tt_problem::proofs::SpanLemmas::few_subparts))]
+fn counts_a_common_student(problem: &Problem, roster: &mut Roster) -> bool
+    requires fits { IsRosterOf problem.now roster.old }
+    requires seats { roster.old.seats ≡ replicate (length problem.now.students) [] }
+{
+    problem.validity();
+    if problem.class_count() != 3 || problem.student_count() != 2 {
+        return false;
+    }
+    if most_seats(problem.parts(), problem.student(0)) != 2 {
+        return false;
+    }
+    roster.seat(problem, 0, 0);
+    roster.seat(problem, 0, 2);
+    let mut row = [0; 3];
+    let mut touched = [0; 3];
+    let met = roster.joint_row(0, &mut row, &mut touched);
+    met == 1 && row == [0, 0, 1] && touched[0] == 2 && roster.spots().len() == 3
+}
+
+#[test]
+fn a_student_gets_a_class_and_leaves_it(rt: HostRuntime) -> Result<(), Fail> {
+    let problem = problem(rt.alloc())?;
+    let mut roster = Roster::new(rt.alloc(), &problem).expect(&rt, "memory");
+    assert!(rt; seats_a_student(&problem, &mut roster));
+    drop(roster);
+    drop(problem);
+    Ok(())
+}
+
+#[test]
+fn a_class_takes_a_spot_and_leaves_it(rt: HostRuntime) -> Result<(), Fail> {
+    let problem = problem(rt.alloc())?;
+    let mut roster = Roster::new(rt.alloc(), &problem).expect(&rt, "memory");
+    assert!(rt; places_a_class(&problem, &mut roster));
+    drop(roster);
+    drop(problem);
+    Ok(())
+}
+
+#[test]
+fn joint_row_has_the_common_students(rt: HostRuntime) -> Result<(), Fail> {
+    let problem = problem(rt.alloc())?;
+    let mut roster = Roster::new(rt.alloc(), &problem).expect(&rt, "memory");
+    assert!(rt; counts_a_common_student(&problem, &mut roster));
+    drop(roster);
+    drop(problem);
+    Ok(())
+}

@@ -1,0 +1,156 @@
+use std::test::Fail;
+use test_help::{assigns, problem, small_problem, value};
+use tt_bits::{Days, Time, Weeks};
+use tt_score::Totals;
+use tt_state::{Refusal, State};
+
+// Whether the class that needs no room loses its value.
+fn unassigns(state: &mut State) -> bool {
+    if state.problem().class_count() != 3 || state.unassign(1) != Ok(()) {
+        return false;
+    }
+    state.totals().unplaced == 3
+}
+
+// Whether a class without a value has none to lose.
+fn refuses_to_unassign(state: &mut State) -> bool {
+    state.problem().class_count() == 3 && state.unassign(1) == Err(Refusal::NotPlaced)
+}
+
+// What becomes of giving a student the first and the third class.
+fn section(state: &mut State, student: u32) -> Option<Result<(), Refusal>> {
+    if state.problem().class_count() != 3 || state.problem().student_count() <= student {
+        return None;
+    }
+    Some(state.section(student, &[0, 2]))
+}
+
+// Whether a list without a parent is refused.
+fn refuses_a_list(state: &mut State) -> bool {
+    state.problem().class_count() == 3
+        && state.problem().student_count() == 2
+        && state.section(0, &[2, 1]) == Err(Refusal::BadSection)
+}
+
+// What becomes of taking a student's classes.
+fn drop_student(state: &mut State, student: u32) -> Option<Result<(), Refusal>> {
+    if state.problem().student_count() <= student {
+        return None;
+    }
+    Some(state.drop_student(student))
+}
+
+// Whether the sums are those of the first and the third class at their first times in two rooms, which
+// one student has.
+fn has_totals(state: &State) -> bool {
+    let totals = Totals {
+        time: 9,
+        room: 7,
+        distribution: 14,
+        student: 1,
+        total: 116,
+        hard: 1,
+        unplaced: 1,
+        unsectioned: 1,
+    };
+    state.totals() == totals
+}
+
+// Whether a step goes back to a moment of it.
+fn rolls_back(state: &mut State) -> bool {
+    let Some(value) = value(state.problem(), 0, 1, Some(71)) else {
+        return false;
+    };
+    if state.begin().is_err() {
+        return false;
+    }
+    let moment = state.mark_now();
+    if state.place_step(0, Some(value)).is_err() {
+        return false;
+    }
+    let with = [state.mark_now(), u64::from(state.totals().unplaced)];
+    state.roll_back(moment);
+    state.soundness();
+    let without = [state.mark_now(), u64::from(state.totals().unplaced)];
+    with == [1, 2] && without == [0, 3]
+}
+
+// What becomes of closing the first room within the first time of the first class.
+fn closes(state: &mut State) -> Option<Result<(), Refusal>> {
+    let days = Days::read("10", state.problem().nr_days())?;
+    let weeks = Weeks::read("11", state.problem().nr_weeks())?;
+    let time = Time::new(days, weeks, 12, 1)?;
+    if state.problem().room_count() == 0 {
+        return None;
+    }
+    Some(state.close(0, time))
+}
+
+// The hard conflicts once the room is closed, reopened, and closed again by going back.
+fn hard_with_closures(state: &mut State) -> Option<[u64; 3]> {
+    let Ok(()) = closes(state)? else {
+        return None;
+    };
+    let closed = state.totals().hard;
+    let Ok(()) = state.reopen(0) else {
+        return None;
+    };
+    let reopened = state.totals().hard;
+    let Ok(()) = state.undo() else {
+        return None;
+    };
+    Some([closed, reopened, state.totals().hard])
+}
+
+#[test]
+fn a_class_gets_a_value_and_loses_it(rt: HostRuntime) -> Result<(), Fail> {
+    let mut state = State::start(rt.alloc(), problem(rt.alloc())?).expect(&rt, "memory");
+    assert!(rt; assigns(&mut state, 1, 1, None));
+    assert!(rt; state.totals().time == 8);
+    assert!(rt; unassigns(&mut state));
+    assert!(rt; refuses_to_unassign(&mut state));
+    assert!(rt; state.undo() == Ok(()));
+    assert!(rt; state.totals().time == 8);
+    assert!(rt; state.undo() == Ok(()));
+    assert!(rt; state.score().plan() == [None, None, None].as_slice());
+    assert!(rt; state.undo() == Err(Refusal::NothingToUndo));
+    assert!(rt; rolls_back(&mut state));
+    drop(state);
+    Ok(())
+}
+
+#[test]
+fn a_student_gets_a_list_and_drops_it(rt: HostRuntime) -> Result<(), Fail> {
+    let mut state = State::start(rt.alloc(), problem(rt.alloc())?).expect(&rt, "memory");
+    assert!(rt; refuses_a_list(&mut state));
+    assert!(rt; section(&mut state, 0) == Some(Ok(())));
+    assert!(rt; section(&mut state, 1) == Some(Err(Refusal::NoSeat { class: 2 })));
+    assert!(rt; assigns(&mut state, 0, 1, Some(71)));
+    assert!(rt; assigns(&mut state, 2, 1, Some(72)));
+    assert!(rt; has_totals(&state));
+    assert!(rt; drop_student(&mut state, 0) == Some(Ok(())));
+    assert!(rt; drop_student(&mut state, 0) == Some(Err(Refusal::NotSectioned)));
+    drop(state);
+    Ok(())
+}
+
+#[test]
+fn a_room_is_closed_and_reopened(rt: HostRuntime) -> Result<(), Fail> {
+    let mut state = State::start(rt.alloc(), problem(rt.alloc())?).expect(&rt, "memory");
+    assert!(rt; assigns(&mut state, 0, 1, Some(71)));
+    assert!(rt; assigns(&mut state, 2, 1, Some(72)));
+    assert!(rt; state.reopen(0) == Err(Refusal::NothingClosed));
+    assert!(rt; hard_with_closures(&mut state) == Some([2, 1, 2]));
+    drop(state);
+    Ok(())
+}
+
+#[test]
+fn a_desk_with_all_in_place_is_ready(rt: HostRuntime) -> Result<(), Fail> {
+    let mut state = State::start(rt.alloc(), small_problem(rt.alloc())?).expect(&rt, "memory");
+    assert!(rt; !state.ready());
+    assert!(rt; assigns(&mut state, 0, 1, None));
+    assert!(rt; state.ready());
+    drop(state);
+    Ok(())
+}
