@@ -2,6 +2,8 @@
 #![tactic(auto)]
 
 #[cfg(test)]
+mod desk_tests;
+#[cfg(test)]
 mod failing_tests;
 #[cfg(test)]
 mod piece_tests;

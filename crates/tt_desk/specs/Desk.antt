@@ -45,10 +45,10 @@ use Rattle.tt_desk.specs.declared.refusal.Refusal.{Refusal}
 use Rattle.tt_desk.specs.declared.refusal.Refusal.TheVariants.{BadLine, NoSuchClass, NoSuchStudent, NoSuchTime, RoomNotListed, NoSuchRoom, NotPlaced, Blocked, NoEnrolment, NoSeat, NotSectioned, NothingToUndo, NotReady, NothingPublished, BadTime, NothingClosed, TooManyTries, TooManyClosures}
 use Rattle.tt_desk.specs.declared.refusal.Outcome.{Outcome}
 use Rattle.tt_desk.specs.declared.refusal.Outcome.TheVariants.{Skipped, Accepted, Refused, Ended}
-use Rattle.tt_desk.specs.declared.script.Line.{Line}
-use Rattle.tt_desk.specs.declared.script.Line.TheVariants.{Empty, Bad, Good}
+use Rattle.tt_script.specs.declared.script.Line.{Line}
+use Rattle.tt_script.specs.declared.script.Line.TheVariants.{Empty, Bad, Good}
 use Rattle.tt_desk.specs.Chain.{◌>>=◌, none_or}
-use Rattle.tt_desk.specs.Script.{line_of}
+use Rattle.tt_script.specs.Script.{line_of}
 
 -- a desk, and the published timetable if there is one
 pub record Session : Type 0 where

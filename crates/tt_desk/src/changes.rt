@@ -8,6 +8,7 @@ ghost use Rattle.tt_desk.specs.Causes.{MayTake, block_of};
 use crate::refusal::{Outcome, Refusal};
 use crate::reply::add_taken;
 use crate::session::Session;
+use crate::wanting::Wanting;
 use std::alloc::AllocError;
 use tt_bits::{BitWord, Days, Time, Weeks};
 use tt_clash::Block;
@@ -75,6 +76,7 @@ impl Session {
     ) -> Result<Outcome, AllocError>
         ensures ok { IfOk result (λ outcome. command_step self.old (Command.Assign class time room) ≡ record { session = self.new; outcome = outcome; lines = [] }) }
         ensures memory { OnErr result (MayTake self.old (Command.Assign class time room)) }
+        ensures kept { OnErr result (self.new ≡ self.old) }
     {
         let Some(class) = self.state.problem().class_of(class) else {
             return Ok(Outcome::Refused(Refusal::NoSuchClass));
@@ -92,6 +94,7 @@ impl Session {
     pub(crate) fn unassign(&mut self, class: u32) -> Result<Outcome, AllocError>
         ensures ok { IfOk result (λ outcome. command_step self.old (Command.Unassign class) ≡ record { session = self.new; outcome = outcome; lines = [] }) }
         ensures memory { OnErr result (MayTake self.old (Command.Unassign class)) }
+        ensures kept { OnErr result (self.new ≡ self.old) }
     {
         let Some(class) = self.state.problem().class_of(class) else {
             return Ok(Outcome::Refused(Refusal::NoSuchClass));
@@ -107,6 +110,7 @@ impl Session {
     pub(crate) fn section(&mut self, student: u32, classes: Ids) -> Result<Outcome, AllocError>
         ensures ok { IfOk result (λ outcome. command_step self.old (Command.Section student classes) ≡ record { session = self.new; outcome = outcome; lines = [] }) }
         ensures memory { OnErr result (MayTake self.old (Command.Section student classes)) }
+        ensures kept { OnErr result (self.new ≡ self.old) }
     {
         let Some(classes) = class_places(self.state.problem(), classes) else {
             return Ok(Outcome::Refused(Refusal::NoSuchClass));
@@ -128,6 +132,7 @@ impl Session {
     pub(crate) fn drop_student(&mut self, student: u32) -> Result<Outcome, AllocError>
         ensures ok { IfOk result (λ outcome. command_step self.old (Command.Drop student) ≡ record { session = self.new; outcome = outcome; lines = [] }) }
         ensures memory { OnErr result (MayTake self.old (Command.Drop student)) }
+        ensures kept { OnErr result (self.new ≡ self.old) }
     {
         let Some(student) = self.state.problem().student_of(student) else {
             return Ok(Outcome::Refused(Refusal::NoSuchStudent));
@@ -150,6 +155,7 @@ impl Session {
     ) -> Result<Outcome, AllocError>
         ensures ok { IfOk result (λ outcome. command_step self.old (Command.Close room days start length weeks) ≡ record { session = self.new; outcome = outcome; lines = [] }) }
         ensures memory { OnErr result (MayTake self.old (Command.Close room days start length weeks)) }
+        ensures kept { OnErr result (self.new ≡ self.old) }
     {
         let Some(room) = self.state.problem().room_of(room) else {
             return Ok(Outcome::Refused(Refusal::NoSuchRoom));
@@ -168,6 +174,7 @@ impl Session {
     pub(crate) fn reopen(&mut self, room: u32) -> Result<Outcome, AllocError>
         ensures ok { IfOk result (λ outcome. command_step self.old (Command.Reopen room) ≡ record { session = self.new; outcome = outcome; lines = [] }) }
         ensures memory { OnErr result (MayTake self.old (Command.Reopen room)) }
+        ensures kept { OnErr result (self.new ≡ self.old) }
     {
         let Some(room) = self.state.problem().room_of(room) else {
             return Ok(Outcome::Refused(Refusal::NoSuchRoom));
@@ -197,10 +204,13 @@ impl Session {
         time: u32,
         room: Option<u32>,
         reply: &mut Reply,
-    ) -> Result<Outcome, AllocError>
+    ) -> Result<Outcome, Wanting>
         requires { reply.old ≡ [] }
         ensures ok { IfOk result (λ outcome. command_step self.old (Command.Force class time room) ≡ record { session = self.new; outcome = outcome; lines = reply.new }) }
-        ensures memory { OnErr result (MayTake self.old (Command.Force class time room)) }
+        ensures memory { result ≡ Err Wanting.Command → MayTake self.old (Command.Force class time room) }
+        ensures kept { result ≡ Err Wanting.Command → self.new ≡ self.old }
+        ensures done { result ≡ Err Wanting.Reply → (command_step self.old (Command.Force class time room)).session ≡ self.new }
+        ensures accepted { result ≡ Err Wanting.Reply → (command_step self.old (Command.Force class time room)).outcome ≡ Outcome.Accepted }
     {
         let Some(class) = self.state.problem().class_of(class) else {
             return Ok(Outcome::Refused(Refusal::NoSuchClass));
@@ -211,11 +221,13 @@ impl Session {
         };
         if let Err(refusal) = self.state.force(class, value) {
             let Some(reason) = block_of(refusal) else {
-                return Err(AllocError);
+                return Err(Wanting::Command);
             };
             return Ok(Outcome::Refused(Refusal::Blocked { reason }));
         }
-        add_taken(reply, self.state.problem(), self.state.taken())?;
+        if add_taken(reply, self.state.problem(), self.state.taken()).is_err() {
+            return Err(Wanting::Reply);
+        }
         Ok(Outcome::Accepted)
     }
 }

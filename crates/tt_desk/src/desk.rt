@@ -1,4 +1,4 @@
-ghost use Rattle.std.specs.Prelude.{◌≡◌, ◌<◌, ◌⊎◌, [], IfOk, OnErr, OnOk, length};
+ghost use Rattle.std.specs.Prelude.{◌≡◌, ◌<◌, [], Err, IfOk, OnErr, OnOk, length};
 ghost use Rattle.tt_script.specs.Forms.{HasDepth};
 ghost use Rattle.tt_desk.specs.Desk.{command_step, line_step};
 ghost use Rattle.tt_desk.specs.Refusals.{refusal_line};
@@ -7,11 +7,11 @@ ghost use Rattle.tt_desk.specs.Causes.{IsMemoryCause, MayTake};
 
 use crate::refusal::{Outcome, Refusal};
 use crate::reply::put_refusal;
-use crate::script::{Line, read_line};
 use crate::session::Session;
+use crate::wanting::Wanting;
 use std::alloc::{AllocError, Global};
 use tt_io::Watcher;
-use tt_script::Command;
+use tt_script::{Command, Line, read_line};
 use tt_text::Reply;
 
 impl Session {
@@ -22,39 +22,42 @@ impl Session {
         command: Command,
         reply: &mut Reply,
         watcher: &mut W,
-    ) -> Result<Outcome, AllocError>
+    ) -> Result<Outcome, Wanting>
         requires empty { reply.old ≡ [] }
         requires depth { HasDepth command }
         ensures ok { IfOk result (λ outcome. command_step self.old command ≡ record { session = self.new; outcome = outcome; lines = reply.new }) }
-        ensures memory { OnErr result (MayTake self.old command) }
+        ensures memory { result ≡ Err Wanting.Command → MayTake self.old command }
+        ensures kept { result ≡ Err Wanting.Command → self.new ≡ self.old }
+        ensures done { result ≡ Err Wanting.Reply → (command_step self.old command).session ≡ self.new }
+        ensures words { result ≡ Err Wanting.Reply → HasReply (command_step self.old command).outcome }
     {
         match command {
-            Command::Assign { class, time, room } => self.assign(class, time, room),
-            Command::Unassign { class } => self.unassign(class),
+            Command::Assign { class, time, room } => Ok(self.assign(class, time, room)?),
+            Command::Unassign { class } => Ok(self.unassign(class)?),
             Command::Force { class, time, room } => self.force(class, time, room, reply),
-            Command::Section { student, classes } => self.section(student, classes),
-            Command::Drop { student } => self.drop_student(student),
-            Command::Enrol { student } => self.enrol(alloc, student),
+            Command::Section { student, classes } => Ok(self.section(student, classes)?),
+            Command::Drop { student } => Ok(self.drop_student(student)?),
+            Command::Enrol { student } => Ok(self.enrol(alloc, student)?),
             Command::EnrolAll => self.enrol_all(alloc, reply, watcher),
             Command::Search { turns, seed } => self.search(alloc, turns, seed, reply, watcher),
             Command::Repair { turns, seed } => self.repair(alloc, turns, seed, reply, watcher),
             Command::Improve { rounds, seed } => self.improve(alloc, rounds, seed, reply, watcher),
-            Command::Recall => self.recall(),
+            Command::Recall => Ok(self.recall()?),
             Command::Close {
                 room,
                 days,
                 start,
                 length,
                 weeks,
-            } => self.close(room, days, start, length, weeks),
-            Command::Reopen { room } => self.reopen(room),
+            } => Ok(self.close(room, days, start, length, weeks)?),
+            Command::Reopen { room } => Ok(self.reopen(room)?),
             Command::Undo => Ok(self.undo()),
-            Command::Publish => self.publish(alloc, reply),
+            Command::Publish => Ok(self.publish(alloc, reply)?),
             Command::Totals => Ok(Outcome::Accepted),
-            Command::Explain { class } => self.explain(class, reply),
-            Command::Why { class, time, room } => self.why(class, time, room, reply),
-            Command::Stats { class } => self.stats(class, reply),
-            Command::Suggest { class, depth } => self.suggest(alloc, class, depth, reply),
+            Command::Explain { class } => Ok(self.explain(class, reply)?),
+            Command::Why { class, time, room } => Ok(self.why(class, time, room, reply)?),
+            Command::Stats { class } => Ok(self.stats(class, reply)?),
+            Command::Suggest { class, depth } => Ok(self.suggest(alloc, class, depth, reply)?),
             Command::Quit => Ok(Outcome::Ended),
         }
     }
@@ -68,9 +71,12 @@ impl Session {
         line: &[u8],
         reply: &mut Reply,
         watcher: &mut W,
-    ) -> Result<Outcome, AllocError>
+    ) -> Result<Outcome, Wanting>
         ensures ok { IfOk result (λ outcome. line_step self.old line.now ≡ record { session = self.new; outcome = outcome; lines = reply.new }) }
-        ensures memory { OnErr result (IsMemoryCause self.old line.now) }
+        ensures memory { result ≡ Err Wanting.Command → IsMemoryCause self.old line.now }
+        ensures kept { result ≡ Err Wanting.Command → self.new ≡ self.old }
+        ensures done { result ≡ Err Wanting.Reply → (line_step self.old line.now).session ≡ self.new }
+        ensures words { result ≡ Err Wanting.Reply → HasReply (line_step self.old line.now).outcome }
     {
         reply.clear();
         match read_line(alloc, line)? {
@@ -85,9 +91,9 @@ impl Session {
     }
 
     /// Answers a line: does what it asks for, or says why it is refused, and makes the reply,
-    /// whatever that held. Only a line that has a reply may find memory wanting, and then nothing is
-    /// said of the session and the reply. The watcher is told how far a long command has come, and
-    /// when it is over.
+    /// whatever that held. Where memory is wanting, the line was carried out whole or not at all, and
+    /// nothing is said of the reply. The watcher is told how far a long command has come, and when it is
+    /// over.
     #[tactic(auto, using(crate::proofs::ReplyLemmas::cause_replies))]
     pub fn answer<W: Watcher>(
         &mut self,
@@ -95,15 +101,20 @@ impl Session {
         line: &[u8],
         reply: &mut Reply,
         watcher: &mut W,
-    ) -> Result<Outcome, AllocError>
+    ) -> Result<Outcome, Wanting>
         ensures session { OnOk result ((line_step self.old line.now).session ≡ self.new) }
         ensures outcome { IfOk result (λ outcome. (line_step self.old line.now).outcome ≡ outcome) }
         ensures reply { OnOk result (reply_of (line_step self.old line.now) ≡ reply.new) }
-        ensures memory { OnErr result (IsMemoryCause self.old line.now ⊎ HasReply (line_step self.old line.now).outcome) }
+        ensures command { result ≡ Err Wanting.Command → IsMemoryCause self.old line.now }
+        ensures kept { result ≡ Err Wanting.Command → self.new ≡ self.old }
+        ensures words { result ≡ Err Wanting.Reply → HasReply (line_step self.old line.now).outcome }
+        ensures done { result ≡ Err Wanting.Reply → (line_step self.old line.now).session ≡ self.new }
         ensures replies { OnErr result (0 < length (reply_of (line_step self.old line.now))) }
     {
         let outcome = self.do_line(alloc, line, reply, watcher)?;
-        self.finish_reply(reply, outcome)?;
+        if self.finish_reply(reply, outcome).is_err() {
+            return Err(Wanting::Reply);
+        }
         Ok(outcome)
     }
 }

@@ -9,7 +9,9 @@ ghost use Rattle.tt_desk.specs.Replies.{HasReply, counts_text, reply_to, sums_te
 use crate::refusal::{Outcome, Refusal};
 use crate::session::Session;
 use std::alloc::AllocError;
+use tt_enrol::Enrolled;
 use tt_explain::{add_block, add_value};
+use tt_improve::Improved;
 use tt_problem::Problem;
 use tt_score::Totals;
 use tt_solution::Published;
@@ -206,6 +208,35 @@ fn add_best(
             add_result(reply, published, suggestion)
         }
     }
+}
+
+/// How many students were enrolled and how many are left, in an empty reply.
+pub(crate) fn put_enrolled(reply: &mut Reply, counts: Enrolled) -> Result<(), AllocError>
+    requires { reply.old ≡ [] }
+    ensures { OnOk result (reply.new ≡ field (codes "enrolled ") counts.enrolled ++ field (codes " left ") counts.left ++ codes "\n") }
+{
+    reply.field("enrolled ", u128::from(counts.enrolled))?;
+    reply.field(" left ", u128::from(counts.left))?;
+    reply.text("\n")
+}
+
+/// How many turns were made, in an empty reply.
+pub(crate) fn put_turns(reply: &mut Reply, made: u32) -> Result<(), AllocError>
+    requires { reply.old ≡ [] }
+    ensures { OnOk result (reply.new ≡ field (codes "turns ") made ++ codes "\n") }
+{
+    reply.field("turns ", u128::from(made))?;
+    reply.text("\n")
+}
+
+/// How many rounds were made and how many changed something, in an empty reply.
+pub(crate) fn put_rounds(reply: &mut Reply, made: Improved) -> Result<(), AllocError>
+    requires { reply.old ≡ [] }
+    ensures { OnOk result (reply.new ≡ field (codes "rounds ") made.rounds ++ field (codes " changed ") made.changed ++ codes "\n") }
+{
+    reply.field("rounds ", u128::from(made.rounds))?;
+    reply.field(" changed ", u128::from(made.changed))?;
+    reply.text("\n")
 }
 
 /// Appends how many values were tried, and the best suggestion.

@@ -1,4 +1,3 @@
-use thiserror::Error;
 use tt_base::Row;
 use tt_bits::BitWord;
 
@@ -98,12 +97,10 @@ pub enum Command {
 }
 
 /// Why a line gives no command.
-#[derive(Clone, Copy, Debug, PartialEq, Eq, Error)]
-pub enum LineFault {
+#[derive(Clone, Copy, PartialEq, Eq)]
+pub(crate) enum LineFault {
     /// The line is in no form.
-    #[error("the line is in no form")]
     Bad,
     /// Memory wasn't found.
-    #[error("out of memory")]
     Memory,
 }

@@ -16,9 +16,9 @@ use Rattle.tt_desk.specs.declared.refusal.Refusal.{Refusal}
 use Rattle.tt_desk.specs.declared.refusal.Refusal.TheVariants.{BadLine}
 use Rattle.tt_desk.specs.declared.refusal.Outcome.{Outcome}
 use Rattle.tt_desk.specs.declared.refusal.Outcome.TheVariants.{Skipped, Accepted, Refused, Ended}
-use Rattle.tt_desk.specs.declared.script.Line.{Line}
-use Rattle.tt_desk.specs.declared.script.Line.TheVariants.{Empty, Bad, Good}
-use Rattle.tt_desk.specs.Script.{lines_of, line_of}
+use Rattle.tt_script.specs.declared.script.Line.{Line}
+use Rattle.tt_script.specs.declared.script.Line.TheVariants.{Empty, Bad, Good}
+use Rattle.tt_script.specs.Script.{lines_of, line_of}
 use Rattle.tt_desk.specs.Refusals.{refusal_line}
 use Rattle.tt_desk.specs.Desk.{Session, Answer, carried_out, step_from, step_of, line_step}
 use Rattle.tt_desk.specs.Replies.{is_end, is_refused, reply_of, replies_to, refuses}

@@ -4,7 +4,7 @@ use Rattle.std.specs.List.{concat}
 use Rattle.tt_io.specs.Causes.{Writes, one_more, AsksAll}
 use Rattle.tt_io.specs.Whole.{WritesFront}
 use Rattle.tt_io.specs.Lines.{Reader, has_line_end, leading_line, after_line, to_come, StopsIn}
-use Rattle.tt_desk.specs.Script.{lines_of}
+use Rattle.tt_script.specs.Script.{lines_of}
 use Rattle.tt_desk.specs.declared.refusal.Outcome.{Outcome}
 use Rattle.tt_desk.specs.declared.refusal.Outcome.TheVariants.{Ended}
 use Rattle.tt_desk.specs.Desk.{Session, line_step}

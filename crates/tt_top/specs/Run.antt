@@ -2,7 +2,7 @@
 use Rattle.std.specs.Prelude.{◌≡◌, ◌≢◌, ◌≤◌, ◌<◌, ℕ, Bool, List, [], ◌∷◌, ◌++◌, ◌⊎◌, IfSome, IsSome, take, length, if◌then◌else◌, None, Some, Option, option_and_then}
 use Rattle.std.specs.List.{concat}
 use Rattle.tt_io.specs.Causes.{Writes, one_more, AsksAll}
-use Rattle.tt_desk.specs.Script.{lines_of}
+use Rattle.tt_script.specs.Script.{lines_of}
 use Rattle.tt_top.specs.Words.{FileWords, Form, Files, Verify, Demo, Make, first_words, file_words, verify_words}
 use Rattle.tt_top.specs.Opening.{opened, opened_pieces}
 use Rattle.tt_top.specs.Pieces.{taken_of, whole_lines}
