@@ -10,7 +10,7 @@ use crate::Block;
 use crate::closures::Closures;
 use crate::rules::rules_of;
 use tt_bits::{Spot, Time};
-use tt_problem::{DistKind, Problem, Rule};
+use tt_problem::{Problem, Rule};
 
 /// Why the spot is blocked for the class, if it is.
 pub fn blocked(problem: &Problem, closures: &Closures, class: u32, spot: Spot) -> Option<Block>
@@ -61,13 +61,5 @@ fn blocks_alone(problem: &Problem, rule: &Rule, class: u32, spot: Spot) -> bool
     requires weeks { IsBelow problem.now.nr_weeks spot }
     ensures { result ≡ blocks_alone problem.now rule.now class spot }
 {
-    rule.required
-        && match rule.kind {
-            DistKind::MaxDays { most } => u16::from(spot.time.days.count()) > most,
-            DistKind::MaxWeeks { most } => u16::from(spot.time.weeks.count()) > most,
-            DistKind::MaxDayLoad { most } => spot.time.length > most,
-            DistKind::Pair { kind: _ }
-            | DistKind::MaxBreaks { breaks: _, gap: _ }
-            | DistKind::MaxBlock { most: _, gap: _ } => false,
-        }
+    rule.required && rule.kind.exceeds_alone(spot)
 }

@@ -10,6 +10,7 @@ ghost use Rattle.tt_bits.specs.declared.times.Closure.{Closure};
 ghost use Rattle.tt_travel.specs.Table.{Table};
 ghost use Rattle.tt_problem.specs.declared.parts.DistKind.{DistKind};
 ghost use Rattle.tt_problem.specs.declared.parts.Parts.{Parts};
+ghost use Rattle.tt_problem.specs.Kinds.{stays_at_0};
 ghost use Rattle.tt_problem.specs.RulePlaces.{rules_of};
 ghost use Rattle.tt_problem.specs.Valid.{IsValid};
 ghost use Rattle.tt_clash.specs.Amounts.{kind_amount, rule_amounts};
@@ -18,7 +19,7 @@ ghost use Rattle.tt_clash.specs.Blocked.{blocked_by};
 ghost use Rattle.tt_clash.specs.ConflictSet.{can_go, amount_with, out_for, conflict_set};
 ghost use Rattle.tt_clash.specs.Freed.{IsFreeAlone, IsFreedRule};
 ghost use Rattle.tt_measure.specs.Removals.{IsPart};
-ghost use Rattle.tt_clash.specs.Forced.{IsOther, AreForced, stays_at_0, FitsAmong};
+ghost use Rattle.tt_clash.specs.Forced.{IsOther, AreForced, FitsAmong};
 
 /// Each class of the conflict set is another than the class, and is placed.
 pub fn others()

@@ -6,9 +6,9 @@ ghost use Rattle.tt_base.specs.Limits.{most_members};
 ghost use Rattle.tt_problem.specs.Spans.{Covers, IsSpanWithin};
 ghost use Rattle.tt_problem.specs.Valid.{IsValidRule, IsValidStudent, course_spans};
 ghost use Rattle.tt_problem.specs.Seats.{most_of_course, most_subparts, most_seats};
-ghost use Rattle.tt_problem.specs.Sums.{time_cells, class_cells, cells_of, member_count, counts_blocks, cells_at, links_of_rule, links_of, seats_of};
+ghost use Rattle.tt_problem.specs.Sums.{time_cells, class_cells, cells_of, member_count, cells_at, links_of_rule, links_of, seats_of};
 
-use crate::parts::{ClassPart, CoursePart, DistKind, Parts, Rule, Span, StudentPart, TimeChoice};
+use crate::parts::{ClassPart, CoursePart, Parts, Rule, Span, StudentPart, TimeChoice};
 use std::alloc::{AllocError, Global};
 use tt_base::Row;
 
@@ -57,19 +57,6 @@ pub fn member_count(parts: &Parts) -> u32
     count
 }
 
-/// Whether the amount of a rule is counted in blocks, for which it keeps links.
-fn counts_blocks(kind: DistKind) -> bool
-    ensures { result ≡ counts_blocks kind }
-{
-    match kind {
-        DistKind::MaxBreaks { .. } | DistKind::MaxBlock { .. } => true,
-        DistKind::Pair { .. }
-        | DistKind::MaxDays { .. }
-        | DistKind::MaxWeeks { .. }
-        | DistKind::MaxDayLoad { .. } => false,
-    }
-}
-
 /// For each class the most cells that a time of it takes.
 pub fn cell_table(alloc: Global, parts: &Parts) -> Result<Row<u16>, AllocError>
     ensures { IfOk result (λ cells. cells ≡ map class_cells parts.now.classes) }
@@ -109,8 +96,8 @@ fn links_of_rule(parts: &Parts, cells: &[u16], rule: &Rule) -> u32
     sum
 }
 
-/// The most cells that the members of all rules of `MaxBreaks` and `MaxBlock` take together. `cells`
-/// has the most of each class.
+/// The most cells that the members of all rules of `MaxBreaks` and `MaxBlock` take together, of which
+/// a problem file has a limit. `cells` has the most of each class.
 pub fn links_of(parts: &Parts, cells: &[u16]) -> u64
     requires cells { cells.now ≡ map class_cells parts.now.classes }
     requires few { length parts.now.rules ≤ 20000 }
@@ -119,7 +106,7 @@ pub fn links_of(parts: &Parts, cells: &[u16]) -> u64
 {
     let mut sum = 0;
     for rule in parts.rules.as_slice() {
-        if counts_blocks(rule.kind) {
+        if rule.kind.counts_blocks() {
             sum += u64::from(links_of_rule(parts, cells, rule));
         }
     }
