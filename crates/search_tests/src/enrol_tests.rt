@@ -3,7 +3,7 @@ use std::test::Fail;
 use test_help::{assigns, sections, state_of};
 use tt_enrol::{Enrolled, enrol, enrol_all};
 use tt_io::Silent;
-use tt_state::{Refusal, State};
+use tt_state::State;
 
 /// A course with a subpart of two classes, and a course of a class with one seat that meets when the
 /// first of the two does; a student of the second course and then the first, and one of the second.
@@ -19,7 +19,7 @@ const TEXT: &str = r#"{"nrDays":1,"nrWeeks":1,"slotsPerDay":288,
 
 // Whether the first student gets the classes that don't conflict, the own seat again among them.
 fn enrols_one(alloc: Global, state: &mut State) -> bool {
-    if state.problem().student_count() != 2 || enrol(alloc, state, 0) != Ok(()) {
+    if state.problem().student_count() != 2 || enrol(alloc, state, 0) != Ok(true) {
         return false;
     }
     state.totals().student == 0 && state.totals().unsectioned == 1
@@ -28,7 +28,7 @@ fn enrols_one(alloc: Global, state: &mut State) -> bool {
 // Whether there is no seat for the second student.
 fn refuses_the_other(alloc: Global, state: &mut State) -> bool {
     state.problem().student_count() == 2
-        && enrol(alloc, state, 1) == Err(Refusal::BadSection)
+        && enrol(alloc, state, 1) == Ok(false)
         && state.totals().unsectioned == 1
 }
 

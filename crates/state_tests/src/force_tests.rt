@@ -3,7 +3,7 @@ use test_help::{assigns, forces, state_of, value};
 use tt_bits::{Key, Value};
 use tt_clash::blocked;
 use tt_plan::spot;
-use tt_state::{Refusal, State};
+use tt_state::{SectionFault, State};
 
 /// A room with two classes that may meet in it at one time, the second also a slot later; and a
 /// student who needs both.
@@ -40,7 +40,7 @@ fn forces_in_a_step(state: &mut State) -> bool {
         return false;
     }
     let moment = state.mark_now();
-    if state.force_step(1, value) != Ok(()) {
+    if state.blocked(1, value).is_some() || state.force_step(1, value).is_err() {
         return false;
     }
     let with = [state.totals().time, count(state, value)];
@@ -82,14 +82,17 @@ fn sections_in_a_step(state: &mut State) -> bool {
     if state.problem().class_count() != 2 || state.problem().student_count() != 1 {
         return false;
     }
-    if state.begin().is_err() || state.section_step(0, &[1, 0]) != Ok(()) {
+    if state.begin().is_err() || state.section_fault(0, &[1, 0]).is_some() {
+        return false;
+    }
+    if state.section_step(0, &[1, 0]).is_err() {
         return false;
     }
     let with = state.totals().unsectioned;
-    if state.section_step(0, &[1]) != Err(Refusal::BadSection) {
+    if state.section_fault(0, &[1]) != Some(SectionFault::Invalid) {
         return false;
     }
-    if state.section_step(0, &[]) != Ok(()) {
+    if state.section_step(0, &[]).is_err() {
         return false;
     }
     with == 0 && state.totals().unsectioned == 1 && state.mark_now() == 2
@@ -103,7 +106,7 @@ fn a_forced_class_takes_another_out_and_gives_it_back(rt: HostRuntime) -> Result
     assert!(rt; state.taken() == [0].as_slice());
     assert!(rt; state.score().plan() == [None, Some(FIRST)].as_slice());
     assert!(rt; count(&state, FIRST) == 1);
-    assert!(rt; state.undo() == Ok(()));
+    assert!(rt; state.undo());
     assert!(rt; state.score().plan() == [Some(FIRST), None].as_slice());
     assert!(rt; count(&state, FIRST) == 0);
     assert!(rt; state.taken() == [0].as_slice());
@@ -131,12 +134,5 @@ fn a_student_gets_a_list_within_a_step(rt: HostRuntime) -> Result<(), Fail> {
     let mut state = state_of(rt.alloc(), TEXT.as_bytes())?;
     assert!(rt; sections_in_a_step(&mut state));
     drop(state);
-    Ok(())
-}
-
-#[test]
-fn a_refusal_for_want_of_memory_is_told_as_such(rt: HostRuntime) -> Result<(), Fail> {
-    let want = Refusal::Memory.want_of_memory();
-    assert_eq!(rt; Refusal::from(want), Refusal::Memory);
     Ok(())
 }

@@ -2,11 +2,11 @@ use std::test::Fail;
 use test_help::{assigns, problem, small_problem, value};
 use tt_bits::{Days, Time, Weeks};
 use tt_score::Totals;
-use tt_state::{Refusal, State};
+use tt_state::{SectionFault, State};
 
 // Whether the class that needs no room loses its value.
 fn unassigns(state: &mut State) -> bool {
-    if state.problem().class_count() != 3 || state.unassign(1) != Ok(()) {
+    if state.problem().class_count() != 3 || state.unassign(1) != Ok(true) {
         return false;
     }
     state.totals().unplaced == 3
@@ -14,30 +14,26 @@ fn unassigns(state: &mut State) -> bool {
 
 // Whether a class without a value has none to lose.
 fn refuses_to_unassign(state: &mut State) -> bool {
-    state.problem().class_count() == 3 && state.unassign(1) == Err(Refusal::NotPlaced)
+    state.problem().class_count() == 3 && state.unassign(1) == Ok(false)
 }
 
-// What becomes of giving a student the first and the third class.
-fn section(state: &mut State, student: u32) -> Option<Result<(), Refusal>> {
-    if state.problem().class_count() != 3 || state.problem().student_count() <= student {
-        return None;
-    }
-    Some(state.section(student, &[0, 2]))
+// Whether giving a student the first and the third class is answered so.
+fn sections(state: &mut State, student: u32, fault: Option<SectionFault>) -> bool {
+    state.problem().class_count() == 3
+        && student < state.problem().student_count()
+        && state.section(student, &[0, 2]) == Ok(fault)
 }
 
 // Whether a list without a parent is refused.
 fn refuses_a_list(state: &mut State) -> bool {
     state.problem().class_count() == 3
         && state.problem().student_count() == 2
-        && state.section(0, &[2, 1]) == Err(Refusal::BadSection)
+        && state.section(0, &[2, 1]) == Ok(Some(SectionFault::Invalid))
 }
 
-// What becomes of taking a student's classes.
-fn drop_student(state: &mut State, student: u32) -> Option<Result<(), Refusal>> {
-    if state.problem().student_count() <= student {
-        return None;
-    }
-    Some(state.drop_student(student))
+// Whether a student has classes, which are taken.
+fn drops(state: &mut State, student: u32) -> bool {
+    student < state.problem().student_count() && state.drop_student(student) == Ok(true)
 }
 
 // Whether the sums are those of the first and the third class at their first times in two rooms, which
@@ -75,30 +71,30 @@ fn rolls_back(state: &mut State) -> bool {
     with == [1, 2] && without == [0, 3]
 }
 
-// What becomes of closing the first room within the first time of the first class.
-fn closes(state: &mut State) -> Option<Result<(), Refusal>> {
+// Whether the first room is closed within the first time of the first class.
+fn closes(state: &mut State) -> Option<bool> {
     let days = Days::read("10", state.problem().nr_days())?;
     let weeks = Weeks::read("11", state.problem().nr_weeks())?;
     let time = Time::new(days, weeks, 12, 1)?;
     if state.problem().room_count() == 0 {
         return None;
     }
-    Some(state.close(0, time))
+    state.close(0, time).ok()
 }
 
 // The hard conflicts once the room is closed, reopened, and closed again by going back.
 fn hard_with_closures(state: &mut State) -> Option<[u64; 3]> {
-    let Ok(()) = closes(state)? else {
+    if !closes(state)? {
         return None;
-    };
+    }
     let closed = state.totals().hard;
-    let Ok(()) = state.reopen(0) else {
+    if state.reopen(0) != Ok(true) {
         return None;
-    };
+    }
     let reopened = state.totals().hard;
-    let Ok(()) = state.undo() else {
+    if !state.undo() {
         return None;
-    };
+    }
     Some([closed, reopened, state.totals().hard])
 }
 
@@ -109,11 +105,11 @@ fn a_class_gets_a_value_and_loses_it(rt: HostRuntime) -> Result<(), Fail> {
     assert!(rt; state.totals().time == 8);
     assert!(rt; unassigns(&mut state));
     assert!(rt; refuses_to_unassign(&mut state));
-    assert!(rt; state.undo() == Ok(()));
+    assert!(rt; state.undo());
     assert!(rt; state.totals().time == 8);
-    assert!(rt; state.undo() == Ok(()));
+    assert!(rt; state.undo());
     assert!(rt; state.score().plan() == [None, None, None].as_slice());
-    assert!(rt; state.undo() == Err(Refusal::NothingToUndo));
+    assert!(rt; !state.undo());
     assert!(rt; rolls_back(&mut state));
     drop(state);
     Ok(())
@@ -123,13 +119,13 @@ fn a_class_gets_a_value_and_loses_it(rt: HostRuntime) -> Result<(), Fail> {
 fn a_student_gets_a_list_and_drops_it(rt: HostRuntime) -> Result<(), Fail> {
     let mut state = State::start(rt.alloc(), problem(rt.alloc())?).expect(&rt, "memory");
     assert!(rt; refuses_a_list(&mut state));
-    assert!(rt; section(&mut state, 0) == Some(Ok(())));
-    assert!(rt; section(&mut state, 1) == Some(Err(Refusal::NoSeat { class: 2 })));
+    assert!(rt; sections(&mut state, 0, None));
+    assert!(rt; sections(&mut state, 1, Some(SectionFault::Full { class: 2 })));
     assert!(rt; assigns(&mut state, 0, 1, Some(71)));
     assert!(rt; assigns(&mut state, 2, 1, Some(72)));
     assert!(rt; has_totals(&state));
-    assert!(rt; drop_student(&mut state, 0) == Some(Ok(())));
-    assert!(rt; drop_student(&mut state, 0) == Some(Err(Refusal::NotSectioned)));
+    assert!(rt; drops(&mut state, 0));
+    assert!(rt; !drops(&mut state, 0));
     drop(state);
     Ok(())
 }
@@ -139,7 +135,7 @@ fn a_room_is_closed_and_reopened(rt: HostRuntime) -> Result<(), Fail> {
     let mut state = State::start(rt.alloc(), problem(rt.alloc())?).expect(&rt, "memory");
     assert!(rt; assigns(&mut state, 0, 1, Some(71)));
     assert!(rt; assigns(&mut state, 2, 1, Some(72)));
-    assert!(rt; state.reopen(0) == Err(Refusal::NothingClosed));
+    assert!(rt; state.reopen(0) == Ok(false));
     assert!(rt; hard_with_closures(&mut state) == Some([2, 1, 2]));
     drop(state);
     Ok(())

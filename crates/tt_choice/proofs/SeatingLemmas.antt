@@ -1,15 +1,9 @@
--- Lists that a student may have, and seats in each of their classes.
+-- Seats in each class of a list.
 use Rattle.std.proofs.Common.{◌≡◌, ℕ, true, List, [], ◌∷◌, None, refl}
 use Rattle.std.specs.List.{list_all}
 use Rattle.std.proofs.lemmas.Bool.{and_parts}
 use Rattle.tt_problem.specs.declared.parts.Parts.{Parts}
-use Rattle.tt_struct.specs.Enrolments.{is_enrolment}
-use Rattle.tt_state.specs.Seats.{first_without_seat, has_seat, may_have}
-
--- a student may have a valid enrolment
-pub may_have_enrolment : (p : Parts) (student : ℕ) (list : List ℕ) → is_enrolment p student list ≡ true → may_have p student list ≡ true
-may_have_enrolment p student [] h = refl
-may_have_enrolment p student (c ∷ list) h = h
+use Rattle.tt_state.specs.Seats.{first_without_seat, has_seat}
 
 -- where each class has a seat, there is no first one without
 pub all_seats : (p : Parts) (lists : List (List ℕ)) (student : ℕ) (list : List ℕ) → list_all (has_seat p lists student) list ≡ true → first_without_seat p lists student list ≡ None

@@ -7,7 +7,7 @@ use std::alloc::AllocError;
 use tt_state::State;
 
 /// Gives a student classes that the student may get, in place of those that the student has, in the
-/// last step. The error is want of memory.
+/// last step.
 pub fn seat(state: &mut State, student: u32, classes: &[u32]) -> Result<(), AllocError>
     requires student { student < length state.old.problem.students }
     requires may { MayGet state.old.problem state.old.present.lists student classes.now }
@@ -16,8 +16,5 @@ pub fn seat(state: &mut State, student: u32, classes: &[u32]) -> Result<(), Allo
     ensures step { IsWithinStep state.old state.new }
     ensures err { OnErr result (state.new ≡ state.old) }
 {
-    match state.section_step(student, classes) {
-        Ok(()) => Ok(()),
-        Err(refusal) => Err(refusal.want_of_memory()),
-    }
+    state.section_step(student, classes)
 }

@@ -6,19 +6,13 @@ use Rattle.std.proofs.lemmas.List.Elements.{All-append}
 use Rattle.std.proofs.Math.Seq.{drop-cons, drop-length, take-length, take-append_seam}
 use Rattle.std.specs.Prelude.{All}
 use Rattle.tt_problem.specs.declared.parts.Parts.{Parts}
-use Rattle.tt_problem.specs.Places.{class_of, class_id}
-use Rattle.std.specs.Prelude.{◌↔◌, true, false, Bool}
-use Rattle.tt_problem.specs.Places.{student_of}
-use Rattle.tt_struct.specs.Enrolments.{is_enrolment}
-use Rattle.tt_state.specs.declared.state.Refusal.{Refusal as StateRefusal}
-use Rattle.tt_state.specs.declared.state.Refusal.TheVariants.{NotPlaced, Blocked as StateBlocked, BadSection, NoSeat as StateNoSeat, NotSectioned, NothingToUndo, TooMany, NothingClosed, Memory}
-use Rattle.tt_state.specs.Seats.{first_without_seat}
-use Rattle.tt_state.specs.Snapshots.{with_list, in_order}
-use Rattle.tt_state.specs.History.{Desk, Held, desk_of, with_taken}
-use Rattle.tt_script.specs.declared.command.Command.TheVariants.{Section, Publish, Force}
+use Rattle.tt_problem.specs.Places.{class_of}
+use Rattle.std.specs.Prelude.{true, false, Bool}
+use Rattle.tt_state.specs.History.{Desk}
+use Rattle.tt_script.specs.declared.command.Command.TheVariants.{Publish}
 use Rattle.tt_desk.specs.declared.refusal.Outcome.TheVariants.{Accepted, Refused}
 use Rattle.tt_desk.specs.declared.refusal.Refusal.{Refusal}
-use Rattle.tt_desk.specs.declared.refusal.Refusal.TheVariants.{NoSuchClass, NoSeat, Blocked}
+use Rattle.tt_desk.specs.declared.refusal.Refusal.TheVariants.{NoSuchClass}
 use Rattle.std.specs.Prelude.{codes}
 use Rattle.tt_score.specs.declared.totals.Totals.{Totals}
 use Rattle.tt_score.specs.Totals.{totals_of}
@@ -27,15 +21,9 @@ use Rattle.tt_solution.specs.Published.{timetable_of}
 use Rattle.tt_solution.specs.Text.{published_text}
 use Rattle.std.proofs.lemmas.Bool.{eqb-true}
 use Rattle.std.specs.Prelude.{◌&&◌}
-use Rattle.tt_bits.specs.declared.times.Value.{Value}
-use Rattle.tt_plan.specs.Named.{find_value}
-use Rattle.tt_clash.specs.declared.Block.{Block}
-use Rattle.tt_state.specs.Values.{blocked_of, conflicts_of}
-use Rattle.tt_state.specs.Forced.{forced}
 use Rattle.tt_solution.specs.Timetable.{Timetable}
-use Rattle.tt_desk.specs.Desk.{Session, Answer, carried_out, known_classes, step_from, with_step, with_published, not_ready, taken_lines}
+use Rattle.tt_desk.specs.Desk.{Session, Answer, carried_out, known_classes, step_from, with_published, not_ready}
 use Rattle.tt_desk.specs.Chain.{◌>>=◌}
-use Rattle.tt_desk.specs.Causes.{block_of}
 use Rattle.std.specs.Prelude.{OnErr, OnOk, IsOk}
 use Rattle.std.specs.Result.{is_err}
 
@@ -103,24 +91,6 @@ accepted s to now lines r is same own = rw (is, same, own) refl
 pub refused : (s now : Session) (r : Result Answer Refusal) (why : Refusal) → r ≡ Err why → now ≡ s → step_from s r ≡ record { session = now; outcome = Refused why; lines = [] }
 refused s now r why is same = rw (is, same) refl
 
--- ---- `section`
-
--- the state's answer says whether the list is valid, and which class has no seat
-pub valid_by : (r : Result (Unit {0}) StateRefusal) (valid : Bool) → ((r ≡ Err BadSection) ↔ (valid ≡ false)) → (r ≡ Err BadSection → ⊥) → valid ≡ true
-valid_by r true iff ne = refl
-valid_by r false iff ne = absurd (ne (iff.1 refl))
-
-pub free_by : (r : Result (Unit {0}) StateRefusal) (valid : Bool) (full : Option ℕ) → ((class : ℕ) → (r ≡ Err (StateNoSeat class)) ↔ ((valid ≡ true) × (full ≡ Some class))) → valid ≡ true → ((class : ℕ) → r ≡ Err (StateNoSeat class) → ⊥) → full ≡ None
-free_by r valid None iff is ne = refl
-free_by r valid (Some class) iff is ne = absurd (ne class ((iff class).1 (is, refl)))
-
-module _ (s : Session) (student : ℕ) (classes list : List ℕ) (i : ℕ) (known : known_classes s.desk.problem classes ≡ Ok list) (is : student_of s.desk.problem student ≡ Some i) (valid : is_enrolment s.desk.problem i list ≡ true) where
-  pub section_free : first_without_seat s.desk.problem s.desk.present.lists i list ≡ None → carried_out s (Section student classes) ≡ Ok (with_step s (with_list s.desk.present i (in_order list)) [])
-  section_free free = rw (known, is, valid, free) refl
-
-  pub section_full : (class : ℕ) → first_without_seat s.desk.problem s.desk.present.lists i list ≡ Some class → carried_out s (Section student classes) ≡ Err (NoSeat (class_id s.desk.problem class))
-  section_full class full = rw (known, is, valid, full) refl
-
 -- ---- `publish`
 
 module _ (s : Session) where
@@ -139,34 +109,6 @@ none_unplaced t is = eqb-true _ _ (first_of _ _ (first_of _ _ is))
     first_of true b is = refl
     first_of false b is = is
 
--- ---- `force`
-
-module _ (s : Session) (class time : ℕ) (room : Option ℕ) (c : ℕ) (v : Value) (known : class_of s.desk.problem class ≡ Some c) (named : find_value s.desk.problem c time room ≡ Ok v) where
-  pub force_open : blocked_of s.desk.problem s.desk.present.closures c v ≡ None → carried_out s (Force class time room) ≡ Ok (with_step s (forced s.desk.problem s.desk.present c v) (taken_lines s.desk.problem (conflicts_of s.desk.problem s.desk.present c v)))
-  force_open free = rw (known, named, free) refl
-
-  pub force_blocked : (reason : Block) → blocked_of s.desk.problem s.desk.present.closures c v ≡ Some reason → carried_out s (Force class time room) ≡ Err (Blocked reason)
-  force_blocked reason is = rw (known, named, is) refl
-
--- the state's answer says whether the value is blocked
-pub open_if_forced : (r : Result (Unit {0}) StateRefusal) (b : Option Block) → ((reason : Block) → (r ≡ Err (StateBlocked reason)) ↔ (b ≡ Some reason)) → ((reason : Block) → r ≡ Err (StateBlocked reason) → ⊥) → b ≡ None
-open_if_forced r None iff ne = refl
-open_if_forced r (Some reason) iff ne = absurd (ne reason ((iff reason).1 refl))
-
-pub is_blocked : (e : StateRefusal) (reason : Block) → block_of e ≡ Some reason → e ≡ StateBlocked reason
-is_blocked NotPlaced reason is = absurd (cc)
-is_blocked (StateBlocked why) reason is = let same : why ≡ reason = cc in ap StateBlocked same
-is_blocked BadSection reason is = absurd (cc)
-is_blocked (StateNoSeat class) reason is = absurd (cc)
-is_blocked NotSectioned reason is = absurd (cc)
-is_blocked NothingToUndo reason is = absurd (cc)
-is_blocked TooMany reason is = absurd (cc)
-is_blocked NothingClosed reason is = absurd (cc)
-is_blocked Memory reason is = absurd (cc)
-
-pub not_blocked : (e : StateRefusal) (reason : Block) → block_of e ≡ None → e ≡ StateBlocked reason → ⊥
-not_blocked e reason none is = let some : block_of e ≡ Some reason = ap block_of is in let both : None ≡ Some reason = sym none ∙ some in cc
-
 -- whatever the answer is, the fact stands
 pub on_err : {T E P : Type 0} (r : Result T E) → P → OnErr r P
 on_err (Ok x) p = tt
@@ -180,10 +122,6 @@ ok_fact (Err e) is p = absurd (cc is)
 -- a session is its desk and what is published
 pub by_parts : (a b : Session) → a.desk ≡ b.desk → a.published ≡ b.published → a ≡ b
 by_parts a b desk published = rw (← desk, ← published) refl
-
--- states that differ in the conflict set found last alone are the same desk
-pub same_but_taken : (t : Option Timetable) (now before : Held) → with_taken now [] ≡ with_taken before [] → with_desk_of t (desk_of now) ≡ with_desk_of t (desk_of before)
-same_but_taken t now before same = ap (λ h. with_desk_of t (desk_of h)) same
 
 pub is_ok_of : {T E : Type 0} (r : Result T E) (x : T) → r ≡ Ok x → IsOk r
 is_ok_of r x is = rw is refl

@@ -3,7 +3,7 @@
 ghost use Rattle.std.specs.Prelude.{◌≡◌, ◌<◌, [], All, Ok, Err, IfOk, IfSome, MatchOption, OnErr, length};
 ghost use Rattle.tt_desk.specs.Desk.{command_step, known_classes, value_refusal, written_time};
 ghost use Rattle.tt_problem.specs.Valid.{IsTimeOf};
-ghost use Rattle.tt_desk.specs.Causes.{MayTake, block_of};
+ghost use Rattle.tt_desk.specs.Causes.{MayTake};
 
 use crate::refusal::{Outcome, Refusal};
 use crate::reply::add_taken;
@@ -11,11 +11,10 @@ use crate::session::Session;
 use crate::wanting::Wanting;
 use std::alloc::AllocError;
 use tt_bits::{BitWord, Days, Time, Weeks};
-use tt_clash::Block;
 use tt_plan::{NoValue, find};
 use tt_problem::Problem;
 use tt_script::{Command, Ids};
-use tt_state::Refusal as StateRefusal;
+use tt_state::SectionFault;
 use tt_text::Reply;
 
 /// Why no value of a class is named.
@@ -38,16 +37,6 @@ fn class_places(problem: &Problem, ids: Ids) -> Option<Vec<u32>>
         *place = problem.class_of(*place)?;
     }
     Some(places)
-}
-
-// Why a value is blocked, if that is why a class wasn't forced to it.
-fn block_of(refusal: StateRefusal) -> Option<Block>
-    ensures { result ≡ block_of refusal }
-{
-    match refusal {
-        StateRefusal::Blocked { reason } => Some(reason),
-        _ => None,
-    }
 }
 
 // The time that two words and two numbers of slots write, within the days and weeks of the problem.
@@ -99,10 +88,10 @@ impl Session {
         let Some(class) = self.state.problem().class_of(class) else {
             return Ok(Outcome::Refused(Refusal::NoSuchClass));
         };
-        match self.state.unassign(class) {
-            Ok(()) => Ok(Outcome::Accepted),
-            Err(StateRefusal::Memory) => Err(AllocError),
-            Err(_) => Ok(Outcome::Refused(Refusal::NotPlaced)),
+        if self.state.unassign(class)? {
+            Ok(Outcome::Accepted)
+        } else {
+            Ok(Outcome::Refused(Refusal::NotPlaced))
         }
     }
 
@@ -118,13 +107,12 @@ impl Session {
         let Some(student) = self.state.problem().student_of(student) else {
             return Ok(Outcome::Refused(Refusal::NoSuchStudent));
         };
-        match self.state.section(student, &classes) {
-            Ok(()) => Ok(Outcome::Accepted),
-            Err(StateRefusal::Memory) => Err(AllocError),
-            Err(StateRefusal::NoSeat { class }) => Ok(Outcome::Refused(Refusal::NoSeat {
+        match self.state.section(student, &classes)? {
+            None => Ok(Outcome::Accepted),
+            Some(SectionFault::Invalid) => Ok(Outcome::Refused(Refusal::NoEnrolment)),
+            Some(SectionFault::Full { class }) => Ok(Outcome::Refused(Refusal::NoSeat {
                 class: self.state.problem().class_id(class),
             })),
-            Err(_) => Ok(Outcome::Refused(Refusal::NoEnrolment)),
         }
     }
 
@@ -137,10 +125,10 @@ impl Session {
         let Some(student) = self.state.problem().student_of(student) else {
             return Ok(Outcome::Refused(Refusal::NoSuchStudent));
         };
-        match self.state.drop_student(student) {
-            Ok(()) => Ok(Outcome::Accepted),
-            Err(StateRefusal::Memory) => Err(AllocError),
-            Err(_) => Ok(Outcome::Refused(Refusal::NotSectioned)),
+        if self.state.drop_student(student)? {
+            Ok(Outcome::Accepted)
+        } else {
+            Ok(Outcome::Refused(Refusal::NotSectioned))
         }
     }
 
@@ -163,10 +151,10 @@ impl Session {
         let Some(time) = written_time(self.state.problem(), days, start, length, weeks) else {
             return Ok(Outcome::Refused(Refusal::BadTime));
         };
-        match self.state.close(room, time) {
-            Ok(()) => Ok(Outcome::Accepted),
-            Err(StateRefusal::Memory) => Err(AllocError),
-            Err(_) => Ok(Outcome::Refused(Refusal::TooManyClosures)),
+        if self.state.close(room, time)? {
+            Ok(Outcome::Accepted)
+        } else {
+            Ok(Outcome::Refused(Refusal::TooManyClosures))
         }
     }
 
@@ -179,10 +167,10 @@ impl Session {
         let Some(room) = self.state.problem().room_of(room) else {
             return Ok(Outcome::Refused(Refusal::NoSuchRoom));
         };
-        match self.state.reopen(room) {
-            Ok(()) => Ok(Outcome::Accepted),
-            Err(StateRefusal::Memory) => Err(AllocError),
-            Err(_) => Ok(Outcome::Refused(Refusal::NothingClosed)),
+        if self.state.reopen(room)? {
+            Ok(Outcome::Accepted)
+        } else {
+            Ok(Outcome::Refused(Refusal::NothingClosed))
         }
     }
 
@@ -190,9 +178,10 @@ impl Session {
     pub(crate) fn undo(&mut self) -> Outcome
         ensures { command_step self.old Command.Undo ≡ record { session = self.new; outcome = result; lines = [] } }
     {
-        match self.state.undo() {
-            Ok(()) => Outcome::Accepted,
-            Err(_) => Outcome::Refused(Refusal::NothingToUndo),
+        if self.state.undo() {
+            Outcome::Accepted
+        } else {
+            Outcome::Refused(Refusal::NothingToUndo)
         }
     }
 
@@ -219,10 +208,7 @@ impl Session {
             Ok(value) => value,
             Err(fault) => return Ok(Outcome::Refused(value_refusal(fault))),
         };
-        if let Err(refusal) = self.state.force(class, value) {
-            let Some(reason) = block_of(refusal) else {
-                return Err(Wanting::Command);
-            };
+        if let Some(reason) = self.state.force(class, value)? {
             return Ok(Outcome::Refused(Refusal::Blocked { reason }));
         }
         if add_taken(reply, self.state.problem(), self.state.taken()).is_err() {

@@ -70,10 +70,7 @@ fn make(state: &mut State, next: Move) -> Result<(), AllocError>
     ensures taken { OnOk result (state.new.taken ≡ conflicts_of state.old.problem state.old.present next.class next.value) }
     ensures step { IsWithinStep (with_taken state.old []) (with_taken state.new []) }
 {
-    match state.force_step(next.class, next.value) {
-        Ok(()) => Ok(()),
-        Err(refusal) => Err(refusal.want_of_memory()),
-    }
+    state.force_step(next.class, next.value)
 }
 
 /// Makes turns in the last step, until so many are made or there is no candidate. The watcher is told
