@@ -3,7 +3,7 @@ ghost use Rattle.tt_score.specs.Fits.{Fits, plan_of};
 
 use std::test::Fail;
 use test_help::value;
-use tt_clash::{Block, Closures, blocked};
+use tt_clash::{Block, Closures, Listing, blocked};
 use tt_plan::spot;
 use tt_problem::Problem;
 use tt_read::read;
@@ -47,7 +47,8 @@ fn says_why(problem: &Problem, closures: &Closures) -> bool {
 }
 
 // Whether the class in the room has to go for another there.
-fn makes_room(problem: &Problem, score: &mut Score) -> bool
+fn makes_room(problem: &Problem, score: &mut Score, listing: &mut Listing) -> bool
+    requires listing { listing.old.classes ≡ length problem.now.classes }
     requires fits { Fits problem.now score.old }
     requires plan { plan_of score.old ≡ replicate (length problem.now.classes) None }
 {
@@ -64,17 +65,17 @@ fn makes_room(problem: &Problem, score: &mut Score) -> bool
     if blocked(problem, score.closures(), 0, spot(problem, 0, value)).is_some() {
         return false;
     }
-    let mut marks = [false; 4];
-    let mut order = [9; 4];
-    let count = score.conflicts(problem, 0, value, &mut marks, &mut order);
-    count == 1 && order[0] == 1 && marks == [false; 4]
+    score.conflicts(problem, 0, value, listing);
+    listing.as_slice() == [1].as_slice() && listing.has(1) && !listing.has(0)
 }
 
 // Whether the class that breaks a pair rule has to go, and then the one that takes a day too many.
-fn makes_days(problem: &Problem, score: &mut Score) -> bool
+fn makes_days(problem: &Problem, score: &mut Score, listing: &mut Listing) -> bool
+    requires listing { listing.old.classes ≡ length problem.now.classes }
     requires fits { Fits problem.now score.old }
     requires plan { plan_of score.old ≡ replicate (length problem.now.classes) None }
-    ensures { Fits problem.now score.new }
+    ensures fits { Fits problem.now score.new }
+    ensures listing { listing.new.classes ≡ listing.old.classes }
 {
     if problem.class_count() != 4 {
         return false;
@@ -93,18 +94,23 @@ fn makes_days(problem: &Problem, score: &mut Score) -> bool
     if blocked(problem, score.closures(), 3, spot(problem, 3, value)).is_some() {
         return false;
     }
-    let mut marks = [false; 4];
-    let mut order = [9; 4];
-    let count = score.conflicts(problem, 3, value, &mut marks, &mut order);
-    count == 2 && order[0] == 1 && order[1] == 2 && score.totals().unplaced == 2
+    score.conflicts(problem, 3, value, listing);
+    listing.as_slice() == [1, 2].as_slice() && score.totals().unplaced == 2
 }
 
 // What becomes of asking for no more than so many classes that have to go for the last class, where
 // one breaks a pair rule with it, and another takes a day too many.
-fn count_within(problem: &Problem, score: &mut Score, most: u32) -> Option<u32>
-    requires { Fits problem.now score.old }
+fn count_within(
+    problem: &Problem,
+    score: &mut Score,
+    most: u32,
+    listing: &mut Listing,
+) -> Option<u32>
+    requires listing { listing.old.classes ≡ length problem.now.classes }
+    requires fits { Fits problem.now score.old }
     ensures fits { Fits problem.now score.new }
     ensures plan { plan_of score.new ≡ plan_of score.old }
+    ensures listing { listing.new.classes ≡ listing.old.classes }
 {
     if problem.class_count() != 4 {
         return None;
@@ -113,21 +119,25 @@ fn count_within(problem: &Problem, score: &mut Score, most: u32) -> Option<u32>
     if blocked(problem, score.closures(), 3, spot(problem, 3, value)).is_some() {
         return None;
     }
-    let mut marks = [false; 4];
-    let mut order = [9; 4];
-    score.conflicts_within(problem, 3, value, most, &mut marks, &mut order)
+    if score.conflicts_within(problem, 3, value, most, listing) {
+        Some(listing.len())
+    } else {
+        None
+    }
 }
 
 // Whether two classes have to go then, and none before.
-fn counts_no_further(problem: &Problem, score: &mut Score) -> bool
+fn counts_no_further(problem: &Problem, score: &mut Score, listing: &mut Listing) -> bool
+    requires listing { listing.old.classes ≡ length problem.now.classes }
     requires fits { Fits problem.now score.old }
     requires plan { plan_of score.old ≡ replicate (length problem.now.classes) None }
 {
-    let before = count_within(problem, score, 0);
+    let before = count_within(problem, score, 0, listing);
     before == Some(0)
-        && makes_days(problem, score)
-        && count_within(problem, score, 2) == Some(2)
-        && count_within(problem, score, 1) == None
+        && makes_days(problem, score, listing)
+        && count_within(problem, score, 2, listing) == Some(2)
+        && count_within(problem, score, 1, listing) == None
+        && listing.len() == 0
 }
 
 #[test]
@@ -142,7 +152,9 @@ fn a_value_is_blocked_by_a_closed_room_or_a_rule(rt: HostRuntime) -> Result<(), 
 fn a_class_in_the_room_has_to_go(rt: HostRuntime) -> Result<(), Fail> {
     let problem = read(rt.alloc(), TEXT.as_bytes())?;
     let mut score = Score::new(rt.alloc(), &problem).expect(&rt, "memory");
-    assert!(rt; makes_room(&problem, &mut score));
+    let mut listing = Listing::new(rt.alloc(), problem.class_count()).expect(&rt, "memory");
+    assert!(rt; makes_room(&problem, &mut score, &mut listing));
+    drop(listing);
     drop(score);
     drop(problem);
     Ok(())
@@ -152,7 +164,9 @@ fn a_class_in_the_room_has_to_go(rt: HostRuntime) -> Result<(), Fail> {
 fn classes_that_break_rules_have_to_go(rt: HostRuntime) -> Result<(), Fail> {
     let problem = read(rt.alloc(), TEXT.as_bytes())?;
     let mut score = Score::new(rt.alloc(), &problem).expect(&rt, "memory");
-    assert!(rt; counts_no_further(&problem, &mut score));
+    let mut listing = Listing::new(rt.alloc(), problem.class_count()).expect(&rt, "memory");
+    assert!(rt; counts_no_further(&problem, &mut score, &mut listing));
+    drop(listing);
     drop(score);
     drop(problem);
     Ok(())

@@ -1,7 +1,6 @@
 //! The laws of blocked values and conflict sets. Each function does nothing, and its contract is a
-//! law: a call makes it known in the caller's proof. `p` are the parts of a problem, `amounts` gives
-//! the amount of a rule by its place and what its members have, `spots` are the spots of all classes,
-//! and the class is to be forced to the spot `x`.
+//! law: a call makes it known in the caller's proof. `placing` is a class that is forced to a spot among
+//! the others, and `amounts` gives the amount of a rule by its place and what its members have.
 
 ghost use Rattle.std.specs.Prelude.{◌≡◌, ℕ, ◌<◌, true, false, All, List, Option, None, ◌++◌, take, filter, length, nat_eq, ◌==◌};
 ghost use Rattle.std.specs.List.{IsDistinct};
@@ -9,13 +8,13 @@ ghost use Rattle.tt_bits.specs.declared.times.Spot.{Spot};
 ghost use Rattle.tt_bits.specs.declared.times.Closure.{Closure};
 ghost use Rattle.tt_travel.specs.Table.{Table};
 ghost use Rattle.tt_problem.specs.declared.parts.DistKind.{DistKind};
-ghost use Rattle.tt_problem.specs.declared.parts.Parts.{Parts};
 ghost use Rattle.tt_problem.specs.Kinds.{stays_at_0};
 ghost use Rattle.tt_problem.specs.RulePlaces.{rules_of};
 ghost use Rattle.tt_problem.specs.Valid.{IsValid};
 ghost use Rattle.tt_clash.specs.Amounts.{kind_amount, rule_amounts};
 ghost use Rattle.tt_clash.specs.Rules.{alone};
 ghost use Rattle.tt_clash.specs.Blocked.{blocked_by};
+ghost use Rattle.tt_clash.specs.Placings.{Placing};
 ghost use Rattle.tt_clash.specs.ConflictSet.{can_go, amount_with, out_for, conflict_set};
 ghost use Rattle.tt_clash.specs.Freed.{IsFreeAlone, IsFreedRule};
 ghost use Rattle.tt_measure.specs.Removals.{IsPart};
@@ -23,37 +22,38 @@ ghost use Rattle.tt_clash.specs.Forced.{IsOther, AreForced, FitsAmong};
 
 /// Each class of the conflict set is another than the class, and is placed.
 pub fn others()
-    ensures { (p : Parts) (amounts : ℕ → List (Option Spot) → ℕ) (spots : List (Option Spot)) (class : ℕ) (x : Spot)
-        → All (IsOther spots class) (conflict_set p amounts spots class x) }
+    ensures { (amounts : ℕ → List (Option Spot) → ℕ) (placing : Placing)
+        → All (IsOther placing) (conflict_set amounts placing) }
 {}
 
 /// No class stands twice in the conflict set.
 pub fn distinct()
-    ensures { (p : Parts) (amounts : ℕ → List (Option Spot) → ℕ) (spots : List (Option Spot)) (class : ℕ) (x : Spot)
-        → IsValid p → IsDistinct nat_eq (conflict_set p amounts spots class x) }
+    ensures { (amounts : ℕ → List (Option Spot) → ℕ) (placing : Placing)
+        → IsValid placing.problem → IsDistinct nat_eq (conflict_set amounts placing) }
 {}
 
 /// What goes for a required group rule is a front of its remaining placed members without the class.
 /// It brings the amount to 0 where the class alone has amount 0, and no shorter front does.
 pub fn shortest()
-    ensures front { (amount : List (Option Spot) → ℕ) (members : List ℕ) (spots : List (Option Spot)) (class : ℕ) (x : Spot) (out : List ℕ)
-        → out_for amount members spots class x out ≡ take (length (out_for amount members spots class x out)) (filter (can_go spots class out) members) }
-    ensures frees { (amount : List (Option Spot) → ℕ) (members : List ℕ) (spots : List (Option Spot)) (class : ℕ) (x : Spot) (out : List ℕ)
-        → amount (alone class x members) ≡ 0 → amount_with amount members spots class x (out ++ out_for amount members spots class x out) ≡ 0 }
-    ensures no_shorter { (amount : List (Option Spot) → ℕ) (members : List ℕ) (spots : List (Option Spot)) (class : ℕ) (x : Spot) (out : List ℕ) (k : ℕ)
-        → k < length (out_for amount members spots class x out) → (amount_with amount members spots class x (out ++ take k (filter (can_go spots class out) members)) == 0) ≡ false }
+    ensures front { (amount : List (Option Spot) → ℕ) (members : List ℕ) (placing : Placing) (out : List ℕ)
+        → out_for amount members placing out ≡ take (length (out_for amount members placing out)) (filter (can_go placing out) members) }
+    ensures frees { (amount : List (Option Spot) → ℕ) (members : List ℕ) (placing : Placing) (out : List ℕ)
+        → amount (alone placing.class placing.spot members) ≡ 0 → amount_with amount members placing (out ++ out_for amount members placing out) ≡ 0 }
+    ensures no_shorter { (amount : List (Option Spot) → ℕ) (members : List ℕ) (placing : Placing) (out : List ℕ) (k : ℕ)
+        → k < length (out_for amount members placing out) → (amount_with amount members placing (out ++ take k (filter (can_go placing out) members)) == 0) ≡ false }
 {}
 
 /// Where each required group rule with the class has amount 0 with the class alone, a front of the
 /// conflict set frees each of them.
 pub fn frees()
-    ensures { (p : Parts) (amounts : ℕ → List (Option Spot) → ℕ) (spots : List (Option Spot)) (class : ℕ) (x : Spot)
-        → All (IsFreeAlone p amounts class x) (rules_of p class) → All (IsFreedRule p amounts spots class x (conflict_set p amounts spots class x)) (rules_of p class) }
+    ensures { (amounts : ℕ → List (Option Spot) → ℕ) (placing : Placing)
+        → All (IsFreeAlone amounts placing) (rules_of placing.problem placing.class) → All (IsFreedRule amounts placing (conflict_set amounts placing)) (rules_of placing.problem placing.class) }
 {}
 
 /// Where the class isn't blocked, each required group rule with it has amount 0 with it alone.
 pub fn unblocked()
-    ensures { (p : Parts) (closures : List Closure) (class : ℕ) (x : Spot) → blocked_by p closures class x ≡ None → All (IsFreeAlone p (rule_amounts p) class x) (rules_of p class) }
+    ensures { (closures : List Closure) (placing : Placing) → blocked_by placing.problem closures placing.class placing.spot ≡ None
+        → All (IsFreeAlone (rule_amounts placing.problem) placing) (rules_of placing.problem placing.class) }
 {}
 
 /// Taking out members never takes the amount of MaxDays, MaxWeeks, MaxDayLoad and MaxBlock from 0.
@@ -67,6 +67,7 @@ pub fn removal()
 /// pair rule, and each required rule with it of MaxDays, MaxWeeks, MaxDayLoad and MaxBlock has
 /// amount 0. A required MaxBreaks rule may be broken, since a later removal can split a block.
 pub fn forced()
-    ensures { (p : Parts) (closures : List Closure) (spots : List (Option Spot)) (class : ℕ) (x : Spot) (after : List (Option Spot)) → blocked_by p closures class x ≡ None
-        → AreForced spots class x (conflict_set p (rule_amounts p) spots class x) after → FitsAmong p closures after class x }
+    ensures { (closures : List Closure) (placing : Placing) (after : List (Option Spot)) → blocked_by placing.problem closures placing.class placing.spot ≡ None
+        → AreForced placing (conflict_set (rule_amounts placing.problem) placing) after
+        → FitsAmong closures (record { problem = placing.problem; spots = after; class = placing.class; spot = placing.spot }) }
 {}

@@ -16,6 +16,7 @@ use Rattle.tt_clash.specs.declared.Block.{Block}
 use Rattle.tt_clash.specs.Amounts.{rule_amounts}
 use Rattle.tt_clash.specs.Blocked.{blocked_by}
 use Rattle.tt_clash.specs.ConflictSet.{conflict_set}
+use Rattle.tt_score.specs.Forcing.{among}
 use Rattle.tt_state.specs.Snapshots.{Snapshot, with_value}
 use Rattle.tt_state.specs.Values.{blocked_of, conflicts_of, total_with}
 use Rattle.tt_improve.specs.declared.classes.Best.{Best}
@@ -102,7 +103,7 @@ lower_no_worse p s class v valid whole object lower =
     let spot = spot_of_value p class v lower.domain in
     let free = and_parts (is_none (blocked_of p s.closures class v)) (length (conflicts_of p s class v) == 0) lower.free in
     let open_value : blocked_by p s.closures class spot.0 ≡ None = rw spot.1 at (none_is (blocked_of p s.closures class v) free.0) in
-    let empty : conflict_set p (rule_amounts p) (spots_of p s.plan) class spot.0 ≡ [] = rw spot.1 at (empty_is (conflicts_of p s class v) (eqb-true (length (conflicts_of p s class v)) 0 free.1)) in
+    let empty : conflict_set (rule_amounts p) (among p s.plan class spot.0) ≡ [] = rw spot.1 at (empty_is (conflicts_of p s class v) (eqb-true (length (conflicts_of p s class v)) 0 free.1)) in
     record {
       total = omega (arith, lower.lower);
       hard = hard-falls p s.closures s.plan s.lists class v spot.0 valid (omega (arith, whole, object.within)) spot.1 open_value empty;

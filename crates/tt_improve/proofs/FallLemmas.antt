@@ -14,6 +14,7 @@ use Rattle.tt_plan.specs.Domain.{IsOfDomain, IsValueFor, spot_at_value, spots_of
 use Rattle.tt_clash.specs.Amounts.{rule_amounts}
 use Rattle.tt_clash.specs.Blocked.{blocked_by}
 use Rattle.tt_clash.specs.ConflictSet.{conflict_set}
+use Rattle.tt_score.specs.Forcing.{among}
 use Rattle.tt_clash.proofs.AmountLemmas.{open-none}
 use Rattle.tt_score.specs.Placed.{closed_count}
 use Rattle.tt_score.specs.Totals.{totals_of}
@@ -46,7 +47,7 @@ distinct-rules p valid k r is =
     (rw same at one).distinct
 
 pub hard-falls : (p : Parts) (closures : List Closure) (plan : List (Option Value)) (lists : List (List ℕ)) (c : ℕ) (v : Value) (x : Spot) → IsValid p → c < length plan → spot_at_value p c v ≡ Some x → blocked_by p closures c x ≡ None
-    → conflict_set p (rule_amounts p) (spots_of p plan) c x ≡ [] → (totals_of p closures (slice_set plan c (Some v)) lists).hard ≤ (totals_of p closures plan lists).hard
+    → conflict_set (rule_amounts p) (among p plan c x) ≡ [] → (totals_of p closures (slice_set plan c (Some v)) lists).hard ≤ (totals_of p closures plan lists).hard
 hard-falls p closures plan lists c v x valid within is none empty =
     let h = spots_of p plan in
     let inside : c < length h = omega (arith, length-spots_from p 0 plan) in

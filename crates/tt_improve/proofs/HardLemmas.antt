@@ -27,6 +27,7 @@ use Rattle.tt_occupancy.proofs.ClashLemmas.{clash_pairs-set, clash_pairs-full}
 use Rattle.tt_clash.specs.Amounts.{kind_amount, rule_amounts}
 use Rattle.tt_clash.specs.Blocked.{blocked_by}
 use Rattle.tt_clash.specs.Rules.{is_required_group}
+use Rattle.tt_clash.specs.Placings.{Placing}
 use Rattle.tt_clash.specs.ConflictSet.{breaks_rule, breaks_pair, spot_with, conflict_set, clashing}
 use Rattle.tt_clash.specs.Freed.{IsFreed, IsFreedRule}
 use Rattle.tt_clash.proofs.AmountLemmas.{free-from_open}
@@ -98,7 +99,11 @@ members_none g spots (m ∷ ms) h = step (spot_at spots m) refl (members_none g 
         let first = ap {B = ℕ} (λ (b : Bool). cond b 1 0) (h m y (rw (eq-eqb m m refl) refl) is) in
         omega (arith, first, rest, sum_by-cons (λ z. cond (g z) 1 0) y (placed (map (spot_at spots) ms)))
 
-module _ (p : Parts) (closures : List Closure) (h : List (Option Spot)) (c : ℕ) (x : Spot) (within : c < length h) (none : blocked_by p closures c x ≡ None) (empty : conflict_set p (rule_amounts p) h c x ≡ []) where
+module _ (p : Parts) (closures : List Closure) (h : List (Option Spot)) (c : ℕ) (x : Spot) (within : c < length h) (none : blocked_by p closures c x ≡ None) (empty : conflict_set (rule_amounts p) (record { problem = p; spots = h; class = c; spot = x }) ≡ []) where
+  -- the class among the others
+  abbrev s : Placing
+  s = record { problem = p; spots = h; class = c; spot = x }
+
   -- the spots once the class has moved, and those without it
   abbrev moved : List (Option Spot)
   moved = slice_set h c (Some x)
@@ -107,10 +112,10 @@ module _ (p : Parts) (closures : List Closure) (h : List (Option Spot)) (c : ℕ
   without = slice_set h c None
 
   -- no other class stands in its way
-  apart : (d : ℕ) (y : Spot) → (d == c) ≡ false → spot_at h d ≡ Some y → (clash x y || list_any (breaks_rule p x d y) (rules_of p c)) ≡ false
+  apart : (d : ℕ) (y : Spot) → (d == c) ≡ false → spot_at h d ≡ Some y → (clash x y || list_any (breaks_rule s d y) (rules_of p c)) ≡ false
   apart d y other is =
-      let stays : spot_with h c x (conflict_set p (rule_amounts p) h c x) d ≡ Some y = rw (empty, other) is in
-      no-clash-left p (rule_amounts p) h c x d y other stays
+      let stays : spot_with s (conflict_set (rule_amounts p) s) d ≡ Some y = rw (empty, other) is in
+      no-clash-left (rule_amounts p) s d y other stays
 
   -- what is placed without it is of another class
   other_there : (d : ℕ) (y : Spot) → spot_at without d ≡ Some y → ((d == c) ≡ false) × (spot_at h d ≡ Some y)
@@ -127,7 +132,7 @@ module _ (p : Parts) (closures : List Closure) (h : List (Option Spot)) (c : ℕ
     where
       by : (k : ℕ) (o : Option Spot) → spot_at without k ≡ o → option_map_or (clash x) o false ≡ false
       by k None is = refl
-      by k (Some y) is = let there = other_there k y is in (or_parts (clash x y) (list_any (breaks_rule p x k y) (rules_of p c)) (apart k y there.0 there.1)).0
+      by k (Some y) is = let there = other_there k y is in (or_parts (clash x y) (list_any (breaks_rule s k y) (rules_of p c)) (apart k y there.0 there.1)).0
 
   -- the clashes do not rise
   pub clashes-fall : clash_pairs moved ≤ clash_pairs h
@@ -141,19 +146,19 @@ module _ (p : Parts) (closures : List Closure) (h : List (Option Spot)) (c : ℕ
       before (Some y) is = omega (arith, clash_pairs-full h c y is)
 
   -- a rule that has the class, by its place
-  pub breaks-none : (k q d : ℕ) (y : Spot) (r : Rule) → slice_get p.rules k ≡ Some r → place_in c r ≡ Some q → spot_at without d ≡ Some y → breaks_rule p x d y (record { rule = k; place = q }) ≡ false
+  pub breaks-none : (k q d : ℕ) (y : Spot) (r : Rule) → slice_get p.rules k ≡ Some r → place_in c r ≡ Some q → spot_at without d ≡ Some y → breaks_rule s d y (record { rule = k; place = q }) ≡ false
   breaks-none k q d y r is here placed_there =
       let there = other_there d y placed_there in
-      let all = none_of (breaks_rule p x d y) (rules_of p c) (or_parts (clash x y) (list_any (breaks_rule p x d y) (rules_of p c)) (apart d y there.0 there.1)).1 in
+      let all = none_of (breaks_rule s d y) (rules_of p c) (or_parts (clash x y) (list_any (breaks_rule s d y) (rules_of p c)) (apart d y there.0 there.1)).1 in
       let start : 0 + k ≡ k = omega arith in
-      rw start at (at_rule (λ s. breaks_rule p x d y s ≡ false) c 0 p.rules k q r all is here)
+      rw start at (at_rule (λ rule. breaks_rule s d y rule ≡ false) c 0 p.rules k q r all is here)
 
-  pub freed-rule : (k q : ℕ) (r : Rule) → slice_get p.rules k ≡ Some r → place_in c r ≡ Some q → IsFreedRule p (rule_amounts p) h c x [] (record { rule = k; place = q })
+  pub freed-rule : (k q : ℕ) (r : Rule) → slice_get p.rules k ≡ Some r → place_in c r ≡ Some q → IsFreedRule (rule_amounts p) s [] (record { rule = k; place = q })
   freed-rule k q r is here =
-      let all = freed-all p (rule_amounts p) h c x (clashing p h c x) (rules_of p c) (free-from_open p closures c x none) in
-      let those = recursion_from_All (IsFreedRule p (rule_amounts p) h c x (conflict_set p (rule_amounts p) h c x)) (rules_of p c) all in
+      let all = freed-all (rule_amounts p) s (clashing s) (rules_of p c) (free-from_open closures s none) in
+      let those = recursion_from_All (IsFreedRule (rule_amounts p) s (conflict_set (rule_amounts p) s)) (rules_of p c) all in
       let start : 0 + k ≡ k = omega arith in
-      let one = at_rule (IsFreedRule p (rule_amounts p) h c x (conflict_set p (rule_amounts p) h c x)) c 0 p.rules k q r those is here in
+      let one = at_rule (IsFreedRule (rule_amounts p) s (conflict_set (rule_amounts p) s)) c 0 p.rules k q r those is here in
       rw (start, empty) at one
 
   -- a pair rule
@@ -173,7 +178,7 @@ module _ (p : Parts) (closures : List Closure) (h : List (Option Spot)) (c : ℕ
       full : (q : ℕ) → place_in c r ≡ Some q → q < length (held_by h r)
       full q e = omega (arith, (place_in-Some c r q e).0, length-map r.members (spot_at h))
 
-      broken : (d : ℕ) (y : Spot) → spot_at without d ≡ Some y → breaks_pair kind p.travel r.members q x d y ≡ false
+      broken : (d : ℕ) (y : Spot) → spot_at without d ≡ Some y → breaks_pair kind p.travel (take q r.members) (drop q r.members) x d y ≡ false
       broken d y there =
           let one = breaks-none k q d y r is here there in
           rw (is, required, pair) at one
@@ -196,25 +201,25 @@ module _ (p : Parts) (closures : List Closure) (h : List (Option Spot)) (c : ℕ
           omega (arith, ap (violated_pairs kind p.travel) whole, violated_pairs-set kind p.travel (held_by without r) q y hole)
 
   -- what its members have once the class has moved
-  moved_spot : (d : ℕ) → spot_with h c x [] d ≡ spot_at moved d
+  moved_spot : (d : ℕ) → spot_with s [] d ≡ spot_at moved d
   moved_spot d =
       elim (cases_eq d c) [
         | inl same ↦ rw (same, eq-eqb c c refl) (sym (get_or-set_same h c (Some x) None within))
         | inr differs ↦ rw (ne_eqb d c differs) (sym (get_or-set_other h c d (Some x) None differs))
       ]
 
-  moved_held : (ms : List ℕ) → map (spot_with h c x []) ms ≡ map (spot_at moved) ms
+  moved_held : (ms : List ℕ) → map (spot_with s []) ms ≡ map (spot_at moved) ms
   moved_held [] = refl
-  moved_held (m ∷ ms) = ap (λ s. s ∷ map (spot_with h c x []) ms) (moved_spot m) ∙ ap (λ l. spot_at moved m ∷ l) (moved_held ms)
+  moved_held (m ∷ ms) = ap (λ y. y ∷ map (spot_with s []) ms) (moved_spot m) ∙ ap (λ l. spot_at moved m ∷ l) (moved_held ms)
 
   -- a required group rule that has the class has amount 0
   group-zero : (k q : ℕ) (r : Rule) → slice_get p.rules k ≡ Some r → is_required_group r ≡ true → place_in c r ≡ Some q → kind_amount r.kind p.nr_weeks p.travel (held_by moved r) ≡ 0
   group-zero k q r is group here =
       let freed = freed-rule k q r is here in
-      let one : IsFreed (rule_amounts p k) r.members h c x [] = (rw is at freed) group in
+      let one : IsFreed (rule_amounts p k) r.members s [] = (rw is at freed) group in
       let front : take one.front [] ≡ [] = take_none one.front in
-      let zero_is : rule_amounts p k (map (spot_with h c x []) r.members) ≡ 0 = rw front at one.free in
-      let amount : rule_amounts p k (map (spot_with h c x []) r.members) ≡ kind_amount r.kind p.nr_weeks p.travel (map (spot_with h c x []) r.members) = rw is refl in
+      let zero_is : rule_amounts p k (map (spot_with s []) r.members) ≡ 0 = rw front at one.free in
+      let amount : rule_amounts p k (map (spot_with s []) r.members) ≡ kind_amount r.kind p.nr_weeks p.travel (map (spot_with s []) r.members) = rw is refl in
       ap (kind_amount r.kind p.nr_weeks p.travel) (sym (moved_held r.members)) ∙ sym amount ∙ zero_is
     where
       take_none : (n : ℕ) → take {A = ℕ} n [] ≡ []

@@ -11,7 +11,7 @@ use crate::totals::{Totals, weighted};
 use crate::trial::costs_with;
 use std::alloc::{AllocError, Global};
 use tt_bits::{Spot, Time, Value};
-use tt_clash::{Closures, conflicts, conflicts_within};
+use tt_clash::{Closures, Listing, Placing, conflicts, conflicts_within};
 use tt_measure::Measure;
 use tt_occupancy::Occupancy;
 use tt_problem::{Problem, Weights};
@@ -35,20 +35,20 @@ pub struct Score {
 }
 
 impl Score {
-    ghost use Rattle.std.specs.Prelude.{◌≡◌, ◌↔◌, ◌<◌, ◌≤◌, ◌++◌, ◌∷◌, All, Some, None, IsSome, IfSome, IsTrue, IfOk, OnOk, OnErr, [], false, true, length, slice_index, replicate, slice_get, slice_set, slice_index_or, option_and_then, take};
+    ghost use Rattle.std.specs.Prelude.{◌≡◌, ◌↔◌, ◌<◌, ◌≤◌, ◌++◌, ◌∷◌, All, Some, None, IsSome, IfSome, IsTrue, IfOk, OnOk, OnErr, [], false, true, length, slice_index, replicate, slice_get, slice_set, slice_index_or, option_and_then, nat_le};
     ghost use Rattle.std.specs.Option.{option_map_or};
     ghost use Rattle.tt_problem.specs.declared.parts.Parts.{Parts};
     ghost use Rattle.tt_problem.specs.declared.parts.Rule.{Rule};
     ghost use Rattle.tt_clash.specs.Amounts.{rule_amounts};
     ghost use Rattle.tt_clash.specs.Blocked.{blocked_by};
     ghost use Rattle.tt_clash.specs.Closures.{made, relifted, without_last};
-    ghost use Rattle.tt_clash.specs.ConflictSet.{conflict_set};
     ghost use Rattle.tt_plan.specs.Domain.{IsOfDomain, spot_at_value, spots_of};
     ghost use Rattle.tt_score.specs.Amounts.{rule_amount, rule_cost};
     ghost use Rattle.tt_score.specs.Fits.{Fits, plan_of, student_lists, closures_of, occupancy_of, roster_of, group_count};
     ghost use Rattle.tt_base.specs.Lists.{is_listed};
     ghost use Rattle.tt_bits.specs.Spots.{spot_at};
     ghost use Rattle.tt_roster.specs.Lists.{with_class, without_class, list_of};
+    ghost use Rattle.tt_score.specs.Forcing.{conflicts_at};
     ghost use Rattle.tt_score.specs.Totals.{totals_of};
 
     /// The score where no class is placed, no student has a class, and nothing is closed. Only this
@@ -361,83 +361,69 @@ impl Score {
     /// Lists the classes that have to go where a class is forced to a value that isn't blocked: those
     /// that overlap it in its room or break a required pair rule with it, and for each required rule
     /// of MaxDays, MaxWeeks, MaxDayLoad, MaxBreaks and MaxBlock with it as many of the remaining
-    /// members, in member order, as bring the amount to 0. `order` begins with them, and the answer is
-    /// how many they are.
-    pub fn conflicts(
-        &mut self,
-        problem: &Problem,
-        class: u32,
-        value: Value,
-        marks: &mut [bool],
-        order: &mut [u32],
-    ) -> u32
+    /// members, in member order, as bring the amount to 0. They stand in the listing in place of those
+    /// that were listed.
+    pub fn conflicts(&mut self, problem: &Problem, class: u32, value: Value, listing: &mut Listing)
         requires fits { Fits problem.now self.old }
         requires value { IsOfDomain problem.now class value }
         requires open { option_and_then (blocked_by problem.now (closures_of self.old) class) (spot_at_value problem.now class value) ≡ None }
-        requires marks { length marks.old ≡ length problem.now.classes }
-        requires unmarked { All (λ marked. marked ≡ false) marks.old }
-        requires order { length order.old ≡ length problem.now.classes }
-        ensures set { take result order.new
-            ≡ option_map_or (conflict_set problem.now (rule_amounts problem.now) (spots_of problem.now (plan_of self.old)) class) (spot_at_value problem.now class value) [] }
-        ensures few { result ≤ length order.new }
-        ensures marks { marks.new ≡ marks.old }
+        requires listing { listing.old.classes ≡ length problem.now.classes }
+        ensures set { listing.new.list ≡ conflicts_at problem.now (plan_of self.old) class value }
+        ensures classes { listing.new.classes ≡ listing.old.classes }
         ensures plan { plan_of self.new ≡ plan_of self.old }
         ensures lists { student_lists self.new ≡ student_lists self.old }
         ensures closures { closures_of self.new ≡ closures_of self.old }
         ensures fits { Fits problem.now self.new }
     {
-        let spot = tt_plan::spot(problem, class, value);
-        conflicts(
+        let placing = Placing {
             problem,
-            self.occupancy.spots(),
+            spots: self.occupancy.spots(),
+            class,
+            spot: tt_plan::spot(problem, class, value),
+        };
+        conflicts(
+            &placing,
             &self.occupancy,
             self.groups.as_mut_slice(),
-            class,
-            spot,
-            marks,
-            order,
-        )
+            listing,
+        );
     }
 
-    /// The same as `conflicts`, where no more than `most` classes have to go, else none: it gives up
-    /// as soon as it knows.
+    /// The same as `conflicts`, where no more than `most` classes have to go; else nothing is listed.
+    /// It gives up as soon as it knows.
     pub fn conflicts_within(
         &mut self,
         problem: &Problem,
         class: u32,
         value: Value,
         most: u32,
-        marks: &mut [bool],
-        order: &mut [u32],
-    ) -> Option<u32>
+        listing: &mut Listing,
+    ) -> bool
         requires fits { Fits problem.now self.old }
         requires value { IsOfDomain problem.now class value }
         requires open { option_and_then (blocked_by problem.now (closures_of self.old) class) (spot_at_value problem.now class value) ≡ None }
-        requires marks { length marks.old ≡ length problem.now.classes }
-        requires unmarked { All (λ marked. marked ≡ false) marks.old }
-        requires order { length order.old ≡ length problem.now.classes }
-        ensures none { (result ≡ None)
-            ↔ (most < length (option_map_or (conflict_set problem.now (rule_amounts problem.now) (spots_of problem.now (plan_of self.old)) class) (spot_at_value problem.now class value) [])) }
-        ensures set { IfSome result (λ count. take count order.new
-            ≡ option_map_or (conflict_set problem.now (rule_amounts problem.now) (spots_of problem.now (plan_of self.old)) class) (spot_at_value problem.now class value) []) }
-        ensures few { IfSome result (λ count. count ≤ length order.new) }
-        ensures marks { marks.new ≡ marks.old }
+        requires listing { listing.old.classes ≡ length problem.now.classes }
+        ensures few { result ≡ nat_le (length (conflicts_at problem.now (plan_of self.old) class value)) most }
+        ensures set { IsTrue result → listing.new.list ≡ conflicts_at problem.now (plan_of self.old) class value }
+        ensures many { result ≡ false → listing.new.list ≡ [] }
+        ensures classes { listing.new.classes ≡ listing.old.classes }
         ensures plan { plan_of self.new ≡ plan_of self.old }
         ensures lists { student_lists self.new ≡ student_lists self.old }
         ensures closures { closures_of self.new ≡ closures_of self.old }
         ensures fits { Fits problem.now self.new }
     {
-        let spot = tt_plan::spot(problem, class, value);
-        conflicts_within(
+        let placing = Placing {
             problem,
-            self.occupancy.spots(),
+            spots: self.occupancy.spots(),
+            class,
+            spot: tt_plan::spot(problem, class, value),
+        };
+        conflicts_within(
+            &placing,
             &self.occupancy,
             self.groups.as_mut_slice(),
-            class,
-            spot,
             most,
-            marks,
-            order,
+            listing,
         )
     }
 

@@ -1,16 +1,16 @@
-use Rattle.std.proofs.Common.{◌≡◌, ◌<◌, ℕ, List, None, length, take, subst, arith}
-use Rattle.std.specs.Prelude.{◌↔◌, IfSome}
-use Rattle.tt_plan.specs.Domain.{spot_at_value}
+use Rattle.std.proofs.Common.{◌≡◌, ◌∙◌, ℕ, List, None, length, ap, arith}
+use Rattle.std.specs.Prelude.{nat_le}
 use Rattle.std.proofs.lemmas.List.{with_items_is}
 use Rattle.tt_clash.specs.Blocked.{blocked_by}
-use Rattle.tt_score.proofs.ConflictLemmas.{rooms-of, held-by, free-alone, groups-same, set-agree}
+use Rattle.tt_score.proofs.PlanLemmas.{length-spots_from}
+use Rattle.tt_score.proofs.ConflictLemmas.{is-placing, held-by, free-alone, groups-same, set-agree}
 use Rattle.tt_score.proofs.score.Score.conflicts_within.Goals as goal
 
-pub conflicts_within-requires-clause-rooms : goal.conflicts_within-requires-clause-rooms
-conflicts_within-requires-clause-rooms c =
-    let e = c.spots.ensures in
+pub conflicts_within-requires-clause-placing : goal.conflicts_within-requires-clause-placing
+conflicts_within-requires-clause-placing c =
     let kept = c.requires.fits.kept in
-    rw e (rooms-of c.args.problem.now c.args.self.now.occupancy.spots kept.valid.travel_rooms kept.of_classes)
+    let long : length c.args.self.now.occupancy.spots ≡ length c.args.problem.now.classes = omega (arith, ap length kept.spots, length-spots_from c.args.problem.now 0 c.args.self.now.plan.items, kept.planned.whole) in
+    is-placing c.args.problem.now c.args.self.now.occupancy.spots c.spots.result.now c.args.class c.spot.result c.spots.ensures kept.valid.travel_rooms kept.of_classes long c.requires.value.within c.spot.ensures.fits
 
 pub conflicts_within-requires-clause-groups : goal.conflicts_within-requires-clause-groups
 conflicts_within-requires-clause-groups c =
@@ -18,22 +18,20 @@ conflicts_within-requires-clause-groups c =
 
 pub conflicts_within-requires-clause-free : goal.conflicts_within-requires-clause-free
 conflicts_within-requires-clause-free c =
-    let none : blocked_by c.args.problem.now c.args.self.now.closures c.args.class c.spot-spot.result ≡ None = rw c.spot-spot.ensures.spot at c.requires.open in
-    rw c.as_mut_slice.ensures.value (free-alone c.args.problem.now c.args.self.now.closures c.args.self.now.occupancy.spots c.args.self.now.groups.items c.args.class c.spot-spot.result c.requires.fits.grouped none)
+    let none : blocked_by c.args.problem.now c.args.self.now.closures c.args.class c.spot.result ≡ None = rw c.spot.ensures.spot at c.requires.open in
+    rw c.as_mut_slice.ensures.value (free-alone c.args.problem.now c.args.self.now.closures c.args.self.now.occupancy.spots c.spots.result.now c.args.self.now.groups.items c.args.class c.spot.result c.requires.fits.grouped none)
 
-pub returns-clause-none : goal.returns-clause-none
-returns-clause-none c =
+pub returns-clause-few : goal.returns-clause-few
+returns-clause-few c =
     let s = c.args.self.now in
-    let same = set-agree c.args.problem.now s.groups.items c.as_mut_slice.result.now s.plan.items s.occupancy.spots c.spots.result.now c.args.class c.spot-spot.result
-    (spot_at_value c.args.problem.now c.args.class c.args.value) c.requires.fits.grouped c.as_mut_slice.ensures.value c.spots.ensures c.requires.fits.kept.spots c.spot-spot.ensures.spot in
-    subst (λ (l : List ℕ). (c.conflicts_within.result ≡ None) ↔ (c.args.most < length l)) same c.conflicts_within.ensures.none
+    let same = set-agree c.args.problem.now s.groups.items c.as_mut_slice.result.now s.plan.items s.occupancy.spots c.spots.result.now c.args.class c.args.value c.spot.result c.requires.fits.grouped c.as_mut_slice.ensures.value c.spots.ensures c.requires.fits.kept.spots c.spot.ensures.spot in
+    c.conflicts_within.ensures.few ∙ ap (λ (l : List ℕ). nat_le (length l) c.args.most) same
 
 pub returns-clause-set : goal.returns-clause-set
-returns-clause-set c =
+returns-clause-set c = λ found.
     let s = c.args.self.now in
-    let same = set-agree c.args.problem.now s.groups.items c.as_mut_slice.result.now s.plan.items s.occupancy.spots c.spots.result.now c.args.class c.spot-spot.result
-    (spot_at_value c.args.problem.now c.args.class c.args.value) c.requires.fits.grouped c.as_mut_slice.ensures.value c.spots.ensures c.requires.fits.kept.spots c.spot-spot.ensures.spot in
-    subst (λ (l : List ℕ). IfSome c.conflicts_within.result (λ count. take count c.conflicts_within.new.order ≡ l)) same c.conflicts_within.ensures.set
+    c.conflicts_within.ensures.set found
+    ∙ set-agree c.args.problem.now s.groups.items c.as_mut_slice.result.now s.plan.items s.occupancy.spots c.spots.result.now c.args.class c.args.value c.spot.result c.requires.fits.grouped c.as_mut_slice.ensures.value c.spots.ensures c.requires.fits.kept.spots c.spot.ensures.spot
 
 pub returns-clause-fits : goal.returns-clause-fits
 returns-clause-fits c =

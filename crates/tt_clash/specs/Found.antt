@@ -1,0 +1,40 @@
+-- Proof. What the code finds, step by step: who clashes, who is out of a group, and what is listed.
+use Rattle.std.specs.Prelude.{◌≡◌, ℕ, ◌<◌, ◌≤◌, Bool, true, ◌||◌, ◌==◌, List, Option, None, if◌then◌else◌, nat_lt, length, take, drop}
+use Rattle.tt_bits.specs.declared.times.Spot.{Spot}
+use Rattle.tt_bits.specs.declared.pairs.PairKind.{PairKind}
+use Rattle.tt_bits.specs.Spots.{spot_at}
+use Rattle.tt_pair.specs.declared.Listed.TheVariants.{Before, After}
+use Rattle.tt_pair.specs.Listed.{is_violated_by}
+use Rattle.tt_base.specs.Lists.{is_listed}
+use Rattle.tt_clash.specs.Placings.{Placing}
+use Rattle.tt_clash.specs.ConflictSet.{passes, breaks_pair}
+
+-- the member d at another place breaks the pair rule
+abbrev pub breaks_with : PairKind → Placing → (place other : ℕ) → ℕ → Bool
+breaks_with kind s place other d = passes s (is_violated_by kind s.problem.travel s.spot (if nat_lt other place then Before else After)) d
+
+-- d breaks the pair rule
+abbrev pub clashes_in_rule : PairKind → (members : List ℕ) → Placing → (place : ℕ) → ℕ → Bool
+clashes_in_rule kind members s place d = passes s (breaks_pair kind s.problem.travel (take place members) (drop place members) s.spot d) d
+
+-- what a class has, where those that pass the test have nothing
+abbrev pub spot_unless : (ℕ → Bool) → List (Option Spot) → ℕ → Option Spot
+spot_unless out spots d = if out d then None else spot_at spots d
+
+-- what a class that passes the test has in the plan
+abbrev pub lent_spot : (ℕ → Bool) → List (Option Spot) → ℕ → Option Spot
+lent_spot out spots d = if out d then spot_at spots d else None
+
+-- the class c and the listed ones
+abbrev pub is_out : ℕ → List ℕ → ℕ → Bool
+is_out c list d = (d == c) || is_listed d list
+
+-- The listed classes pass the test; and all that pass are listed, where no more than `most` are.
+pub record AreListedWithin (most : ℕ) (test : ℕ → Bool) (list : List ℕ) : Type 0 where
+  pub pass : (d : ℕ) → is_listed d list ≡ true → test d ≡ true
+  pub all : length list ≤ most → (d : ℕ) → is_listed d list ≡ test d
+
+-- The classes found are the list, where they are no more than `most`; else the list, too, has more than `most`.
+pub record IsFoundWithin (most : ℕ) (list found : List ℕ) : Type 0 where
+  pub all : length found ≤ most → found ≡ list
+  pub longer : most < length found → most < length list
