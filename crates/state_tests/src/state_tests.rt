@@ -52,6 +52,16 @@ fn has_totals(state: &State) -> bool {
     state.totals() == totals
 }
 
+// The total with the first class at its first time in a room, asked for below each of three bounds.
+fn trials_below(state: &mut State, room: u32, bounds: [u128; 3]) -> Option<[Option<u128>; 3]> {
+    let value = value(state.problem(), 0, 1, Some(room))?;
+    let others = state.conflicts_without(0);
+    let first = state.trial_below(0, value, others, bounds[0]);
+    let second = state.trial_below(0, value, others, bounds[1]);
+    let third = state.trial_below(0, value, others, bounds[2]);
+    Some([first, second, third])
+}
+
 // Whether a step goes back to a moment of it.
 fn rolls_back(state: &mut State) -> bool {
     let Some(value) = value(state.problem(), 0, 1, Some(71)) else {
@@ -124,6 +134,9 @@ fn a_student_gets_a_list_and_drops_it(rt: HostRuntime) -> Result<(), Fail> {
     assert!(rt; assigns(&mut state, 0, 1, Some(71)));
     assert!(rt; assigns(&mut state, 2, 1, Some(72)));
     assert!(rt; has_totals(&state));
+    // Without the pair that conflicts the total is 109.
+    assert!(rt; trials_below(&mut state, 71, [109, 116, 117]) == Some([None, None, Some(116)]));
+    assert!(rt; trials_below(&mut state, 72, [0, 44, 45]) == Some([None, None, Some(44)]));
     assert!(rt; drops(&mut state, 0));
     assert!(rt; !drops(&mut state, 0));
     drop(state);

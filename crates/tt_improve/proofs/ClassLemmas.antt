@@ -58,14 +58,6 @@ none_within n = by (nat_le n 0) (n == 0) refl refl
     by true false p q = grind (arith, nat_tests)
     by false true p q = grind (arith, nat_tests)
 
--- a value that isn't free isn't better
-pub not_better : (free : Value → Bool) (total : Value → ℕ) (best : Best) (v : Value) → free v ≡ false → best ≡ better free total best v
-not_better free total best v shut = by (nat_lt (total v) best.total)
-  where
-    by : (low : Bool) → best ≡ cond (low && free v) (record { total = total v; value = Some v }) best
-    by true = rw shut refl
-    by false = refl
-
 -- the walk goes on over the values that are left
 pub walk_next : (free : Value → Bool) (total : Value → ℕ) (domain : List Value) (k : ℕ) (v : Value) (start best now : Best) → slice_get domain k ≡ Some v → now ≡ better free total best v
     → passed free total best (drop k domain) ≡ passed free total start domain → passed free total now (drop (k + 1) domain) ≡ passed free total start domain

@@ -3,7 +3,7 @@ ghost use Rattle.std.specs.Option.{option_map};
 ghost use Rattle.tt_plan.specs.Domain.{IsOfDomain};
 ghost use Rattle.tt_state.specs.History.{IsWithinStep, earlier, with_taken};
 ghost use Rattle.tt_state.specs.Snapshots.{with_value};
-ghost use Rattle.tt_state.specs.Values.{total_with};
+ghost use Rattle.tt_state.specs.Values.{conflicts_without, total_with};
 ghost use Rattle.tt_improve.specs.Classes.{is_free, moved_class};
 ghost use Rattle.tt_improve.specs.Below.{better};
 ghost use Rattle.tt_improve.specs.Standing.{IsLower, IsNoWorse, IsPlacedIn};
@@ -20,35 +20,24 @@ struct Best {
     value: Option<Value>,
 }
 
-/// Whether a value isn't blocked, and its conflict set is empty.
+/// The best once a value was looked at. `others` are the student conflicts without the class. The
+/// conflict set is asked for only where the total is lower.
 #[tactic(auto, using(crate::proofs::ClassLemmas::none_within))]
-fn is_free(state: &mut State, class: u32, value: Value) -> bool
-    requires { IsOfDomain state.old.problem class value }
-    ensures problem { state.new.problem ≡ state.old.problem }
-    ensures present { state.new.present ≡ state.old.present }
-    ensures entries { state.new.entries ≡ state.old.entries }
-    ensures free { result ≡ is_free state.old.problem state.old.present class value }
-{
-    if state.blocked(class, value).is_some() {
-        return false;
-    }
-    state.find_conflicts_within(class, value, 0)
-}
-
-/// The best once a value was looked at. The total is asked for only where the value is free.
-#[tactic(auto, using(crate::proofs::ClassLemmas::not_better))]
-fn look_at(state: &mut State, class: u32, value: Value, best: Best) -> Best
-    requires { IsOfDomain state.old.problem class value }
+fn look_at(state: &mut State, class: u32, value: Value, others: u64, best: Best) -> Best
+    requires value { IsOfDomain state.old.problem class value }
+    requires others { others ≡ conflicts_without state.old.problem state.old.present class }
     ensures problem { state.new.problem ≡ state.old.problem }
     ensures present { state.new.present ≡ state.old.present }
     ensures entries { state.new.entries ≡ state.old.entries }
     ensures better { result ≡ better (is_free state.old.problem state.old.present class) (total_with state.old.problem state.old.present class) best value }
 {
-    if !is_free(state, class, value) {
+    if state.blocked(class, value).is_some() {
         return best;
     }
-    let total = state.trial(class, value);
-    if total < best.total {
+    let Some(total) = state.trial_below(class, value, others, best.total) else {
+        return best;
+    };
+    if state.find_conflicts_within(class, value, 0) {
         Best {
             total,
             value: Some(value),
@@ -71,9 +60,10 @@ fn lower_value(state: &mut State, class: u32) -> Option<Value>
         total: state.totals().total,
         value: None,
     };
+    let others = state.conflicts_without(class);
     for k in 0..domain_size(state.problem(), class) {
         let value = value_at(state.problem(), class, k);
-        best = look_at(state, class, value, best);
+        best = look_at(state, class, value, others, best);
     }
     best.value
 }

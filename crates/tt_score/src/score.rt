@@ -6,9 +6,9 @@ use crate::group::Group;
 use crate::joint::JointRoster;
 use crate::making::new_groups;
 use crate::rules::{RuleSums, cost_of, set_in_rules};
-use crate::students::{conflicts_with, students_with_courses, unsectioned_at};
+use crate::students::{conflicts_with, conflicts_without, students_with_courses, unsectioned_at};
 use crate::totals::{Totals, weighted};
-use crate::trial::costs_with;
+use crate::trial::{Tried, costs_with};
 use std::alloc::{AllocError, Global};
 use tt_bits::{Spot, Time, Value};
 use tt_clash::{Closures, Listing, Placing, conflicts, conflicts_within};
@@ -50,6 +50,8 @@ impl Score {
     ghost use Rattle.tt_roster.specs.Lists.{with_class, without_class, list_of};
     ghost use Rattle.tt_score.specs.Forcing.{conflicts_at};
     ghost use Rattle.tt_score.specs.Totals.{totals_of};
+    ghost use Rattle.tt_score.specs.Below.{below};
+    ghost use Rattle.tt_score.specs.Tried.{IsTried};
 
     /// The score where no class is placed, no student has a class, and nothing is closed. Only this
     /// call and `close` take memory.
@@ -342,6 +344,60 @@ impl Score {
         ensures same { self.new ≡ self.old }
     {
         problem.validity();
+        let tried = self.tried(problem, class, value);
+        let student = conflicts_with(problem, &mut self.roster, class, tried.has, tried.spot);
+        tried.total(self.weights, student)
+    }
+
+    /// The student conflicts without a class.
+    pub fn conflicts_without(&mut self, problem: &Problem, class: u32) -> u64
+        requires fits { Fits problem.now self.old }
+        requires class { class < length problem.now.classes }
+        ensures conflicts { result ≡ (totals_of problem.now (closures_of self.old) (slice_set (plan_of self.old) class None) (student_lists self.old)).student }
+        ensures same { self.new ≡ self.old }
+    {
+        let has = spot_now(problem, self.plan.as_slice(), class);
+        conflicts_without(problem, &mut self.roster, class, has)
+    }
+
+    /// The total with a class at a value, where it is below a bound. `others` are the student conflicts
+    /// without the class; where these, the times, the rooms and the rules come to the bound, the
+    /// students of the class aren't asked. Nothing is changed.
+    pub fn trial_below(
+        &mut self,
+        problem: &Problem,
+        class: u32,
+        value: Value,
+        others: u64,
+        bound: u128,
+    ) -> Option<u128>
+        requires fits { Fits problem.now self.old }
+        requires value { IsOfDomain problem.now class value }
+        requires others { others ≡ (totals_of problem.now (closures_of self.old) (slice_set (plan_of self.old) class None) (student_lists self.old)).student }
+        ensures total { result ≡ below bound (totals_of problem.now (closures_of self.old) (slice_set (plan_of self.old) class (Some value)) (student_lists self.old)).total }
+        ensures same { self.new ≡ self.old }
+    {
+        problem.validity();
+        let tried = self.tried(problem, class, value);
+        if tried.total(self.weights, others) >= bound {
+            return None;
+        }
+        let sure = self.roster.sure_gain(problem, class, tried.spot);
+        if tried.total(self.weights, others + sure) >= bound {
+            return None;
+        }
+        let more = self.roster.class_gain(problem, class, tried.spot);
+        let total = tried.total(self.weights, others + more);
+        if total < bound { Some(total) } else { None }
+    }
+
+    /// A class at a value, as far as no students are asked.
+    fn tried(&self, problem: &Problem, class: u32, value: Value) -> Tried
+        requires fits { Fits problem.now self.now }
+        requires value { IsOfDomain problem.now class value }
+        ensures { IsTried problem.now (plan_of self.now) class value result }
+    {
+        problem.validity();
         let spot = tt_plan::spot(problem, class, value);
         let has = spot_now(problem, self.plan.as_slice(), class);
         let paid = paid_with(problem, self.plan.as_slice(), class, value, self.classes);
@@ -354,8 +410,13 @@ impl Score {
             spot,
             self.rules.distribution,
         );
-        let student = conflicts_with(problem, &mut self.roster, class, has, spot);
-        weighted(self.weights, paid.time, paid.room, distribution, student)
+        Tried {
+            has,
+            spot,
+            time: paid.time,
+            room: paid.room,
+            distribution,
+        }
     }
 
     /// Lists the classes that have to go where a class is forced to a value that isn't blocked: those

@@ -1,13 +1,14 @@
-ghost use Rattle.std.specs.Prelude.{◌≡◌, ◌+◌, ◌*◌, ◌/◌, ◌≤◌, ◌<◌, ◌^◌, ◌∷◌, [], false, None, Some, IfSome, IsTrue, length};
+ghost use Rattle.std.specs.Prelude.{◌≡◌, ◌+◌, ◌*◌, ◌/◌, ◌≤◌, ◌<◌, ◌^◌, ◌∷◌, [], false, None, Some, IfNone, IfSome, IsTrue, length, if◌then◌else◌};
 ghost use Rattle.tt_state.specs.History.{with_taken};
 ghost use Rattle.std.specs.Option.{option_copied, option_map, ForSome};
-ghost use Rattle.tt_base.specs.Lists.{least_after};
+ghost use Rattle.tt_base.specs.Lists.{comes_before, least_after};
 ghost use Rattle.tt_solution.specs.Timetable.{IsTimetableOf};
-ghost use Rattle.tt_state.specs.Values.{conflicts_of};
+ghost use Rattle.tt_state.specs.Values.{conflicts_of, conflicts_without, total_with};
 ghost use Rattle.tt_search.specs.Turns.{toll_of, weight_of, chosen_value, turn_of};
 ghost use Rattle.tt_search.specs.Drawing.{AreCandidates};
 ghost use Rattle.tt_search.specs.Full.{full_price, full_value};
-ghost use Rattle.tt_search.specs.Numbers.{IsOpenValue, IsPriced, after_move, offered};
+ghost use Rattle.tt_plan.specs.Domain.{IsOfDomain};
+ghost use Rattle.tt_search.specs.Numbers.{IsOpenValue, IsPriced, after_move, offered, price_numbers};
 
 use crate::drawing::{Candidates, is_open};
 use crate::price::{Price, is_stray};
@@ -81,18 +82,48 @@ fn find_lighter(state: &mut State, class: u32, value: Value, weight: u128) -> bo
     }
 }
 
-/// The best offer once a value that isn't blocked was looked at. Its conflict set is
-/// given up once it weighs more, and the total is asked for only where it may tell.
+/// The total with a class at a value whose weight and strays are these, or none where its price is then
+/// not below another.
+#[tactic(auto, unfolding(crate::specs::Full::full_price))]
+fn total_within(
+    state: &mut State,
+    class: u32,
+    value: Value,
+    others: u64,
+    weight: u128,
+    strays: bool,
+    least: Price,
+) -> Option<u128>
+    requires value { IsOfDomain state.old.problem class value }
+    requires others { others ≡ conflicts_without state.old.problem state.old.present class }
+    ensures same { state.new ≡ state.old }
+    ensures total { IfSome result (λ total. total ≡ total_with state.old.problem state.old.present class value) }
+    ensures none { IfNone result (comes_before (weight ∷ (if strays then 1 else 0) ∷ total_with state.old.problem state.old.present class value ∷ []) (price_numbers least) ≡ false) }
+{
+    if least.beats(weight, strays) {
+        return None;
+    }
+    if weight == least.weight && strays == least.strays {
+        return state.trial_below(class, value, others, least.total);
+    }
+    Some(state.trial(class, value))
+}
+
+/// The best offer once a value that isn't blocked was looked at. `others` are the student conflicts
+/// without the class. The conflict set is given up once it weighs more, and the total is asked for
+/// only where it may tell.
 #[tactic(auto, unfolding(crate::specs::Full::full_price), using(crate::proofs::ChoiceLemmas::stays, crate::proofs::ChoiceLemmas::takes, crate::proofs::ChoiceLemmas::stays_lighter))]
 fn look_at(
     state: &mut State,
     published: Option<&Published>,
     class: u32,
     value: Value,
+    others: u64,
     best: Option<Offer>,
 ) -> Option<Offer>
     requires belongs { ForSome (option_copied published) (IsTimetableOf state.old.problem) }
     requires value { IsOpenValue state.old.problem state.old.present.closures class value }
+    requires others { others ≡ conflicts_without state.old.problem state.old.present class }
     requires priced { IsPriced (full_price state.old.problem (option_copied published) state.old.present class) (IsOpenValue state.old.problem state.old.present.closures class) best }
     ensures problem { state.new.problem ≡ state.old.problem }
     ensures present { state.new.present ≡ state.old.present }
@@ -118,10 +149,10 @@ fn look_at(
                 return Some(least);
             }
             let weight = weight_of(state, class, value);
-            if least.price.beats(weight, strays) {
+            let Some(total) = total_within(state, class, value, others, weight, strays, least.price)
+            else {
                 return Some(least);
-            }
-            let total = state.trial(class, value);
+            };
             let price = Price {
                 weight,
                 strays,
@@ -147,11 +178,12 @@ fn choice(state: &mut State, published: Option<&Published>, class: u32) -> Optio
     ensures choice { result ≡ chosen_value state.old.problem (option_copied published.entry) state.old.present class }
     ensures open { IfSome result (IsOpenValue state.old.problem state.old.present.closures class) }
 {
+    let others = state.conflicts_without(class);
     let mut best: Option<Offer> = None;
     for k in 0..domain_size(state.problem(), class) {
         let value = value_at(state.problem(), class, k);
         if is_open(state, class, value) {
-            best = look_at(state, published, class, value, best);
+            best = look_at(state, published, class, value, others, best);
         }
     }
     best.map(|offer| offer.value)

@@ -1,9 +1,11 @@
 -- What is found by one value of a class.
-use Rattle.std.proofs.Common.{◌≡◌, ◌∙◌, ℕ, ◌+◌, ◌<◌, ◌≤◌, Bool, true, false, Option, Some, Result, Ok, Err, List, [], ◌∷◌, ◌++◌, length, map, refl, ap, sym, arith}
-use Rattle.std.specs.Prelude.{◌&&◌, not, is_none, nat_le, OnOk}
+use Rattle.std.proofs.Common.{◌≡◌, ◌∙◌, ℕ, ◌+◌, ◌<◌, ◌≤◌, Bool, true, false, Option, None, Some, Result, Ok, Err, List, [], ◌∷◌, ◌++◌, length, map, refl, ap, sym, arith}
+use Rattle.std.specs.Prelude.{◌&&◌, not, is_none, nat_le, IsSomeAnd, OnOk}
+use Rattle.std.specs.declared.cmp.Ordering.TheVariants.{Greater}
+use Rattle.std.specs.Cmp.{nat_cmp_is}
 use Rattle.std.specs.List.{list_any}
 use Rattle.std.proofs.lemmas.Bool.{leb-true}
-use Rattle.tt_base.specs.Lists.{least_after}
+use Rattle.tt_base.specs.Lists.{is_less, least_after}
 use Rattle.tt_base.proofs.ListLemmas.{least_after_none}
 use Rattle.tt_bits.specs.declared.times.Value.{Value}
 use Rattle.tt_problem.specs.declared.parts.Parts.{Parts}
@@ -14,6 +16,7 @@ use Rattle.tt_state.specs.Values.{blocked_of, conflicts_of, total_with}
 use Rattle.tt_suggest.specs.declared.branch.Branch.{Branch}
 use Rattle.tt_suggest.specs.declared.suggestion.Rank.{Rank}
 use Rattle.tt_suggest.specs.declared.suggestion.Suggested.{Suggested}
+use Rattle.tt_suggest.specs.declared.suggestion.Suggestion.{Suggestion}
 use Rattle.tt_suggest.specs.Ranks.{rank_numbers}
 use Rattle.tt_suggest.specs.Suggestions.{rank_of, suggestion_of}
 use Rattle.tt_suggest.specs.Tree.{Node, emptied, gives_child, is_on, leaves_of, stays_at_root, tries_of}
@@ -81,6 +84,21 @@ leaf_found p published s b v rank old new some alone none ranked tried few best 
       best = best ∙ ap (least_after rank_of old.best) (sym leaves);
       few = omega (arith, tried, few);
     }
+
+-- what was found stays where a later suggestion has a higher total
+found_stays : (found : Option Suggestion) (later : Suggestion) → IsSomeAnd found (λ best. best.total < later.total) → found ≡ least_after rank_of found (later ∷ [])
+found_stays None later above = absurd above
+found_stays (Some best) later above =
+    let behind : is_less rank_of later best ≡ false = rw (sym (nat_cmp_is later.total best.total Greater above)) refl in
+    rw behind refl
+
+-- the same where the child is a suggestion that has a higher total than what was found
+pub leaf_above : (p : Parts) (published : Option Timetable) (s : Snapshot) (b : Branch) (v : Value) (now : Suggested) → gives p s b v ≡ true → b.others.items ≡ [] → conflicts_of p s b.class v ≡ [] → now.tried ≤ 1000000
+    → IsSomeAnd now.best (λ best. best.total < total_with p s b.class v)
+    → AreFoundIn (tries_by p s b (v ∷ [])) (suggestions_by p published s b (v ∷ [])) now now
+leaf_above p published s b v now some alone none few above =
+    let rank : Rank = record { total = total_with p s b.class v; moved = moved_in p published (with_value s b.class (Some v)).plan } in
+    leaf_found p published s b v rank now now some alone none refl refl few (found_stays now.best (leaf_of b v rank) above)
 
 third : (a b c d : Bool) → (a && b && (c && d)) ≡ true → c ≡ true
 third true true true d is = refl

@@ -1,4 +1,4 @@
-ghost use Rattle.std.specs.Prelude.{◌≡◌, ◌≢◌, ◌↔◌, ◌+◌, ◌==◌, true, false, ◌∷◌, [], ◌<◌, ◌≤◌, Option, Err, Ok, IfOk, OnOk, OnErr, None, Some, length, map, suc};
+ghost use Rattle.std.specs.Prelude.{◌≡◌, ◌≢◌, ◌↔◌, ◌+◌, ◌==◌, true, false, ◌∷◌, [], ◌<◌, ◌≤◌, Option, Err, Ok, IfNone, IfOk, IfSome, IsSomeAnd, OnOk, OnErr, None, Some, length, map, suc};
 ghost use Rattle.std.specs.Option.{option_copied, ForSome};
 ghost use Rattle.tt_base.specs.Lists.{least_after};
 ghost use Rattle.tt_plan.specs.Domain.{IsOfDomain};
@@ -37,6 +37,30 @@ impl Suggested {
                 moved: best.moved,
             }),
         }
+    }
+
+    /// A total below which each is no higher than that of what was found so far, if anything was.
+    fn bound(&self) -> Option<u128>
+        ensures { IfSome result (λ bound. IsSomeAnd self.now.best (λ best. bound ≡ best.total + 1)) }
+    {
+        match &self.best {
+            None => None,
+            Some(best) => best.total.checked_add(1),
+        }
+    }
+
+    /// The total with a class at a value, or none where it is above that of what was found so far.
+    fn total_within(&self, state: &mut State, class: u32, value: Value) -> Option<u128>
+        requires value { IsOfDomain state.old.problem class value }
+        ensures same { state.new ≡ state.old }
+        ensures total { IfSome result (λ total. total ≡ total_with state.old.problem state.old.present class value) }
+        ensures above { IfNone result (IsSomeAnd self.now.best (λ best. best.total < total_with state.old.problem state.old.present class value)) }
+    {
+        let Some(bound) = self.bound() else {
+            return Some(state.trial(class, value));
+        };
+        let others = state.conflicts_without(class);
+        state.trial_below(class, value, others, bound)
     }
 
     /// Takes the suggestion that a branch gives with its class at a value, if it is better than what
@@ -81,22 +105,24 @@ impl Suggested {
 }
 
 /// The rank of the suggestion that a branch gives with its class at a value, where nothing is pushed
-/// out and no class waits then.
+/// out and no class waits then. `None` where its total is above that of what was found so far.
 fn rank_with(
     state: &mut State,
     published: Option<&Published>,
     branch: &Branch,
     value: Value,
-) -> Rank
+    found: &Suggested,
+) -> Option<Rank>
     requires belongs { ForSome (option_copied published) (IsTimetableOf state.old.problem) }
     requires branch { IsBranchOf state.old.problem (option_copied published) state.old.present branch.now }
     requires value { IsOfDomain state.old.problem branch.now.class value }
     ensures same { state.new ≡ state.old }
-    ensures rank { rank_numbers result ≡ total_with state.old.problem state.old.present branch.now.class value ∷ moved_in state.old.problem (option_copied published.entry) (with_value state.old.present branch.now.class (Some value)).plan ∷ [] }
+    ensures rank { IfSome result (λ rank. rank_numbers rank ≡ total_with state.old.problem state.old.present branch.now.class value ∷ moved_in state.old.problem (option_copied published.entry) (with_value state.old.present branch.now.class (Some value)).plan ∷ []) }
+    ensures above { IfNone result (IsSomeAnd found.now.best (λ best. best.total < total_with state.old.problem state.old.present branch.now.class value)) }
 {
     let moved = moved_with(state, published, branch.moved, branch.class, Some(value));
-    let total = state.trial(branch.class, value);
-    Rank { total, moved }
+    let total = found.total_within(state, branch.class, value)?;
+    Some(Rank { total, moved })
 }
 
 /// Tries each value of the class of a branch, in the last step, and goes on from there as far as it
@@ -151,8 +177,10 @@ fn try_value(
         return Ok(());
     }
     if branch.is_last(state.taken()) {
-        let rank = rank_with(state, published, branch, value);
-        return Ok(found.offer(alloc, branch, value, rank)?);
+        return match rank_with(state, published, branch, value, found) {
+            None => Ok(()),
+            Some(rank) => Ok(found.offer(alloc, branch, value, rank)?),
+        };
     }
     descend(alloc, state, published, branch, value, found)
 }

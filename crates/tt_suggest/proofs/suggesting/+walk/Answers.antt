@@ -4,7 +4,7 @@ use Rattle.tt_state.specs.History.{Held}
 use Rattle.tt_state.specs.Values.{conflicts_of}
 use Rattle.tt_suggest.specs.declared.suggestion.SuggestEnd.TheVariants.{TooMany}
 use Rattle.tt_suggest.proofs.BackLemmas.{back_next, back_same}
-use Rattle.tt_suggest.proofs.FoundLemmas.{barren_found, child_found, child_spare, child_too_many, gives, leaf_found, on_ok}
+use Rattle.tt_suggest.proofs.FoundLemmas.{barren_found, child_found, child_spare, child_too_many, gives, leaf_above, leaf_found, on_ok}
 use Rattle.tt_suggest.proofs.TreeLemmas.{branch_tries, way_end, way_next, way_start, way_too_many}
 use Rattle.tt_suggest.proofs.WaitingLemmas.{both_empty, some_wait}
 use Rattle.tt_suggest.proofs.suggesting.+walk.Goals as goal
@@ -15,8 +15,8 @@ try_value-returns-then-not-gives_child-clause-found t c =
     let none : gives start.problem start.present c.args.branch.now c.args.value ≡ false = sym c.gives_child.ensures.gives ∙ c.if-not-gives_child.true in
     barren_found start.problem (option_copied c.args.published) start.present c.args.branch.now c.args.value c.args.found.now none c.requires.few
 
-pub try_value-returns-then-is_last-clause-found : goal.try_value-returns-then-is_last-clause-found
-try_value-returns-then-is_last-clause-found t c =
+pub try_value-returns-in_ok-offer-in-Some-clause-found : goal.try_value-returns-in_ok-offer-in-Some-clause-found
+try_value-returns-in_ok-offer-in-Some-clause-found t c =
     let start = c.args.state.now in
     let branch = c.args.branch.now in
     let some : gives start.problem start.present branch c.args.value ≡ true = sym c.gives_child.ensures.gives ∙ c.if-not-gives_child.false in
@@ -24,8 +24,19 @@ try_value-returns-then-is_last-clause-found t c =
     let present : c.gives_child.new.state.present ≡ start.present = ap (λ (h : Held). h.present) c.gives_child.ensures.same in
     let conflicts : c.taken.result.now ≡ conflicts_of start.problem start.present branch.class c.args.value = c.taken.ensures.classes ∙ c.gives_child.ensures.taken c.if-not-gives_child.false in
     let empty = both_empty branch.others.items c.taken.result.now (sym c.is_last.ensures ∙ c.if-is_last.true) in
-    let ranked = rw (problem, present) at c.rank_with-rank.ensures.rank in
-    leaf_found start.problem (option_copied c.args.published) start.present branch c.args.value c.rank_with-rank.result c.args.found.now c.offer.new.self some empty.0 (sym conflicts ∙ empty.1) ranked c.offer.ensures.tried c.requires.few c.in_ok-offer.ensures.best
+    let ranked = rw (problem, present) at c.in-Some.ensures.rank in
+    leaf_found start.problem (option_copied c.args.published) start.present branch c.args.value c.in-Some.rank c.args.found.now c.offer.new.self some empty.0 (sym conflicts ∙ empty.1) ranked c.offer.ensures.tried c.requires.few c.in_ok-offer-in-Some.ensures.best
+
+pub try_value-returns-in-None-clause-found : goal.try_value-returns-in-None-clause-found
+try_value-returns-in-None-clause-found t c =
+    let start = c.args.state.now in
+    let branch = c.args.branch.now in
+    let some : gives start.problem start.present branch c.args.value ≡ true = sym c.gives_child.ensures.gives ∙ c.if-not-gives_child.false in
+    let problem : c.gives_child.new.state.problem ≡ start.problem = ap (λ (h : Held). h.problem) c.gives_child.ensures.same in
+    let present : c.gives_child.new.state.present ≡ start.present = ap (λ (h : Held). h.present) c.gives_child.ensures.same in
+    let conflicts : c.taken.result.now ≡ conflicts_of start.problem start.present branch.class c.args.value = c.taken.ensures.classes ∙ c.gives_child.ensures.taken c.if-not-gives_child.false in
+    let empty = both_empty branch.others.items c.taken.result.now (sym c.is_last.ensures ∙ c.if-is_last.true) in
+    leaf_above start.problem (option_copied c.args.published) start.present branch c.args.value c.args.found.now some empty.0 (sym conflicts ∙ empty.1) c.requires.few (rw (problem, present) at c.in-None.ensures.above)
 
 pub try_value-returns-clause-found : goal.try_value-returns-clause-found
 try_value-returns-clause-found t c =
