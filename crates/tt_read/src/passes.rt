@@ -7,7 +7,7 @@ ghost use Rattle.tt_tree.specs.Context.{context_of, IsContext};
 ghost use Rattle.tt_tree.specs.Read.{rooms_read, tree_read};
 ghost use Rattle.tt_tree.specs.Whole.{HasClasses};
 ghost use Rattle.tt_lists.specs.Tables.{rules_in, students_in};
-ghost use Rattle.tt_read.specs.Read.{room_list_read, course_list_read, shape_read, IsShape, IsLinked};
+ghost use Rattle.tt_read.specs.Read.{room_list_read, course_list_read, shape_read, IsShape, HasAllClasses, IsLinked};
 ghost use Rattle.tt_read.specs.Tables.{most_weeks as most_weeks_of, term_of, weights_of, term_context, room_list_of, course_list_of, checked_list, file_shape, shape_context, parts_with as parts_of_all, linked_of};
 
 use crate::term::Term;
@@ -32,7 +32,7 @@ fn most_weeks(version: u8) -> u32
 
 /// The version of the form, the days of a week, and the weeks of the term.
 #[tactic(auto, unfolding(crate::specs::Tables::term_of))]
-fn read_term<'a>(object: &'a Part<'a>) -> Result<Term, Fault<'a>>
+pub fn read_term<'a>(object: &'a Part<'a>) -> Result<Term, Fault<'a>>
     ensures reads { Reads (λ term. term) result (term_of (part_of object.now)) }
     ensures valid { IfOk result (λ term. IsValidTerm term.nr_days term.nr_weeks) }
 {
@@ -49,7 +49,7 @@ fn read_term<'a>(object: &'a Part<'a>) -> Result<Term, Fault<'a>>
 
 /// The optimization weights.
 #[tactic(auto, unfolding(crate::specs::Tables::weights_of))]
-fn read_weights<'a>(object: &'a Part<'a>) -> Result<Weights, Fault<'a>>
+pub fn read_weights<'a>(object: &'a Part<'a>) -> Result<Weights, Fault<'a>>
     ensures reads { Reads (λ weights. weights) result (weights_of (part_of object.now)) }
     ensures valid { IfOk result AreValidWeights }
 {
@@ -181,6 +181,7 @@ pub struct Shape<'a> {
 pub fn first_pass<'a>(alloc: Global, object: &'a Part<'a>) -> Result<Shape<'a>, FileFault>
     ensures reads { Gives shape_read result (file_shape (part_of object.now)) }
     ensures valid { IfOk result IsShape }
+    ensures classes { IfOk result HasAllClasses }
 {
     as_object(object)?;
     let term = read_term(object)?;
@@ -258,7 +259,7 @@ fn parts_with(
 pub fn second_pass(alloc: Global, shape: &Shape<'_>) -> Result<Parts, FileFault>
     requires { IsShape shape.now }
     ensures reads { Gives (λ parts. parts) result (linked_of (shape_read shape.now)) }
-    ensures linked { IfOk result IsLinked }
+    ensures linked { IfOk result (λ parts. HasAllClasses shape.now → IsLinked parts) }
 {
     let context = shape_context(&*shape);
     let rooms = read_rooms(alloc, &context, &shape.rooms.items)?;

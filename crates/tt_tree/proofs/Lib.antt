@@ -1,3 +1,4 @@
 pub mod Places
 pub mod Pushed
 pub mod Whole
+pub mod Unknown

@@ -1,6 +1,7 @@
 //! The rooms and the courses of a problem file, as the tables of its definitions
-//! (`specs/Tables.antt`) read them: what is read, or exactly the first fault (`reads`). Each list
-//! is read twice: before any id is known, and with the ids of rooms and classes known.
+//! (`specs/Tables.antt`) read them: what is read, or exactly the first fault (`reads`). A list is
+//! read with no id known, so that no reference is looked up, or with the ids of rooms and classes.
+//! What is read with ids known is read with none known too (`proofs/Unknown.antt`).
 #![tactic(auto)]
 
 mod context;

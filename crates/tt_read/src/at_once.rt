@@ -1,0 +1,153 @@
+//! Reading a file that has no fault: its ids are gathered first, and then all is read once, each
+//! reference looked up at once.
+
+ghost use Rattle.std.specs.Prelude.{◌≡◌, Ok, IfOk, IfSome, IsTrue, map};
+ghost use Rattle.tt_problem.specs.Valid.{IsValid, room_ids, course_ids, class_ids};
+ghost use Rattle.tt_fields.specs.Answer.{part_of};
+ghost use Rattle.tt_read.specs.Read.{shape_read, HasLists, HasIdsOf, IsShape};
+ghost use Rattle.tt_read.specs.Tables.{parts_of};
+
+use crate::passes::{CourseList, RoomList, Shape, read_term, read_weights, second_pass};
+use crate::sums::third_pass;
+use indexmap::IndexSet;
+use std::alloc::{AllocError, Global};
+use tt_fields::{
+    FileFault, Items, Part, as_object, list, list_or_none, number, object as required_object,
+};
+use tt_problem::{ClassPart, CoursePart, Parts, RoomPart};
+
+/// Adds the ids of the objects that a list leads to by these keys of lists. What is gathered is
+/// compared with the ids of the parts that are read with it.
+fn gather_ids(
+    items: &Items<'_>,
+    keys: &[&'static str],
+    ids: &mut IndexSet<u32>,
+) -> Result<(), FileFault> {
+    for (i, value) in items.values.iter().enumerate() {
+        let item = (&*items).item(i, value);
+        match keys {
+            [] => {
+                ids.insert(number(&item, "id", 0, u32::MAX)?)?;
+            }
+            [key, below @ ..] => {
+                let lists = list(&item, *key, 0, 20_000)?;
+                gather_ids(&lists, below, ids)?;
+            }
+        }
+    }
+    Ok(())
+}
+
+/// The ids that a list leads to by these keys.
+fn ids_below(
+    alloc: Global,
+    items: &Items<'_>,
+    keys: &[&'static str],
+) -> Result<IndexSet<u32>, FileFault> {
+    let mut ids = IndexSet::new(alloc);
+    gather_ids(items, keys, &mut ids)?;
+    Ok(ids)
+}
+
+/// The shape that the first pass finds if it finds no fault, and `None` where some id is missing or
+/// stands twice, or there are too many.
+fn likely_shape<'a>(alloc: Global, object: &'a Part<'a>) -> Result<Option<Shape<'a>>, FileFault>
+    ensures lists { IfOk result (λ found. IfSome found (λ shape. HasLists (part_of object.now) (shape_read shape))) }
+    ensures valid { IfOk result (λ found. IfSome found IsShape) }
+{
+    as_object(object)?;
+    let term = read_term(object)?;
+    let optimization = required_object(object, "optimization")?;
+    let weights = read_weights(&optimization)?;
+    let rooms = list_or_none(object, "rooms", 2500)?;
+    let courses = list(object, "courses", 0, 20_000)?;
+    let distributions = list_or_none(object, "distributions", 20_000)?;
+    let students = list_or_none(object, "students", 100_000)?;
+    let room_ids = ids_below(alloc, &rooms, &[])?;
+    let course_ids = ids_below(alloc, &courses, &[])?;
+    let class_ids = ids_below(alloc, &courses, &["configs", "subparts", "classes"])?;
+    if room_ids.len() != rooms.len() {
+        return Ok(None);
+    }
+    if course_ids.len() != courses.len() {
+        return Ok(None);
+    }
+    if class_ids.len() > 20_000 {
+        return Ok(None);
+    }
+    Ok(Some(Shape {
+        term,
+        weights,
+        rooms: RoomList {
+            items: rooms,
+            ids: room_ids,
+        },
+        courses: CourseList {
+            items: courses,
+            ids: course_ids,
+            class_ids,
+        },
+        distributions,
+        students,
+    }))
+}
+
+/// The ids of the rooms, in order.
+fn ids_of_rooms(alloc: Global, rooms: &[RoomPart]) -> Result<Vec<u32>, AllocError>
+    ensures { IfOk result (λ ids. ids.items ≡ room_ids rooms.now) }
+{
+    rooms.iter().map(|room| room.id).collect(alloc)
+}
+
+/// The ids of the courses, in order.
+fn ids_of_courses(alloc: Global, courses: &[CoursePart]) -> Result<Vec<u32>, AllocError>
+    ensures { IfOk result (λ ids. ids.items ≡ course_ids courses.now) }
+{
+    courses.iter().map(|course| course.id).collect(alloc)
+}
+
+/// The ids of the classes, in order.
+fn ids_of_classes(alloc: Global, classes: &[ClassPart]) -> Result<Vec<u32>, AllocError>
+    ensures { IfOk result (λ ids. ids.items ≡ class_ids classes.now) }
+{
+    classes.iter().map(|class| class.id).collect(alloc)
+}
+
+/// Whether these are the ids of a set, in its order.
+fn are_keys(ids: &[u32], keys: &IndexSet<u32>) -> bool
+    ensures { IsTrue result → ids.now ≡ keys.now.keys }
+{
+    ids == keys.as_slice()
+}
+
+/// Whether the ids of the parts are those of the shape.
+fn has_ids(alloc: Global, shape: &Shape<'_>, parts: &Parts) -> Result<bool, AllocError>
+    ensures { IfOk result (λ same. IsTrue same → HasIdsOf (shape_read shape.now) parts.now) }
+{
+    let rooms = ids_of_rooms(alloc, parts.rooms.as_slice())?;
+    let courses = ids_of_courses(alloc, parts.courses.as_slice())?;
+    let classes = ids_of_classes(alloc, parts.classes.as_slice())?;
+    Ok(
+        are_keys(rooms.as_slice(), &shape.rooms.ids)
+            && are_keys(courses.as_slice(), &shape.courses.ids)
+            && are_keys(classes.as_slice(), &shape.courses.class_ids),
+    )
+}
+
+/// The parts that a file has in which no fault is found so; `None` or a fault where the passes must
+/// tell.
+#[tactic(auto, using(crate::proofs::AtOnce::all_classes, crate::proofs::AtOnce::parts_are))]
+pub fn read_at_once(alloc: Global, object: &Part<'_>) -> Result<Option<Parts>, FileFault>
+    ensures reads { IfOk result (λ found. IfSome found (λ parts. parts_of (part_of object.now) ≡ Ok parts)) }
+    ensures valid { IfOk result (λ found. IfSome found IsValid) }
+{
+    let Some(shape) = likely_shape(alloc, &*object)? else {
+        return Ok(None);
+    };
+    let parts = second_pass(alloc, &shape)?;
+    if !has_ids(alloc, &shape, &parts)? {
+        return Ok(None);
+    }
+    third_pass(alloc, &parts, &*object)?;
+    Ok(Some(parts))
+}
