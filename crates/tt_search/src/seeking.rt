@@ -6,10 +6,9 @@ ghost use Rattle.tt_state.specs.History.{IsWithinStep, desk_of, earlier, moved_t
 ghost use Rattle.tt_state.specs.Values.{conflicts_of};
 ghost use Rattle.tt_base.specs.Lists.{comes_before};
 ghost use Rattle.tt_search.specs.Least.{IsFirstLeast};
-ghost use Rattle.tt_search.specs.Full.{full_rank, full_end};
+ghost use Rattle.tt_search.specs.Searched.{rank_of, search_end, way_of, turns_made, searched, repaired};
 ghost use Rattle.tt_search.specs.Drawing.{AreCandidates};
 ghost use Rattle.tt_search.specs.MovedNow.{AreMoved};
-ghost use Rattle.tt_search.specs.Searched.{rank_of, way_of, search_end, turns_made, searched, repaired};
 ghost use Rattle.tt_search.specs.Numbers.{IsOpenValue, after_move, rank_numbers};
 ghost use Rattle.tt_search.specs.UnderWay.{IsUnderWay};
 
@@ -41,7 +40,7 @@ struct Walked {
 /// The present moment, where so many published classes are moved.
 fn moment(state: &State, moved: u32) -> Best
     ensures rank { (published : Option Timetable) → moved ≡ moved_in state.now.problem published state.now.present.plan
-        → rank_numbers result.rank ≡ full_rank state.now.problem published state.now.present }
+        → rank_numbers result.rank ≡ rank_of state.now.problem published state.now.present }
     ensures mark { result.mark + 1 ≡ length (trail state.now) }
 {
     Best {
@@ -90,7 +89,7 @@ fn walk<W: Watcher>(
     requires step { 0 < length (earlier state.old) }
     requires trail { trail state.old ≡ state.old.present ∷ [] }
     ensures step { IsWithinStep (with_taken state.old []) (with_taken state.new []) }
-    ensures way { IfOk result (λ walked. let aim = option_copied published.entry in let start = state.old in IsUnderWay (full_rank start.problem aim) (trail state.new) [] walked.best walked.made (full_end start.problem aim turns seed start.present) (turns_made start.problem aim turns seed start.present)) }
+    ensures way { IfOk result (λ walked. let aim = option_copied published.entry in let start = state.old in IsUnderWay (rank_of start.problem aim) (trail state.new) [] walked.best walked.made (search_end start.problem aim turns seed start.present) (turns_made start.problem aim turns seed start.present)) }
 {
     let mut words = Lcg64Xsh32::new(seed, 1);
     let mut best = moment(state, moved.count);
@@ -112,7 +111,6 @@ fn walk<W: Watcher>(
 }
 
 /// Searches or repairs, as one step. Where memory runs out, the step is undone.
-#[tactic(auto, using(crate::proofs::FullLemmas::end_same))]
 fn seek<W: Watcher>(
     alloc: Global,
     state: &mut State,

@@ -4,9 +4,8 @@ ghost use Rattle.std.specs.Option.{option_copied, option_map, ForSome};
 ghost use Rattle.tt_base.specs.Lists.{comes_before, least_after};
 ghost use Rattle.tt_solution.specs.Timetable.{IsTimetableOf};
 ghost use Rattle.tt_state.specs.Values.{conflicts_of, conflicts_without, total_with};
-ghost use Rattle.tt_search.specs.Turns.{toll_of, weight_of, chosen_value, turn_of};
+ghost use Rattle.tt_search.specs.Turns.{toll_of, weight_of, chosen_value, turn_of, price_of};
 ghost use Rattle.tt_search.specs.Drawing.{AreCandidates};
-ghost use Rattle.tt_search.specs.Full.{full_price, full_value};
 ghost use Rattle.tt_plan.specs.Domain.{IsOfDomain};
 ghost use Rattle.tt_search.specs.Numbers.{IsOpenValue, IsPriced, after_move, offered, price_numbers};
 
@@ -84,7 +83,7 @@ fn find_lighter(state: &mut State, class: u32, value: Value, weight: u128) -> bo
 
 /// The total with a class at a value whose weight and strays are these, or none where its price is then
 /// not below another.
-#[tactic(auto, unfolding(crate::specs::Full::full_price))]
+#[tactic(auto, unfolding(crate::specs::Turns::price_of))]
 fn total_within(
     state: &mut State,
     class: u32,
@@ -112,7 +111,7 @@ fn total_within(
 /// The best offer once a value that isn't blocked was looked at. `others` are the student conflicts
 /// without the class. The conflict set is given up once it weighs more, and the total is asked for
 /// only where it may tell.
-#[tactic(auto, unfolding(crate::specs::Full::full_price), using(crate::proofs::ChoiceLemmas::stays, crate::proofs::ChoiceLemmas::takes, crate::proofs::ChoiceLemmas::stays_lighter))]
+#[tactic(auto, unfolding(crate::specs::Turns::price_of), using(crate::proofs::ChoiceLemmas::stays, crate::proofs::ChoiceLemmas::takes, crate::proofs::ChoiceLemmas::stays_lighter))]
 fn look_at(
     state: &mut State,
     published: Option<&Published>,
@@ -124,12 +123,12 @@ fn look_at(
     requires belongs { ForSome (option_copied published) (IsTimetableOf state.old.problem) }
     requires value { IsOpenValue state.old.problem state.old.present.closures class value }
     requires others { others ≡ conflicts_without state.old.problem state.old.present class }
-    requires priced { IsPriced (full_price state.old.problem (option_copied published) state.old.present class) (IsOpenValue state.old.problem state.old.present.closures class) best }
+    requires priced { IsPriced (price_of state.old.problem (option_copied published) state.old.present class) (IsOpenValue state.old.problem state.old.present.closures class) best }
     ensures problem { state.new.problem ≡ state.old.problem }
     ensures present { state.new.present ≡ state.old.present }
     ensures entries { state.new.entries ≡ state.old.entries }
-    ensures priced { IsPriced (full_price state.old.problem (option_copied published.entry) state.old.present class) (IsOpenValue state.old.problem state.old.present.closures class) result }
-    ensures better { offered result ≡ least_after (full_price state.old.problem (option_copied published.entry) state.old.present class) (offered best) (value ∷ []) }
+    ensures priced { IsPriced (price_of state.old.problem (option_copied published.entry) state.old.present class) (IsOpenValue state.old.problem state.old.present.closures class) result }
+    ensures better { offered result ≡ least_after (price_of state.old.problem (option_copied published.entry) state.old.present class) (offered best) (value ∷ []) }
 {
     let strays = is_stray(state.problem(), published, class, value);
     match best {
@@ -168,7 +167,7 @@ fn look_at(
 }
 
 /// The value chosen for a class, the first of its open values with the least price.
-#[tactic(auto, unfolding(crate::specs::Full::full_value), using(crate::proofs::FullLemmas::choice_same))]
+#[tactic(auto, unfolding(crate::specs::Turns::chosen_value))]
 fn choice(state: &mut State, published: Option<&Published>, class: u32) -> Option<Value>
     requires belongs { ForSome (option_copied published) (IsTimetableOf state.old.problem) }
     requires class { class < length state.old.problem.classes }

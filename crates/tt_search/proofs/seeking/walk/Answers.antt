@@ -6,8 +6,7 @@ use Rattle.tt_state.specs.History.{IsWithinStep, earlier, trail, with_taken}
 use Rattle.tt_search.specs.Turns.{turn_of}
 use Rattle.tt_draw.specs.Words.{random_words}
 use Rattle.tt_draw.proofs.WordLemmas.{words_from}
-use Rattle.tt_search.specs.Searched.{onward}
-use Rattle.tt_search.specs.Full.{full_rank, full_end}
+use Rattle.tt_search.specs.Searched.{onward, rank_of, search_end}
 use Rattle.tt_search.specs.MovedNow.{AreMoved}
 use Rattle.tt_search.proofs.DrawingLemmas.{candidates_forced}
 use Rattle.tt_search.proofs.MovedLemmas.{moved_is, moved_forced}
@@ -16,7 +15,7 @@ use Rattle.tt_search.proofs.WayLemmas.{made_turn, mark_of_added, no_turn, no_tur
 use Rattle.tt_search.proofs.seeking.walk.Goals as goal
 
 pub loop-made-init : goal.loop-made-init
-unfolding full_end
+unfolding search_end
 loop-made-init g c =
     let start = c.args.state.now in
     let aim = option_copied c.args.published in
@@ -26,7 +25,7 @@ loop-made-init g c =
       step = within_same (with_taken start []);
       candidates = c.requires.candidates;
       moved = c.requires.moved;
-      way = rw (whole, words) (start_way (full_rank start.problem aim) start.present (trail start) (onward start.problem aim c.args.turns (random_words c.args.seed) start.present) c.moment-best.result c.requires.trail (c.moment-best.ensures.rank aim (moved_is start.problem aim start.present c.args.moved.now c.requires.belongs c.requires.moved)) c.moment-best.ensures.mark);
+      way = rw (whole, words) (start_way (rank_of start.problem aim) start.present (trail start) (onward start.problem aim c.args.turns (random_words c.args.seed) start.present) c.moment-best.result c.requires.trail (c.moment-best.ensures.rank aim (moved_is start.problem aim start.present c.args.moved.now c.requires.belongs c.requires.moved)) c.moment-best.ensures.mark);
     }
 
 pub next_move-requires-clause-candidates : goal.next_move-requires-clause-candidates
