@@ -3,3 +3,4 @@ pub mod Facts
 pub mod Among
 pub mod Lists
 pub mod Limits
+pub mod Chain

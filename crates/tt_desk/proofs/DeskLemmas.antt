@@ -23,7 +23,7 @@ use Rattle.std.proofs.lemmas.Bool.{eqb-true}
 use Rattle.std.specs.Prelude.{◌&&◌}
 use Rattle.tt_solution.specs.Timetable.{Timetable}
 use Rattle.tt_desk.specs.Desk.{Session, Answer, carried_out, known_classes, step_from, with_published, not_ready}
-use Rattle.tt_desk.specs.Chain.{◌>>=◌}
+use Rattle.tt_base.specs.Chain.{◌>>=◌}
 use Rattle.std.specs.Prelude.{OnErr, OnOk, IsOk}
 use Rattle.std.specs.Result.{is_err}
 

@@ -47,7 +47,7 @@ use Rattle.tt_desk.specs.declared.refusal.Outcome.{Outcome}
 use Rattle.tt_desk.specs.declared.refusal.Outcome.TheVariants.{Skipped, Accepted, Refused, Ended}
 use Rattle.tt_script.specs.declared.script.Line.{Line}
 use Rattle.tt_script.specs.declared.script.Line.TheVariants.{Empty, Bad, Good}
-use Rattle.tt_desk.specs.Chain.{◌>>=◌, none_or}
+use Rattle.tt_base.specs.Chain.{◌>>=◌, none_or}
 use Rattle.tt_script.specs.Script.{line_of}
 
 -- a desk, and the published timetable if there is one

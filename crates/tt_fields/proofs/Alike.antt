@@ -4,7 +4,8 @@ use Rattle.std.specs.Option.{option_map_or}
 use Rattle.std.proofs.lemmas.List.{map-append}
 use Rattle.serde_json.specs.Find.{as_object}
 use Rattle.tt_fields.specs.Path.{at}
-use Rattle.tt_fields.specs.Answer.{Part, Fault, fault, ◌>>=◌}
+use Rattle.tt_base.specs.Chain.{◌>>=◌}
+use Rattle.tt_fields.specs.Answer.{Part, Fault, fault}
 use Rattle.tt_fields.specs.Kinds.{a_number, or_fault, value_at, required, optional, or_else, placed_in, place_of, a_reference, each, pushed, each_as}
 
 -- where the first reads a value, the second reads one too, and P holds of the two

@@ -1,7 +1,7 @@
 -- Theorem. The classes of a generated problem.
 use Rattle.std.specs.Prelude.{option_map, ℕ, ◌+◌, ◌*◌, ◌%◌, ◌==◌, List, [], ◌∷◌, false, Option, Some, None, if◌then◌else◌, codes}
 use Rattle.serde_json.specs.Data.{Data, boolean, string, object, Members, member, no_members}
-use Rattle.tt_make.specs.Draws.{Draws, ◌>>=◌, give, draw, each}
+use Rattle.tt_make.specs.Draws.{Draws, ◌>>=◌, give, draw, draw_each}
 use Rattle.tt_make.specs.Values.{num, list, word_at, optional}
 
 -- the days that a class may meet on, Monday first
@@ -41,7 +41,7 @@ choice rooms = do
 -- every tenth class needs no room
 unfoldable pub choices : ℕ → ℕ → Draws (Option (List Data))
 choices rooms id = if id % 10 == 0 then give None else do
-  made ← each 0 4 (λ i. choice rooms)
+  made ← draw_each 0 4 (λ i. choice rooms)
   give (Some made)
 
 -- the key that says which rooms a class may have, before the other keys
@@ -58,6 +58,6 @@ class_data id parent rooms times =
 -- the class with this id, of a problem with so many rooms
 unfoldable pub class : ℕ → Option ℕ → ℕ → Draws Data
 class rooms parent id = do
-  times ← each 0 6 (λ i. time)
+  times ← draw_each 0 6 (λ i. time)
   chosen ← choices rooms id
   give (class_data id parent chosen times)

@@ -1,7 +1,7 @@
 -- Theorem. The courses of a generated problem. They have its classes in the order of their ids.
 use Rattle.std.specs.Prelude.{ℕ, ◌+◌, ◌-◌, ◌*◌, ◌/◌, ◌%◌, ◌==◌, List, [], ◌∷◌, Some, None, nat_le, if◌then◌else◌, codes}
 use Rattle.serde_json.specs.Data.{Data, object, member, no_members}
-use Rattle.tt_make.specs.Draws.{Draws, ◌>>=◌, give, each}
+use Rattle.tt_make.specs.Draws.{Draws, ◌>>=◌, give, draw_each}
 use Rattle.tt_make.specs.Values.{num, list}
 use Rattle.tt_make.specs.Classes.{class}
 
@@ -28,14 +28,14 @@ whole_data k parents children = course_data k (list (subpart_data (2 * k - 1) pa
 -- two classes, and two whose parents they are
 unfoldable pub whole_course : ℕ → ℕ → Draws Data
 whole_course rooms k = do
-  parents ← each (4 * k - 3) 2 (λ id. class rooms None id)
-  children ← each (4 * k - 1) 2 (λ id. class rooms (Some (id - 2)) id)
+  parents ← draw_each (4 * k - 3) 2 (λ id. class rooms None id)
+  children ← draw_each (4 * k - 1) 2 (λ id. class rooms (Some (id - 2)) id)
   give (whole_data k parents children)
 
 -- so many classes, one to three, without parents
 unfoldable pub last_course : ℕ → ℕ → ℕ → Draws Data
 last_course rooms count k = do
-  left ← each (4 * k - 3) count (λ id. class rooms None id)
+  left ← draw_each (4 * k - 3) count (λ id. class rooms None id)
   give (course_data k (list (subpart_data (2 * k - 1) left ∷ [])))
 
 -- the course with this id, of a problem with so many rooms and classes

@@ -22,9 +22,9 @@ unfoldable pub draw : ℕ → Draws ℕ
 draw k g = (drawn_place (pcg32 g).0 k, (pcg32 g).1)
 
 -- what is made for `from` and the numbers after it, `count` in all, in order
-unfoldable pub each : {A : Type 0} → ℕ → ℕ → (ℕ → Draws A) → Draws (List A)
-each from zero make = give []
-each from (suc count) make = do
-  before ← each from count make
+unfoldable pub draw_each : {A : Type 0} → ℕ → ℕ → (ℕ → Draws A) → Draws (List A)
+draw_each from zero make = give []
+draw_each from (suc count) make = do
+  before ← draw_each from count make
   last ← make (from + count)
   give (before ++ last ∷ [])

@@ -6,7 +6,7 @@ use Rattle.rand_pcg.specs.Lcg.{Lcg}
 use Rattle.serde_json.specs.Data.{Data}
 use Rattle.serde_json.specs.View.{items_of}
 use Rattle.serde_json.specs.Written.{has_float, items_have_float}
-use Rattle.tt_make.specs.Draws.{Draws, each}
+use Rattle.tt_make.specs.Draws.{Draws, draw_each}
 use Rattle.tt_make.specs.Values.{list}
 use Rattle.tt_make.specs.Classes.{time, time_data, choice, choices, class, class_data}
 use Rattle.std.specs.Prelude.{nat_le, ◌-◌, ◌*◌, ◌/◌}
@@ -32,10 +32,10 @@ pushed [] d p q = either (has_float d) false q refl
 pushed (e ∷ ds) d p q = either (has_float e) _ (first_of_two (has_float e) (items_have_float (items_of ds)) p) (pushed ds d (second_of_two (has_float e) (items_have_float (items_of ds)) p) q)
 
 -- nor has what is made of such parts
-pub each_plain : (make : ℕ → Draws Data) → ((k : ℕ) (g : Lcg) → has_float (make k g).0 ≡ false) → (from count : ℕ) (g : Lcg) → has_float (list (each from count make g).0) ≡ false
-unfolding each
+pub each_plain : (make : ℕ → Draws Data) → ((k : ℕ) (g : Lcg) → has_float (make k g).0 ≡ false) → (from count : ℕ) (g : Lcg) → has_float (list (draw_each from count make g).0) ≡ false
+unfolding draw_each
 each_plain make plain from zero g = refl
-each_plain make plain from (suc count) g = pushed (each from count make g).0 _ (each_plain make plain from count g) (plain (from + count) (each from count make g).1)
+each_plain make plain from (suc count) g = pushed (draw_each from count make g).0 _ (each_plain make plain from count g) (plain (from + count) (draw_each from count make g).1)
 
 pub room_plain : (id : ℕ) (g : Lcg) → has_float (room id g).0 ≡ false
 unfolding room travel friday_afternoon
@@ -73,16 +73,16 @@ choices_plain rooms id g = elim (cases_Bool (id % 10 == 0)) [
 pub class_plain : (rooms : ℕ) (parent : Option ℕ) (id : ℕ) (g : Lcg) → has_float (class rooms parent id g).0 ≡ false
 unfolding class
 class_plain rooms parent id g =
-    let times : Draws (List Data) = each 0 6 (λ i. time) in
+    let times : Draws (List Data) = draw_each 0 6 (λ i. time) in
     class_data_plain id parent (choices rooms id (times g).1).0 (times g).0 (choices_plain rooms id (times g).1) (each_plain (λ i. time) (λ i. time_plain) 0 6 g)
 
-classes_plain : (rooms from count : ℕ) (parent : ℕ → Option ℕ) (g : Lcg) → has_float (list (each from count (λ id. class rooms (parent id) id) g).0) ≡ false
+classes_plain : (rooms from count : ℕ) (parent : ℕ → Option ℕ) (g : Lcg) → has_float (list (draw_each from count (λ id. class rooms (parent id) id) g).0) ≡ false
 classes_plain rooms from count parent g = each_plain (λ id. class rooms (parent id) id) (λ id. class_plain rooms (parent id) id) from count g
 
 whole_plain : (rooms k : ℕ) (g : Lcg) → has_float (whole_course rooms k g).0 ≡ false
 unfolding whole_course whole_data course_data config_data subpart_data
 whole_plain rooms k g =
-    let parents : Draws (List Data) = each (4 * k - 3) 2 (λ id. class rooms None id) in
+    let parents : Draws (List Data) = draw_each (4 * k - 3) 2 (λ id. class rooms None id) in
     rw (classes_plain rooms (4 * k - 3) 2 (λ id. None) g, classes_plain rooms (4 * k - 1) 2 (λ id. Some (id - 2)) (parents g).1) refl
 
 last_plain : (rooms count k : ℕ) (g : Lcg) → has_float (last_course rooms count k g).0 ≡ false

@@ -3,7 +3,7 @@ use Rattle.std.specs.Prelude.{ℕ, ◌+◌, ◌*◌, ◌/◌, List, codes}
 use Rattle.serde_json.specs.Data.{Data, string, object, member, no_members}
 use Rattle.serde_json.specs.Written.{compact_text}
 use Rattle.tt_draw.specs.Words.{seeded}
-use Rattle.tt_make.specs.Draws.{Draws, ◌>>=◌, give, each}
+use Rattle.tt_make.specs.Draws.{Draws, ◌>>=◌, give, draw_each}
 use Rattle.tt_make.specs.Values.{num, list}
 use Rattle.tt_make.specs.Rooms.{room}
 use Rattle.tt_make.specs.Courses.{course, course_count}
@@ -25,10 +25,10 @@ room_count classes = classes / 10 + 2
 -- a problem with so many classes: first all rooms are drawn, then the courses with their classes, then the distributions, then the students
 unfoldable pub problem : ℕ → Draws Data
 problem classes = do
-  rooms ← each 1 (room_count classes) room
-  courses ← each 1 (course_count classes) (course (room_count classes) classes)
-  rules ← each 0 (2 * (classes / 4)) rule
-  students ← each 1 (15 * classes / 4) (student (course_count classes))
+  rooms ← draw_each 1 (room_count classes) room
+  courses ← draw_each 1 (course_count classes) (course (room_count classes) classes)
+  rules ← draw_each 0 (2 * (classes / 4)) rule
+  students ← draw_each 1 (15 * classes / 4) (student (course_count classes))
   give (problem_data rooms courses rules students)
 
 -- the text of the problem that a seed gives, as serde_json writes it

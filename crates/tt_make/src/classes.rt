@@ -2,7 +2,7 @@
 
 ghost use Rattle.std.specs.Prelude.{◌≡◌, ◌<◌, ◌≤◌, ◌-◌, ◌^◌, IfOk, Some, None, ⊤, map, option_map};
 ghost use Rattle.serde_json.specs.View.{view};
-ghost use Rattle.tt_make.specs.Draws.{each};
+ghost use Rattle.tt_make.specs.Draws.{draw_each};
 ghost use Rattle.tt_make.specs.Values.{num, word_at};
 ghost use Rattle.tt_make.specs.Classes.{day_words, week_words, time as time_of, time_data, choice as choice_of, choices as choices_of, class as class_of, class_data};
 ghost use Rattle.tt_make.specs.Plain.{time_plain, choice_plain, class_plain};

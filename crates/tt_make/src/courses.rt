@@ -3,7 +3,7 @@
 
 ghost use Rattle.std.specs.Prelude.{◌≡◌, ◌<◌, ◌≤◌, ◌+◌, ◌*◌, ◌/◌, ◌%◌, IfOk, map, [], ◌∷◌};
 ghost use Rattle.serde_json.specs.View.{view};
-ghost use Rattle.tt_make.specs.Draws.{each};
+ghost use Rattle.tt_make.specs.Draws.{draw_each};
 ghost use Rattle.tt_make.specs.Values.{list};
 ghost use Rattle.tt_make.specs.Courses.{course as course_of, course_count as count_of, whole_course as whole_of, last_course as last_of, course_data, config_data, whole_data, subpart_data};
 ghost use Rattle.tt_make.specs.Plain.{course_plain};

@@ -5,7 +5,7 @@ ghost use Rattle.rand_pcg.specs.Lcg.{Lcg};
 ghost use Rattle.serde_json.specs.Data.{Data};
 ghost use Rattle.serde_json.specs.View.{view};
 ghost use Rattle.serde_json.specs.Written.{compact_text, comma_if, has_float};
-ghost use Rattle.tt_make.specs.Draws.{Draws, each};
+ghost use Rattle.tt_make.specs.Draws.{Draws, draw_each};
 ghost use Rattle.tt_make.specs.Values.{list as list_data};
 
 use rand_pcg::Lcg64Xsh32;
@@ -40,7 +40,7 @@ pub fn drawn<P: Part>(
 ) -> Result<Vec<Value>, AllocError>
     requires small { from + count < 2 ^ 32 }
     requires covers { (k : ℕ) → from ≤ k → k < from + count → P.covers part.now k }
-    ensures { IfOk result (λ v. (map view v.items, words.new) ≡ each from count (P.made part.now) words.old) }
+    ensures { IfOk result (λ v. (map view v.items, words.new) ≡ draw_each from count (P.made part.now) words.old) }
 {
     let mut list = Vec::new(alloc);
     for i in 0..count {
@@ -87,8 +87,8 @@ pub fn push_list<P: Part>(
 ) -> Result<(), AllocError>
     requires small { from + count < 2 ^ 32 }
     requires covers { (k : ℕ) → from ≤ k → k < from + count → P.covers part.now k }
-    ensures text { OnOk result (out.new.items ≡ out.old.items ++ compact_text (list_data (each from count (P.made part.now) words.old).0)) }
-    ensures words { OnOk result (words.new ≡ (each from count (P.made part.now) words.old).1) }
+    ensures text { OnOk result (out.new.items ≡ out.old.items ++ compact_text (list_data (draw_each from count (P.made part.now) words.old).0)) }
+    ensures words { OnOk result (words.new ≡ (draw_each from count (P.made part.now) words.old).1) }
 {
     out.push(b'[')?;
     for i in 0..count {

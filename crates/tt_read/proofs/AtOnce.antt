@@ -8,7 +8,8 @@ use Rattle.tt_problem.specs.declared.parts.Rule.{Rule}
 use Rattle.tt_problem.specs.declared.parts.StudentPart.{StudentPart}
 use Rattle.tt_problem.specs.declared.parts.Parts.{Parts}
 use Rattle.tt_problem.specs.Valid.{room_ids, course_ids, class_ids}
-use Rattle.tt_fields.specs.Answer.{Part, Fault, ◌>>=◌}
+use Rattle.tt_base.specs.Chain.{◌>>=◌}
+use Rattle.tt_fields.specs.Answer.{Part, Fault}
 use Rattle.tt_fields.specs.Kinds.{an_object, a_list, required, or_else}
 use Rattle.tt_fields.specs.List.{items_of}
 use Rattle.tt_fields.proofs.Alike.{Alike, Any, read_too}

@@ -7,7 +7,7 @@ use Rattle.std.proofs.Math.Seq.{take-length}
 use Rattle.tt_io.specs.Causes.{Writes, AsksAll, one_more}
 use Rattle.tt_io.specs.Whole.{WritesFront}
 use Rattle.tt_io.proofs.WrittenLemmas.{none_written, nothing_written}
-use Rattle.tt_desk.specs.Chain.{◌>>=◌}
+use Rattle.tt_base.specs.Chain.{◌>>=◌}
 use Rattle.tt_desk.specs.Desk.{Session}
 use Rattle.tt_top.specs.declared.end.End.{End}
 use Rattle.tt_top.specs.declared.end.End.TheVariants.{Files, Sink, Memory, TooLong}

@@ -6,7 +6,7 @@ use Rattle.tt_read.specs.Tables.{problem_of}
 use Rattle.tt_solution.specs.Timetable.{Timetable}
 use Rattle.tt_solution.specs.Tables.{published_of}
 use Rattle.tt_text.specs.Fields.{field}
-use Rattle.tt_desk.specs.Chain.{◌>>=◌}
+use Rattle.tt_base.specs.Chain.{◌>>=◌}
 use Rattle.tt_desk.specs.Desk.{Session, opening_desk}
 use Rattle.tt_desk.specs.Replies.{replies_to}
 

@@ -7,7 +7,7 @@ use Rattle.tt_solution.specs.Timetable.{Timetable}
 use Rattle.tt_solution.specs.Tables.{published_of}
 use Rattle.tt_make.specs.Text.{make_text}
 use Rattle.tt_text.specs.Fields.{field}
-use Rattle.tt_desk.specs.Chain.{◌>>=◌}
+use Rattle.tt_base.specs.Chain.{◌>>=◌}
 use Rattle.tt_script.specs.Script.{lines_of}
 use Rattle.tt_desk.specs.Desk.{Session}
 use Rattle.tt_desk.specs.Replies.{refuses}

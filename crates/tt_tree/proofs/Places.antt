@@ -10,7 +10,8 @@ use Rattle.serde_json.specs.View.{items_view}
 use Rattle.serde_json.specs.declared.value.Value.{Value}
 use Rattle.tt_fields.specs.declared.kinds.Known.{Known}
 use Rattle.tt_fields.specs.Path.{at}
-use Rattle.tt_fields.specs.Answer.{Part, Fault, fault, ◌>>=◌}
+use Rattle.tt_base.specs.Chain.{◌>>=◌}
+use Rattle.tt_fields.specs.Answer.{Part, Fault, fault}
 use Rattle.tt_fields.specs.Kinds.{a_number, items_at, place_of, a_reference, required, value_at}
 use Rattle.tt_fields.specs.List.{known_of, IsAmong}
 use Rattle.tt_fields.proofs.Walk.{items_count}

@@ -14,7 +14,8 @@ use Rattle.tt_problem.specs.Spans.{CoversFrom, Covers}
 use Rattle.tt_problem.specs.Valid.{IsValidRoom, room_ids, class_ids, course_ids}
 use Rattle.tt_fields.specs.declared.answer.FileFault.{FileFault}
 use Rattle.tt_fields.specs.declared.answer.FileFault.TheVariants as faults
-use Rattle.tt_fields.specs.Answer.{Part, Fault, ◌>>=◌, Fails}
+use Rattle.tt_base.specs.Chain.{◌>>=◌}
+use Rattle.tt_fields.specs.Answer.{Part, Fault, Fails}
 use Rattle.tt_fields.specs.Kinds.{a_number, an_object, a_list, required, or_else, new_id, each, each_as}
 use Rattle.tt_tree.specs.declared.context as context
 use Rattle.tt_tree.specs.declared.rooms as rooms

@@ -12,7 +12,8 @@ use Rattle.serde_json.specs.View.{items_view}
 use Rattle.serde_json.specs.declared.value.Value.{Value}
 use Rattle.tt_problem.specs.declared.parts.ClassPart.{ClassPart}
 use Rattle.tt_fields.specs.Path.{at, shown}
-use Rattle.tt_fields.specs.Answer.{Part, Fault, fault, ◌>>=◌}
+use Rattle.tt_base.specs.Chain.{◌>>=◌}
+use Rattle.tt_fields.specs.Answer.{Part, Fault, fault}
 use Rattle.tt_fields.specs.Kinds.{a_number, an_object, a_list, a_reference, optional, each_as, or_wrong, counted, items_at, required, value_at, new_id, each}
 use Rattle.tt_tree.specs.Context.{Context}
 use Rattle.tt_problem.specs.Valid.{class_ids, course_ids}

@@ -12,7 +12,8 @@ use Rattle.tt_problem.specs.declared.parts.ClassPart.{ClassPart}
 use Rattle.tt_problem.specs.declared.parts.CoursePart.{CoursePart}
 use Rattle.tt_problem.specs.Valid.{room_ids, class_ids, course_ids}
 use Rattle.tt_fields.specs.Path.{at}
-use Rattle.tt_fields.specs.Answer.{Part, Fault, fault, ◌>>=◌}
+use Rattle.tt_base.specs.Chain.{◌>>=◌}
+use Rattle.tt_fields.specs.Answer.{Part, Fault, fault}
 use Rattle.tt_fields.specs.Kinds.{a_number, a_truth, a_set, an_object, a_list, a_reference, place_of, or_fault, required, or_else, optional, new_id, each, each_as}
 use Rattle.tt_tree.specs.Context.{Context}
 

@@ -1,7 +1,8 @@
 use Rattle.std.proofs.Common.{rules, ◌≡◌, ◌+◌, length, Result, Ok, Err, ap, subst, sym, ◌∙◌, arith}
 use Rattle.std.proofs.lemmas.Grind.{common_steps}
 use Rattle.tt_problem.specs.Valid.{IsValidRoom}
-use Rattle.tt_fields.specs.Answer.{Fails, ◌>>=◌, part_of, fault_of}
+use Rattle.tt_base.specs.Chain.{◌>>=◌}
+use Rattle.tt_fields.specs.Answer.{Fails, part_of, fault_of}
 use Rattle.tt_fields.specs.List.{items_of}
 use Rattle.tt_fields.specs.Kinds.{each_as}
 use Rattle.tt_tree.specs.Context.{context_of}
