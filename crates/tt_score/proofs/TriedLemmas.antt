@@ -1,5 +1,5 @@
 -- A class that is tried at another value.
-use Rattle.std.proofs.Common.{◌≡◌, ◌∙◌, ℕ, ◌+◌, ◌*◌, ◌<◌, ◌≤◌, List, Option, Some, None, length, ap, sym, arith}
+use Rattle.std.proofs.Common.{◌≡◌, ◌∙◌, ℕ, ◌+◌, ◌*◌, ◌<◌, ◌≤◌, Some, None, ap, sym}
 use Rattle.std.specs.Prelude.{slice_set}
 use Rattle.tt_bits.specs.declared.times.Value.{Value}
 use Rattle.tt_problem.specs.declared.parts.Parts.{Parts}
@@ -8,7 +8,6 @@ use Rattle.tt_roster.specs.Conflicts.{class_conflicts, student_conflicts}
 use Rattle.tt_roster.proofs.KeptLemmas.{room_is}
 use Rattle.tt_score.specs.declared.score.Score.{Score}
 use Rattle.tt_score.specs.declared.trial.Tried.{Tried}
-use Rattle.tt_score.specs.Below.{below}
 use Rattle.tt_score.specs.Fits.{Fits}
 use Rattle.tt_score.specs.Totals.{totals_of}
 use Rattle.tt_score.specs.Tried.{IsTried}

@@ -36,10 +36,8 @@ pub struct Score {
 
 impl Score {
     ghost use Rattle.std.specs.Prelude.{◌≡◌, ◌↔◌, ◌<◌, ◌≤◌, ◌++◌, ◌∷◌, All, Some, None, IsSome, IfSome, IsTrue, IfOk, OnOk, OnErr, [], false, true, length, slice_index, replicate, slice_get, slice_set, slice_index_or, option_and_then, nat_le};
-    ghost use Rattle.std.specs.Option.{option_map_or};
     ghost use Rattle.tt_problem.specs.declared.parts.Parts.{Parts};
     ghost use Rattle.tt_problem.specs.declared.parts.Rule.{Rule};
-    ghost use Rattle.tt_clash.specs.Amounts.{rule_amounts};
     ghost use Rattle.tt_clash.specs.Blocked.{blocked_by};
     ghost use Rattle.tt_clash.specs.Closures.{made, relifted, without_last};
     ghost use Rattle.tt_plan.specs.Domain.{IsOfDomain, spot_at_value, spots_of};

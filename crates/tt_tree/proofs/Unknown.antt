@@ -1,5 +1,5 @@
 -- Rooms and courses that are read with ids known are read with none known too, with the same ids.
-use Rattle.std.proofs.Common.{◌≡◌, ℕ, ◌-◌, List, [], length, map, Bool, true, false, None, refl, sym, ap, ◌∙◌, codes}
+use Rattle.std.proofs.Common.{◌≡◌, ℕ, ◌-◌, List, [], length, Bool, true, false, None, refl, sym, ap, ◌∙◌, codes}
 use Rattle.std.proofs.lemmas.List.{length-map}
 use Rattle.tt_travel.specs.Table.{Table}
 use Rattle.tt_problem.specs.declared.parts.RoomPart.{RoomPart}

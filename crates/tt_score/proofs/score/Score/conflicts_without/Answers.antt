@@ -1,5 +1,4 @@
-use Rattle.std.proofs.Common.{◌∙◌, None, ap, sym}
-use Rattle.std.specs.Prelude.{slice_set}
+use Rattle.std.proofs.Common.{◌∙◌, ap, sym}
 use Rattle.tt_bits.specs.Spots.{spot_at}
 use Rattle.tt_roster.specs.Conflicts.{student_conflicts}
 use Rattle.tt_score.proofs.PlanLemmas.{spot_in}

@@ -1,9 +1,6 @@
-use Rattle.std.proofs.Common.{◌≡◌, ◌∙◌, ◌+◌, ◌≤◌, Some, ap, refl, arith}
-use Rattle.std.specs.Prelude.{slice_set}
+use Rattle.std.proofs.Common.{◌≡◌, ◌∙◌, ◌+◌, ◌≤◌, ap, refl, arith}
 use Rattle.tt_roster.specs.Conflicts.{class_conflicts}
 use Rattle.tt_score.specs.Below.{below}
-use Rattle.tt_score.specs.Totals.{totals_of}
-use Rattle.tt_score.specs.Weighted.{weighted}
 use Rattle.tt_score.proofs.TotalLemmas.{below_none, below_some, weighted_grows}
 use Rattle.tt_score.proofs.TriedLemmas.{AreTried, tried_is}
 use Rattle.tt_score.proofs.score.Score.trial_below.Goals as goal
