@@ -30,7 +30,7 @@ pub trait Part {
 }
 
 /// The parts for `from` and the numbers after it, `count` in all.
-#[tactic(auto, unfolding(crate::specs::Draws::each))]
+#[tactic(auto, unfolding(crate::specs::Draws::draw_each))]
 pub fn drawn<P: Part>(
     alloc: Global,
     words: &mut Lcg64Xsh32,
