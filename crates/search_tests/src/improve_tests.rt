@@ -71,9 +71,9 @@ fn a_class_gets_the_least_value(rt: HostRuntime) -> Result<(), Fail> {
     assert!(rt; totals(&state) == (1, 0, 0));
     assert!(rt; changes(rt.alloc(), &mut state, 3, 1, 0));
     assert!(rt; totals(&state) == (1, 0, 0));
-    assert!(rt; state.undo().is_ok());
+    assert!(rt; state.undo());
     assert!(rt; totals(&state) == (1, 0, 0));
-    assert!(rt; state.undo().is_ok());
+    assert!(rt; state.undo());
     assert!(rt; totals(&state) == (5, 0, 0));
     drop(state);
     Ok(())
@@ -85,8 +85,8 @@ fn without_an_object_no_round_is_made(rt: HostRuntime) -> Result<(), Fail> {
     let mut state = state_of(rt.alloc(), TWO_TIMES.as_bytes())?;
     assert!(rt; makes_no_round(rt.alloc(), &mut state));
     assert!(rt; totals(&state) == (0, 0, 1));
-    assert!(rt; state.undo().is_ok());
-    assert!(rt; state.undo().is_err());
+    assert!(rt; state.undo());
+    assert!(rt; !state.undo());
     drop(state);
     Ok(())
 }
