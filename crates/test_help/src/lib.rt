@@ -84,7 +84,7 @@ pub fn forces(state: &mut State, class: u32, time: u32, room: Option<u32>) -> bo
 {
     match value(state.problem(), class, time, room) {
         None => false,
-        Some(value) => state.force(class, value).is_ok(),
+        Some(value) => state.force(class, value) == Ok(None),
     }
 }
 
@@ -98,5 +98,5 @@ pub fn sections(state: &mut State, student: u32, classes: [u32; 2]) -> bool
     if first >= count || second >= count || student >= state.problem().student_count() {
         return false;
     }
-    state.section(student, &[first, second]).is_ok()
+    state.section(student, &[first, second]) == Ok(None)
 }
