@@ -44,7 +44,9 @@ fn explains(alloc: Global, state: &State, class: u32, want: &str) -> bool {
     if class >= state.problem().class_count() {
         return false;
     }
-    let mut out = Reply::new(alloc);
+    let Ok(mut out) = Reply::new(alloc) else {
+        return false;
+    };
     explain(state, class, &mut out).is_ok() && out.bytes() == want.as_bytes()
 }
 
@@ -60,13 +62,17 @@ fn says_why(
     let Some(value) = value(state.problem(), class, time, room) else {
         return false;
     };
-    let mut out = Reply::new(alloc);
+    let Ok(mut out) = Reply::new(alloc) else {
+        return false;
+    };
     why(state, class, value, &mut out).is_ok() && out.bytes() == want.as_bytes()
 }
 
 // Whether these are the lines on the counters of a class.
 fn counts(alloc: Global, state: &State, class: u32, want: &str) -> bool {
-    let mut out = Reply::new(alloc);
+    let Ok(mut out) = Reply::new(alloc) else {
+        return false;
+    };
     stats(state, class, &mut out).is_ok() && out.bytes() == want.as_bytes()
 }
 

@@ -37,7 +37,9 @@ fn writes(alloc: Global, state: &State) -> bool {
     if state.totals().unplaced != 0 {
         return false;
     }
-    let mut out = Reply::new(alloc);
+    let Ok(mut out) = Reply::new(alloc) else {
+        return false;
+    };
     let (problem, score) = (state.problem(), state.score());
     write_published(alloc, problem, score.plan(), score.roster(), &mut out).is_ok()
         && out.bytes() == LINE.as_bytes()

@@ -1,11 +1,16 @@
-ghost use Rattle.std.specs.Prelude.{◌≡◌, ◌⊎◌, ◌++◌, [], OnErr, OnOk, decimal};
+ghost use Rattle.std.specs.Prelude.{◌≡◌, ◌<◌, ◌≤◌, ◌+◌, ◌⊎◌, ◌++◌, [], IfOk, OnErr, OnOk, decimal, length};
 ghost use Rattle.tt_text.specs.Fields.{field};
+ghost use Rattle.tt_text.specs.Reply.{kept_bytes, most_digits};
 
 use itoa::Buffer;
 use std::alloc::{AllocError, Global};
 use std::marker::Model;
 
-/// A reply, made piece by piece: contracts see its bytes.
+// For how many bytes a reply has memory from the start.
+const KEPT_BYTES: usize = 1024;
+
+/// A reply, made piece by piece: contracts see its bytes. It has memory for some of them from the
+/// start, so that short ones want none.
 #[derive(Drop)]
 pub struct Reply {
     bytes: Vec<u8>,
@@ -16,23 +21,29 @@ impl Model for Reply {
 
     ghost Value = { List ℕ };
 
+    ghost use Rattle.std.specs.Prelude.{◌≤◌};
+    ghost use Rattle.std.specs.Vec.{vec_capacity};
+    ghost use Rattle.tt_text.specs.Reply.{kept_bytes};
+
     ghost view = { λ r. r.bytes.items };
+
+    ghost invariant = { λ r. kept_bytes ≤ vec_capacity r.bytes };
 }
 
 impl Reply {
-    /// An empty reply.
-    pub fn new(alloc: Global) -> Reply
-        ensures { result ≡ [] }
+    /// An empty reply, with memory for 1,024 bytes.
+    pub fn new(alloc: Global) -> Result<Reply, AllocError>
+        ensures { IfOk result (λ reply. reply ≡ []) }
     {
-        Reply {
-            bytes: Vec::new(alloc),
-        }
+        let bytes = Vec::with_capacity(alloc, KEPT_BYTES)?;
+        Ok(Reply { bytes })
     }
 
     /// Appends bytes.
     pub fn append(&mut self, bytes: &[u8]) -> Result<(), AllocError>
         ensures ok { OnOk result (self.new ≡ self.old ++ bytes.now) }
         ensures err { OnErr result (self.new ≡ self.old) }
+        ensures full { OnErr result (kept_bytes < length self.old + length bytes.now) }
     {
         self.bytes.extend_from_slice(bytes)
     }
@@ -41,6 +52,7 @@ impl Reply {
     pub fn text(&mut self, t: &str) -> Result<(), AllocError>
         ensures ok { OnOk result (self.new ≡ self.old ++ t.now) }
         ensures err { OnErr result (self.new ≡ self.old) }
+        ensures full { OnErr result (kept_bytes < length self.old + length t.now) }
     {
         self.append(t.as_bytes())
     }
@@ -49,6 +61,8 @@ impl Reply {
     pub fn number(&mut self, n: u128) -> Result<(), AllocError>
         ensures ok { OnOk result (self.new ≡ self.old ++ decimal n) }
         ensures err { OnErr result (self.new ≡ self.old) }
+        ensures full { OnErr result (kept_bytes < length self.old + length (decimal n)) }
+        ensures short { length (decimal n) ≤ most_digits }
     {
         let mut digits = Buffer::new();
         self.text(digits.format(n))
@@ -59,6 +73,8 @@ impl Reply {
     pub fn field(&mut self, t: &str, n: u128) -> Result<(), AllocError>
         ensures ok { OnOk result (self.new ≡ self.old ++ field t.now n) }
         ensures err { OnErr result ((self.new ≡ self.old) ⊎ (self.new ≡ self.old ++ t.now)) }
+        ensures full { OnErr result (kept_bytes < length self.old + length (field t.now n)) }
+        ensures short { length (field t.now n) ≤ length t.now + most_digits }
     {
         self.text(t)?;
         self.number(n)
@@ -86,7 +102,7 @@ mod tests {
 
     #[test]
     fn grows_by_texts_and_numbers(rt: HostRuntime) -> Result<(), Fail> {
-        let mut reply = Reply::new(rt.alloc());
+        let mut reply = Reply::new(rt.alloc())?;
         assert_eq!(rt; reply.bytes(), b"".as_slice());
         reply.field("ok time ", 0)?;
         reply.text(" room ")?;
