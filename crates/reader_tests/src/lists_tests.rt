@@ -5,7 +5,7 @@ use std::alloc::Global;
 use std::test::Fail;
 use tt_base::Row;
 use tt_bits::PairKind;
-use tt_fields::{FileFault, Known, Part, list, whole};
+use tt_fields::{FileFault, Known, Part, Wrong, list, whole};
 use tt_lists::{read_rules, read_students};
 use tt_problem::{DistKind, Rule, StudentPart};
 
@@ -77,35 +77,35 @@ fn distributions_keep_their_order_and_drop_repeats(rt: HostRuntime) -> Result<()
 static FAULTS_OF_RULES: [(&str, Want<usize>); 8] = [
     (
         r#"{"d":[{"type":"SameRoom","classes":[5]}]}"#,
-        Err((31, "/d/0/penalty")),
+        Err((Wrong::NotOfKind, "/d/0/penalty")),
     ),
     (
         r#"{"d":[{"type":"SameRoom","penalty":1000001,"classes":[5]}]}"#,
-        Err((32, "/d/0/penalty")),
+        Err((Wrong::OutOfRange, "/d/0/penalty")),
     ),
     (
         r#"{"d":[{"type":"SameRoom","required":1,"classes":[5]}]}"#,
-        Err((31, "/d/0/required")),
+        Err((Wrong::NotOfKind, "/d/0/required")),
     ),
     (
         r#"{"d":[{"type":"SameStart()","classes":7}]}"#,
-        Err((37, "/d/0/type")),
+        Err((Wrong::NoType, "/d/0/type")),
     ),
     (
         r#"{"d":[{"type":7,"penalty":2,"classes":[5]}]}"#,
-        Err((31, "/d/0/type")),
+        Err((Wrong::NotOfKind, "/d/0/type")),
     ),
     (
         r#"{"d":[{"type":"SameRoom","required":true}]}"#,
-        Err((31, "/d/0/classes")),
+        Err((Wrong::NotOfKind, "/d/0/classes")),
     ),
     (
         r#"{"d":[{"type":"SameRoom","required":true,"classes":[5,{"id":6}]}]}"#,
-        Err((34, "/d/0/classes/1/id")),
+        Err((Wrong::UnknownId, "/d/0/classes/1/id")),
     ),
     (
         r#"{"d":[{"type":"SameRoom","required":true,"classes":[]},null]}"#,
-        Err((31, "/d/1")),
+        Err((Wrong::NotOfKind, "/d/1")),
     ),
 ];
 
@@ -124,7 +124,10 @@ fn faults_of_distributions(rt: HostRuntime) -> Result<(), Fail> {
 }
 
 // A type that version 2 alone has.
-static RULES_OF_WEEKS: [(u8, Want<usize>); 2] = [(1, Err((37, "/d/0/type"))), (2, Ok(1))];
+static RULES_OF_WEEKS: [(u8, Want<usize>); 2] = [
+    (1, Err((Wrong::NoType, "/d/0/type"))),
+    (2, Ok(1)),
+];
 
 #[test]
 fn distributions_have_the_types_of_their_version(rt: HostRuntime) {
@@ -191,20 +194,23 @@ static STUDENTS: [(&str, Want<usize>); 6] = [
     ),
     (
         r#"{"s":[{"id":1,"courses":[5,5,5,5,5,5,5,5,5,5,5,5,5,5,5,5,5,5,5,5,5,5,5,5,5,5,5,5,5,5,5,5,5,5,5,5,5,5,5,5,5]}]}"#,
-        Err((39, "/s/0/courses")),
+        Err((Wrong::TooMany, "/s/0/courses")),
     ),
     (
         r#"{"s":[{"id":1,"courses":[5]},{"id":1,"courses":[]}]}"#,
-        Err((33, "/s/1/id")),
+        Err((Wrong::IdTwice, "/s/1/id")),
     ),
     (
         r#"{"s":[{"id":4294967296,"courses":[5]}]}"#,
-        Err((32, "/s/0/id")),
+        Err((Wrong::OutOfRange, "/s/0/id")),
     ),
-    (r#"{"s":[{"id":1}]}"#, Err((31, "/s/0/courses"))),
+    (
+        r#"{"s":[{"id":1}]}"#,
+        Err((Wrong::NotOfKind, "/s/0/courses")),
+    ),
     (
         r#"{"s":[{"id":1,"courses":[5,6]}]}"#,
-        Err((34, "/s/0/courses/1")),
+        Err((Wrong::UnknownId, "/s/0/courses/1")),
     ),
 ];
 

@@ -1,6 +1,6 @@
 use crate::given::{Want, is_answer};
 use std::alloc::Global;
-use tt_fields::FileFault;
+use tt_fields::{FileFault, Wrong};
 use tt_read::read;
 
 // How many weeks the term of a problem has.
@@ -10,42 +10,51 @@ fn week_count(alloc: Global, text: &str) -> Result<u8, FileFault> {
 
 // After the version, `nrDays` and `nrWeeks` the next key that is read is `slotsPerDay`.
 static TERMS: [(&str, Want<u8>); 16] = [
-    (r#"{"nrDays":7,"nrWeeks":64}"#, Err((31, "/slotsPerDay"))),
-    (r#"{"nrDays":7,"nrWeeks":65}"#, Err((32, "/nrWeeks"))),
+    (
+        r#"{"nrDays":7,"nrWeeks":64}"#,
+        Err((Wrong::NotOfKind, "/slotsPerDay")),
+    ),
+    (
+        r#"{"nrDays":7,"nrWeeks":65}"#,
+        Err((Wrong::OutOfRange, "/nrWeeks")),
+    ),
     (
         r#"{"version":null,"nrDays":7,"nrWeeks":65}"#,
-        Err((32, "/nrWeeks")),
+        Err((Wrong::OutOfRange, "/nrWeeks")),
     ),
     (
         r#"{"version":1,"nrDays":7,"nrWeeks":128}"#,
-        Err((32, "/nrWeeks")),
+        Err((Wrong::OutOfRange, "/nrWeeks")),
     ),
     (
         r#"{"version":2,"nrDays":7,"nrWeeks":65}"#,
-        Err((31, "/slotsPerDay")),
+        Err((Wrong::NotOfKind, "/slotsPerDay")),
     ),
     (
         r#"{"version":"02","nrDays":"7","nrWeeks":"128"}"#,
-        Err((31, "/slotsPerDay")),
+        Err((Wrong::NotOfKind, "/slotsPerDay")),
     ),
     (
         r#"{"version":2,"nrDays":7,"nrWeeks":129}"#,
-        Err((32, "/nrWeeks")),
+        Err((Wrong::OutOfRange, "/nrWeeks")),
     ),
     (
         r#"{"version":2,"nrDays":7,"nrWeeks":0}"#,
-        Err((32, "/nrWeeks")),
+        Err((Wrong::OutOfRange, "/nrWeeks")),
     ),
     (
         r#"{"version":2,"nrDays":8,"nrWeeks":129}"#,
-        Err((32, "/nrDays")),
+        Err((Wrong::OutOfRange, "/nrDays")),
     ),
-    (r#"{"version":2}"#, Err((31, "/nrDays"))),
-    (r#"{"version":3,"nrDays":8}"#, Err((32, "/version"))),
-    (r#"{"version":0}"#, Err((32, "/version"))),
-    (r#"{"version":2.0}"#, Err((31, "/version"))),
-    (r#"{"version":" 2"}"#, Err((31, "/version"))),
-    (r#"{"version":{}}"#, Err((31, "/version"))),
+    (r#"{"version":2}"#, Err((Wrong::NotOfKind, "/nrDays"))),
+    (
+        r#"{"version":3,"nrDays":8}"#,
+        Err((Wrong::OutOfRange, "/version")),
+    ),
+    (r#"{"version":0}"#, Err((Wrong::OutOfRange, "/version"))),
+    (r#"{"version":2.0}"#, Err((Wrong::NotOfKind, "/version"))),
+    (r#"{"version":" 2"}"#, Err((Wrong::NotOfKind, "/version"))),
+    (r#"{"version":{}}"#, Err((Wrong::NotOfKind, "/version"))),
     (
         r#"{"version":2,"nrDays":7,"nrWeeks":128,"slotsPerDay":1,"optimization":{"time":0,"room":0,"distribution":0,"student":0},"courses":[]}"#,
         Ok(128),

@@ -2,7 +2,7 @@
 use crate::given::{Want, is_answer};
 use std::alloc::{AllocError, Global};
 use std::test::Fail;
-use tt_fields::FileFault;
+use tt_fields::{FileFault, Wrong};
 use tt_read::read;
 
 const HEAD: &str =
@@ -74,42 +74,51 @@ static FILES: [File; 9] = [
         first: r#""id":6,"parent":9"#,
         second: r#""id":8"#,
         rest: LISTS,
-        want: Err((34, "/courses/0/configs/0/subparts/0/classes/0/parent")),
+        want: Err((
+            Wrong::UnknownId,
+            "/courses/0/configs/0/subparts/0/classes/0/parent",
+        )),
     },
     File {
         rooms: ROOMS,
         first: r#""id":6,"rooms":[{"id":6,"penalty":0}]"#,
         second: r#""id":8"#,
         rest: LISTS,
-        want: Err((34, "/courses/0/configs/0/subparts/0/classes/0/rooms/0/id")),
+        want: Err((
+            Wrong::UnknownId,
+            "/courses/0/configs/0/subparts/0/classes/0/rooms/0/id",
+        )),
     },
     File {
         rooms: ROOMS,
         first: CHILD,
         second: r#""id":6"#,
         rest: LISTS,
-        want: Err((33, "/courses/1/configs/0/subparts/0/classes/0/id")),
+        want: Err((
+            Wrong::IdTwice,
+            "/courses/1/configs/0/subparts/0/classes/0/id",
+        )),
     },
     File {
         rooms: r#"{"id":7},{"id":7}"#,
         first: CHILD,
         second: r#""id":8"#,
         rest: LISTS,
-        want: Err((33, "/rooms/1/id")),
+        want: Err((Wrong::IdTwice, "/rooms/1/id")),
     },
     File {
         rooms: r#"{"id":5,"travel":[{"room":6,"value":3}]},{"id":7}"#,
         first: CHILD,
         second: r#""id":8"#,
         rest: LISTS,
-        want: Err((34, "/rooms/0/travel/0/room")),
+        want: Err((Wrong::UnknownId, "/rooms/0/travel/0/room")),
     },
     File {
         rooms: ROOMS,
         first: CHILD,
         second: r#""id":8"#,
         rest: r#","students":[{"id":3,"courses":[2,3]}]"#,
-        want: Err((34, "/students/0/courses/1")),
+        want: Err((Wrong::UnknownId, "/students/0/courses/1")),
     },
     // What has the wrong form is found before a reference that leads nowhere.
     File {
@@ -117,14 +126,17 @@ static FILES: [File; 9] = [
         first: r#""id":6,"parent":9"#,
         second: r#""id":8"#,
         rest: r#","students":[{"id":3}]"#,
-        want: Err((31, "/students/0/courses")),
+        want: Err((Wrong::NotOfKind, "/students/0/courses")),
     },
     File {
         rooms: ROOMS,
         first: r#""id":6,"parent":9"#,
         second: r#""limit":8"#,
         rest: LISTS,
-        want: Err((31, "/courses/1/configs/0/subparts/0/classes/0/id")),
+        want: Err((
+            Wrong::NotOfKind,
+            "/courses/1/configs/0/subparts/0/classes/0/id",
+        )),
     },
 ];
 

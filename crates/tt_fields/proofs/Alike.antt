@@ -3,6 +3,7 @@ use Rattle.std.proofs.Common.{◌≡◌, ℕ, List, [], ◌∷◌, ◌++◌, map
 use Rattle.std.specs.Option.{option_map_or}
 use Rattle.std.proofs.lemmas.List.{map-append}
 use Rattle.serde_json.specs.Find.{as_object}
+use Rattle.tt_fields.specs.declared.faults.Wrong.TheVariants.{NotOfKind, UnknownId}
 use Rattle.tt_fields.specs.Path.{at}
 use Rattle.tt_base.specs.Chain.{◌>>=◌}
 use Rattle.tt_fields.specs.Answer.{Part, Fault, fault}
@@ -59,7 +60,7 @@ pub required_alike : {A B : Type 0} (P : A → B → Type 0) (read : Part → Re
     → ((p : Part) → Alike P (read p) (other p)) → (key : List ℕ) (o : Part) → Alike P (required read key o) (required other key o)
 unfolding required
 required_alike P read other h key o =
-    elim (value_at key o) as (λ v. Alike P (option_map_or read v (fault 31 (at o.path key))) (option_map_or other v (fault 31 (at o.path key)))) [ None ↦ tt | Some p ↦ h p ]
+    elim (value_at key o) as (λ v. Alike P (option_map_or read v (fault NotOfKind (at o.path key))) (option_map_or other v (fault NotOfKind (at o.path key)))) [ None ↦ tt | Some p ↦ h p ]
 
 pub optional_alike : {A B : Type 0} (read : Part → Result A Fault) (other : Part → Result B Fault)
     → ((p : Part) → Alike Any (read p) (other p)) → (key : List ℕ) (o : Part) → Alike Any (optional read key o) (optional other key o)
@@ -73,7 +74,7 @@ optional_alike read other h key o =
 pub place_alike : (ids : Option (List ℕ)) (p : Part) → Alike Any (place_of ids p) (place_of None p)
 place_alike ids p =
     after_alike Any (a_number 0 4294967295 p) _ _ (λ id.
-    elim (placed_in ids id) as (λ place. Alike {B = ℕ} Any (or_fault 34 p place) (or_fault 34 p (Some 0))) [ None ↦ tt | Some place ↦ tt ])
+    elim (placed_in ids id) as (λ place. Alike {B = ℕ} Any (or_fault UnknownId p place) (or_fault UnknownId p (Some 0))) [ None ↦ tt | Some place ↦ tt ])
 
 pub reference_alike : (ids : Option (List ℕ)) (p : Part) → Alike Any (a_reference ids p) (a_reference None p)
 unfolding a_reference

@@ -6,7 +6,7 @@ use Rattle.tt_problem.specs.Valid.{student_ids}
 use Rattle.tt_fields.specs.Answer.{Part}
 use Rattle.tt_fields.specs.Kinds.{a_number, a_truth, an_object, a_list, a_reference, required, or_else, new_id}
 use Rattle.tt_fields.proofs.Alike.{Alike, Any, any_alike, then_alike, after_alike, same_alike, reference_alike, each_alike, each_as_alike, ids_push}
-use Rattle.tt_lists.specs.Tables.{a_type, penalty_unless, a_place, places_in, a_rule, rules_in, a_student, pushed_student, students_in}
+use Rattle.tt_lists.specs.Tables.{a_type, penalty_unless, a_place, places_in, a_rule, rules_in, a_student, students_in}
 
 member_alike : (ids : Option (List ℕ)) (p : Part) (s t : List ℕ) → Alike Any (a_place ids p s) (a_place None p t)
 unfolding a_place
@@ -28,27 +28,20 @@ rule_alike version ids p =
 pub rules_alike : (version : ℕ) (ids : Option (List ℕ)) (items : List Part) → Alike Any (rules_in version ids items) (rules_in version None items)
 rules_alike version ids items = each_as_alike (a_rule version ids) (a_rule version None) (rule_alike version ids) items
 
--- the students have the same id
-abbrev SameStudent : StudentPart → StudentPart → Type 0
-SameStudent x y = x.id ≡ y.id
-
-student_alike : (ids : Option (List ℕ)) (before others : List ℕ) (p : Part) → before ≡ others → Alike SameStudent (a_student ids before p) (a_student None others p)
-unfolding a_student
-student_alike ids before others p same =
-    after_alike SameStudent (an_object p) _ _ (λ o.
-    after_alike SameStudent (required (a_number 0 4294967295) (codes "id") o) _ _ (λ id.
-    same_alike SameStudent (new_id id before o) (new_id id others o) _ _ (ap (λ (l : List ℕ). new_id id l o) same) (λ more.
-    after_alike SameStudent (required (a_list 0 40) (codes "courses") o) _ _ (λ items.
-    then_alike Any SameStudent (places_in ids items) (places_in None items) _ _ (places_alike ids items) (λ x y k. refl)))))
-
+-- the students have the same ids
 abbrev SameStudents : List StudentPart → List StudentPart → Type 0
 SameStudents s t = student_ids s ≡ student_ids t
 
-one_alike : (ids : Option (List ℕ)) (p : Part) (s t : List StudentPart) → SameStudents s t → Alike SameStudents (pushed_student ids p s) (pushed_student None p t)
-one_alike ids p s t same =
-    then_alike SameStudent SameStudents (a_student ids (student_ids s) p) (a_student None (student_ids t) p) _ _ (student_alike ids (student_ids s) (student_ids t) p same) (λ x y k.
-    ids_push (λ (z : StudentPart). z.id) s t x y same k)
+student_alike : (ids : Option (List ℕ)) (p : Part) (s t : List StudentPart) → SameStudents s t → Alike SameStudents (a_student ids p s) (a_student None p t)
+unfolding a_student
+student_alike ids p s t same =
+    after_alike SameStudents (an_object p) _ _ (λ o.
+    after_alike SameStudents (required (a_number 0 4294967295) (codes "id") o) _ _ (λ id.
+    same_alike SameStudents (new_id id (student_ids s) o) (new_id id (student_ids t) o) _ _ (ap (λ (l : List ℕ). new_id id l o) same) (λ more.
+    after_alike SameStudents (required (a_list 0 40) (codes "courses") o) _ _ (λ items.
+    then_alike Any SameStudents (places_in ids items) (places_in None items) _ _ (places_alike ids items) (λ x y k.
+    ids_push (λ (z : StudentPart). z.id) s t (record { id = id; courses = x }) (record { id = id; courses = y }) same refl)))))
 
 pub students_alike : (ids : Option (List ℕ)) (items : List Part) → Alike Any (students_in ids items) (students_in None items)
 students_alike ids items =
-    any_alike SameStudents (students_in ids items) (students_in None items) (each_alike SameStudents (pushed_student ids) (pushed_student None) (one_alike ids) items [] [] refl)
+    any_alike SameStudents (students_in ids items) (students_in None items) (each_alike SameStudents (a_student ids) (a_student None) (student_alike ids) items [] [] refl)

@@ -15,6 +15,7 @@ use Rattle.tt_fields.proofs.Alike.{Alike, Any, read_too}
 use Rattle.tt_tree.specs.Context.{Context}
 use Rattle.tt_tree.specs.Tables.{Rooms, Tree, rooms_in, courses_in}
 use Rattle.tt_tree.proofs.Places.{after}
+use Rattle.tt_tree.proofs.Pushed.{then}
 use Rattle.tt_tree.proofs.Unknown.{unknown, SameRooms, SameTree, rooms_alike, courses_alike}
 use Rattle.tt_tree.proofs.Whole.{classes_whole}
 use Rattle.tt_lists.specs.Tables.{rules_in, students_in}
@@ -23,10 +24,6 @@ use Rattle.tt_read.specs.declared.passes as passes
 use Rattle.tt_read.specs.declared.term.Term.{Term}
 use Rattle.tt_read.specs.Read.{shape_read, HasLists, HasIdsOf, HasAllClasses}
 use Rattle.tt_read.specs.Tables.{term_of, weights_of, term_context, room_list_of, course_list_of, checked_list, Shape, file_shape, shape_context, parts_with, linked_of, summed, parts_of}
-
--- what is read after a value that was read
-then : {A B : Type 0} (r : Result A Fault) (x : A) (f : A → Result B Fault) (out : Result B Fault) → r ≡ Ok x → f x ≡ out → (r >>= f) ≡ out
-then r x f out is rest = ap (λ (s : Result _ Fault). s >>= f) is ∙ rest
 
 -- the value that is read where the other is
 also : {A B : Type 0} (P : A → B → Type 0) (r : Result A Fault) (other : Result B Fault) (x : A) → Alike P r other → r ≡ Ok x → (y : B) × (other ≡ Ok y) × P x y

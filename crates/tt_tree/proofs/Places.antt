@@ -8,7 +8,8 @@ use Rattle.serde_json.specs.Find.{as_object}
 use Rattle.serde_json.specs.Events.{items_len}
 use Rattle.serde_json.specs.View.{items_view}
 use Rattle.serde_json.specs.declared.value.Value.{Value}
-use Rattle.tt_fields.specs.declared.kinds.Known.{Known}
+use Rattle.tt_fields.specs.declared.faults.Wrong.TheVariants.{NotOfKind}
+use Rattle.tt_fields.specs.declared.references.Known.{Known}
 use Rattle.tt_fields.specs.Path.{at}
 use Rattle.tt_base.specs.Chain.{◌>>=◌}
 use Rattle.tt_fields.specs.Answer.{Part, Fault, fault}
@@ -40,7 +41,7 @@ place_unknown p = after IsZero (a_number 0 4294967295 p) _ (λ x is. refl)
 
 required_unknown : (read : Part → Result ℕ Fault) → ((p : Part) → IfOk (read p) IsZero) → (key : List ℕ) (o : Part) → IfOk (required read key o) IsZero
 unfolding required
-required_unknown read h key o = elim (value_at key o) as (λ v. IfOk (option_map_or read v (fault 31 (at o.path key))) IsZero) [ None ↦ tt | Some p ↦ h p ]
+required_unknown read h key o = elim (value_at key o) as (λ v. IfOk (option_map_or read v (fault NotOfKind (at o.path key))) IsZero) [ None ↦ tt | Some p ↦ h p ]
 
 reference_unknown : (p : Part) → IfOk (a_reference None p) IsZero
 unfolding a_reference

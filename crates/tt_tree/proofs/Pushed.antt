@@ -27,10 +27,10 @@ use Rattle.tt_tree.specs.Tables.{a_travel_entry, a_closed_time, Rooms, a_room}
 -- a fault of what is read first is the fault of both
 pub fails_on : {A B : Type 0} (e : FileFault) (read : Result A Fault) (f : A → Result B Fault) → Fails e read → Fails e (read >>= f)
 fails_on faults.Memory read f h = tt
-fails_on (faults.Fault n path) read f h = ap (λ (r : Result _ Fault). r >>= f) h
+fails_on (faults.Fault wrong path) read f h = ap (λ (r : Result _ Fault). r >>= f) h
 
 -- what is read after a value that was read
-then : {A B : Type 0} (r : Result A Fault) (x : A) (f : A → Result B Fault) (out : Result B Fault) → r ≡ Ok x → f x ≡ out → (r >>= f) ≡ out
+pub then : {A B : Type 0} (r : Result A Fault) (x : A) (f : A → Result B Fault) (out : Result B Fault) → r ≡ Ok x → f x ≡ out → (r >>= f) ≡ out
 then r x f out is rest = ap (λ (s : Result _ Fault). s >>= f) is ∙ rest
 
 -- no ids differ

@@ -11,6 +11,7 @@ use Rattle.serde_json.specs.Find.{as_array, as_object}
 use Rattle.serde_json.specs.View.{items_view}
 use Rattle.serde_json.specs.declared.value.Value.{Value}
 use Rattle.tt_problem.specs.declared.parts.ClassPart.{ClassPart}
+use Rattle.tt_fields.specs.declared.faults.Wrong.TheVariants.{NotOfKind, TooFew, TooMany}
 use Rattle.tt_fields.specs.Path.{at, shown}
 use Rattle.tt_base.specs.Chain.{◌>>=◌}
 use Rattle.tt_fields.specs.Answer.{Part, Fault, fault}
@@ -54,7 +55,7 @@ counted_is : (most : ℕ) (p : Part) (ds : Items) → IfOk (counted 1 most p ds)
 counted_is most p no_items = tt
 counted_is most p (item d ds) =
     by_tests (Are (items_at p.path 0 (item d ds))) (nat_lt (items_len (item d ds)) 1) (nat_lt most (items_len (item d ds)))
-    (record { number = 38; path = shown p.path }) (record { number = 39; path = shown p.path }) (items_at p.path 0 (item d ds)) refl
+    (record { wrong = TooFew; path = shown p.path }) (record { wrong = TooMany; path = shown p.path }) (items_at p.path 0 (item d ds)) refl
 
 a_list_is : (most : ℕ) (p : Part) → IfOk (a_list 1 most p) (Are (items_or_none p (as_array p.value)))
 unfolding a_list
@@ -66,7 +67,7 @@ unfolding required
 list_is most key p o ps is found =
     subst (λ (x : Part). Are (list_at key x) ps) (object_is p o is)
     (IfOk-at_ok (Are (list_at key o)) found
-    (elim (value_at key o) as (λ v. IfOk (option_map_or (a_list 1 most) v (fault 31 (at o.path key))) (Are (value_items v))) [ None ↦ tt | Some q ↦ a_list_is most q ]))
+    (elim (value_at key o) as (λ v. IfOk (option_map_or (a_list 1 most) v (fault NotOfKind (at o.path key))) (Are (value_items v))) [ None ↦ tt | Some q ↦ a_list_is most q ]))
 
 -- ---- one item after another
 

@@ -1,7 +1,7 @@
 -- Theorem. What the tables are read with.
 use Rattle.std.specs.Prelude.{ℕ, ◌≤◌, List, Option, length, IfSome}
 use Rattle.tt_problem.specs.Valid.{IsValidTerm}
-use Rattle.tt_fields.specs.declared.kinds.Known.{Known}
+use Rattle.tt_fields.specs.declared.references.Known.{Known}
 use Rattle.tt_fields.specs.List.{known_of, IsFew}
 use Rattle.tt_tree.specs.declared.context as code
 

@@ -9,7 +9,7 @@ use Rattle.tt_problem.specs.declared.parts.RoomChoice.{RoomChoice}
 use Rattle.tt_problem.specs.declared.parts.ClassPart.{ClassPart}
 use Rattle.tt_problem.specs.Spans.{Covers}
 use Rattle.tt_problem.specs.Valid.{IsValidTime, IsValidRoom, room_ids, class_ids, course_ids}
-use Rattle.tt_fields.specs.declared.kinds.Known.{Known}
+use Rattle.tt_fields.specs.declared.references.Known.{Known}
 use Rattle.tt_fields.specs.List.{IsAmong}
 use Rattle.tt_tree.specs.Context.{HasIds}
 use Rattle.tt_tree.specs.Tables.{Rooms, Subparts, Configs, Tree}

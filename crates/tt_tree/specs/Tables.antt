@@ -11,6 +11,7 @@ use Rattle.tt_problem.specs.declared.parts.RoomPart.{RoomPart}
 use Rattle.tt_problem.specs.declared.parts.ClassPart.{ClassPart}
 use Rattle.tt_problem.specs.declared.parts.CoursePart.{CoursePart}
 use Rattle.tt_problem.specs.Valid.{room_ids, class_ids, course_ids}
+use Rattle.tt_fields.specs.declared.faults.Wrong.TheVariants.{NoTime}
 use Rattle.tt_fields.specs.Path.{at}
 use Rattle.tt_base.specs.Chain.{◌>>=◌}
 use Rattle.tt_fields.specs.Answer.{Part, Fault, fault}
@@ -19,11 +20,11 @@ use Rattle.tt_tree.specs.Context.{Context}
 
 -- ---- times
 
--- the length of a time that begins at `start`, which has fault 36 where there is no such time
+-- the length of a time that begins at `start`, which is to be one that a time has
 unfoldable pub length_after : ℕ → Part → Result ℕ Fault
 length_after start o = do
   length ← required (a_number 0 65535) (codes "length") o
-  if length == 0 || nat_lt 65535 (start + length) then fault 36 (at o.path (codes "length")) else Ok length
+  if length == 0 || nat_lt 65535 (start + length) then fault NoTime (at o.path (codes "length")) else Ok length
 
 -- a time object, within the days of a week and the weeks of the term; its length has been read as one that a
 -- time has, so that the last line always finds a time
@@ -33,7 +34,7 @@ time_in c o = do
   start ← required (a_number 0 65535) (codes "start") o
   length ← length_after start o
   weeks ← required (a_set weeks_text c.nr_weeks) (codes "weeks") o
-  or_fault 36 o (bits.time_of days weeks start length)
+  or_fault NoTime o (bits.time_of days weeks start length)
 
 -- a time of a class
 unfoldable pub a_time_choice : Context → Part → Result TimeChoice Fault

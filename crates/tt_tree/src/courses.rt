@@ -10,6 +10,7 @@ ghost use Rattle.tt_tree.specs.Tables.{a_room_choice, rooms_where, rooms_of, a_c
 ghost use Rattle.tt_tree.specs.Whole.{HasClasses};
 
 use crate::context::Context;
+use crate::times::TimeTable;
 use indexmap::IndexSet;
 use std::alloc::{AllocError, Global};
 use tt_base::Row;
@@ -48,7 +49,7 @@ pub struct Tree {
     pub configs: Configs,
 }
 
-/// A room of a class, with its penalty. Faults: 31, 32 and 34.
+/// A room of a class, with its penalty.
 #[tactic(auto, unfolding(crate::specs::Tables::a_room_choice))]
 fn read_room_choice<'a>(context: &Context<'_>, item: &'a Part<'a>) -> Result<RoomChoice, Fault<'a>>
     requires { IsContext context.now }
@@ -61,16 +62,21 @@ fn read_room_choice<'a>(context: &Context<'_>, item: &'a Part<'a>) -> Result<Roo
     Ok(RoomChoice { room, penalty })
 }
 
-/// A room of a class.
-impl ItemTable<RoomChoice> for Context<'_> {
-    ghost reads = { λ c. a_room_choice (context_of c) };
+/// The rooms of a class.
+#[derive(Clone, Copy)]
+struct RoomChoiceTable<'a> {
+    context: &'a Context<'a>,
+}
 
-    ghost valid = { λ c room. IsChoiceAmong c.rooms room };
+impl ItemTable<RoomChoice> for RoomChoiceTable<'_> {
+    ghost reads = { λ t. a_room_choice (context_of t.context.now) };
 
-    ghost ready = { λ c. IsContext c };
+    ghost valid = { λ t room. IsChoiceAmong t.context.now.rooms room };
+
+    ghost ready = { λ t. IsContext t.context.now };
 
     fn read_item(&self, _alloc: Global, item: &Part<'_>) -> Result<RoomChoice, FileFault> {
-        Ok(read_room_choice(self, &*item)?)
+        Ok(read_room_choice(self.context, &*item)?)
     }
 }
 
@@ -89,7 +95,8 @@ fn rooms_if(
 {
     if room {
         let items = list_or_none(&*object, "rooms", 1000)?;
-        Ok(Row::from_vec(read_each(alloc, context, &items)?))
+        let table = RoomChoiceTable { context };
+        Ok(Row::from_vec(read_each(alloc, &table, &items)?))
     } else {
         Ok(Row::from_vec(Vec::new(alloc)))
     }
@@ -112,16 +119,22 @@ fn read_class_rooms(
     rooms_if(alloc, room, context, object)
 }
 
-impl NextTable<Classes> for Context<'_> {
+/// The classes of a subpart.
+#[derive(Clone, Copy)]
+struct ClassTable<'a> {
+    context: &'a Context<'a>,
+}
+
+impl NextTable<Classes> for ClassTable<'_> {
     ghost Seen = { List ClassSeen };
 
     ghost seen = { classes_read };
 
-    ghost reads = { λ c. a_class (context_of c) };
+    ghost reads = { λ t. a_class (context_of t.context.now) };
 
-    ghost most = { λ c. 20000 };
+    ghost most = { λ t. 20000 };
 
-    ghost valid = { λ c place s. IsContext c × AreClasses c s };
+    ghost valid = { λ t place s. IsContext t.context.now × AreClasses t.context.now s };
 
     #[tactic(auto, using(crate::proofs::Pushed::classes_push), unfolding(crate::specs::Tables::a_class))]
     fn read_next(
@@ -135,10 +148,13 @@ impl NextTable<Classes> for Context<'_> {
         let id = number(&*item, "id", 0, u32::MAX)?;
         add_id(item, id, &mut before.ids)?;
         let limit = optional_number(&*item, "limit", 0, u32::MAX)?;
-        let parent = optional_reference(&self.classes, &*item, "parent")?;
-        let rooms = read_class_rooms(alloc, self, item)?;
+        let parent = optional_reference(&self.context.classes, &*item, "parent")?;
+        let rooms = read_class_rooms(alloc, self.context, item)?;
         let items = list(&*item, "times", 1, 1000)?;
-        let times = read_each(alloc, self, &items)?;
+        let table = TimeTable {
+            context: self.context,
+        };
+        let times = read_each(alloc, &table, &items)?;
         before.classes.push(ClassPart {
             id,
             limit,
@@ -167,16 +183,22 @@ fn push_span(spans: &mut Vec<Span>, first: usize, after: usize) -> Result<(), Al
     Ok(())
 }
 
-impl NextTable<Subparts> for Context<'_> {
+/// The subparts of a configuration.
+#[derive(Clone, Copy)]
+struct SubpartTable<'a> {
+    context: &'a Context<'a>,
+}
+
+impl NextTable<Subparts> for SubpartTable<'_> {
     ghost Seen = { SubpartsSeen };
 
     ghost seen = { subparts_read };
 
-    ghost reads = { λ c. a_subpart (context_of c) };
+    ghost reads = { λ t. a_subpart (context_of t.context.now) };
 
-    ghost most = { λ c. 2 ^ 64 };
+    ghost most = { λ t. 2 ^ 64 };
 
-    ghost valid = { λ c place s. IsContext c × IsSubparts c s };
+    ghost valid = { λ t place s. IsContext t.context.now × IsSubparts t.context.now s };
 
     #[tactic(auto, using(crate::proofs::Whole::more_classes), unfolding(crate::specs::Tables::a_subpart))]
     fn read_next(
@@ -189,22 +211,31 @@ impl NextTable<Subparts> for Context<'_> {
         as_object(item)?;
         let first = before.classes.classes.len();
         let items = list(&*item, "classes", 1, 20_000 - first)?;
-        read_onto(alloc, self, &items, &mut before.classes)?;
+        let table = ClassTable {
+            context: self.context,
+        };
+        read_onto(alloc, &table, &items, &mut before.classes)?;
         push_span(&mut before.spans, first, before.classes.classes.len())?;
         Ok(())
     }
 }
 
-impl NextTable<Configs> for Context<'_> {
+/// The configurations of a course.
+#[derive(Clone, Copy)]
+struct ConfigTable<'a> {
+    context: &'a Context<'a>,
+}
+
+impl NextTable<Configs> for ConfigTable<'_> {
     ghost Seen = { ConfigsSeen };
 
     ghost seen = { configs_read };
 
-    ghost reads = { λ c. a_config (context_of c) };
+    ghost reads = { λ t. a_config (context_of t.context.now) };
 
-    ghost most = { λ c. 2 ^ 64 };
+    ghost most = { λ t. 2 ^ 64 };
 
-    ghost valid = { λ c place s. IsContext c × IsConfigs c s };
+    ghost valid = { λ t place s. IsContext t.context.now × IsConfigs t.context.now s };
 
     #[tactic(auto, using(crate::proofs::Whole::more_subparts), unfolding(crate::specs::Tables::a_config))]
     fn read_next(
@@ -217,22 +248,31 @@ impl NextTable<Configs> for Context<'_> {
         as_object(item)?;
         let first = before.subparts.spans.len();
         let items = list(&*item, "subparts", 1, usize::MAX)?;
-        read_onto(alloc, self, &items, &mut before.subparts)?;
+        let table = SubpartTable {
+            context: self.context,
+        };
+        read_onto(alloc, &table, &items, &mut before.subparts)?;
         push_span(&mut before.spans, first, before.subparts.spans.len())?;
         Ok(())
     }
 }
 
-impl NextTable<Tree> for Context<'_> {
+/// The courses.
+#[derive(Clone, Copy)]
+struct CourseTable<'a> {
+    context: &'a Context<'a>,
+}
+
+impl NextTable<Tree> for CourseTable<'_> {
     ghost Seen = { TreeSeen };
 
     ghost seen = { tree_read };
 
-    ghost reads = { λ c. a_course (context_of c) };
+    ghost reads = { λ t. a_course (context_of t.context.now) };
 
-    ghost most = { λ c. 2 ^ 64 };
+    ghost most = { λ t. 2 ^ 64 };
 
-    ghost valid = { λ c place t. IsContext c × IsTree c t };
+    ghost valid = { λ t place tree. IsContext t.context.now × IsTree t.context.now tree };
 
     #[tactic(auto, using(crate::proofs::Whole::more_configs, crate::proofs::Pushed::tree_push), unfolding(crate::specs::Tables::a_course))]
     fn read_next(
@@ -247,7 +287,10 @@ impl NextTable<Tree> for Context<'_> {
         add_id(item, id, &mut before.ids)?;
         let first = before.configs.spans.len();
         let items = list(&*item, "configs", 1, usize::MAX)?;
-        read_onto(alloc, self, &items, &mut before.configs)?;
+        let table = ConfigTable {
+            context: self.context,
+        };
+        read_onto(alloc, &table, &items, &mut before.configs)?;
         let after = before.configs.spans.len();
         before.courses.push(CoursePart {
             id,
@@ -290,6 +333,7 @@ pub fn read_courses(
         courses: Vec::new(alloc),
         configs,
     };
-    read_onto(alloc, context, items, &mut tree)?;
+    let table = CourseTable { context };
+    read_onto(alloc, &table, items, &mut tree)?;
     Ok(tree)
 }

@@ -9,6 +9,7 @@ ghost use Rattle.tt_tree.specs.Read.{rooms_read, IsTravelAmong, IsRooms};
 ghost use Rattle.tt_tree.specs.Tables.{a_travel_entry, a_room, rooms_in, Rooms as RoomsSeen};
 
 use crate::context::Context;
+use crate::times::ClosedTable;
 use indexmap::IndexSet;
 use std::alloc::Global;
 use tt_base::Row;
@@ -31,24 +32,24 @@ pub struct Rooms {
 /// The entries in the travel of the room at a place, one of so many rooms.
 #[derive(Clone, Copy)]
 struct EntryTable<'a> {
-    context: Context<'a>,
+    context: &'a Context<'a>,
     count: u32,
     from: u32,
 }
 
-/// Enters a travel that a room has. Faults: 31, 32 and 34.
+/// Enters a travel that a room has.
 #[tactic(auto, unfolding(crate::specs::Tables::a_travel_entry))]
 fn enter_travel<'a>(
     entries: &EntryTable<'_>,
     item: &'a Part<'a>,
     travel: &mut Travel,
 ) -> Result<(), Fault<'a>>
-    requires context { IsContext entries.now.context }
+    requires context { IsContext entries.now.context.now }
     requires room { entries.now.from < entries.now.count }
-    requires among { IsTravelAmong entries.now.context entries.now.count travel.old }
+    requires among { IsTravelAmong entries.now.context.now entries.now.count travel.old }
     ensures reads { Reads (λ _. travel.new) result
-        (a_travel_entry (context_of entries.now.context) entries.now.from (part_of item.now) travel.old) }
-    ensures among { OnOk result (IsTravelAmong entries.now.context entries.now.count travel.new) }
+        (a_travel_entry (context_of entries.now.context.now) entries.now.from (part_of item.now) travel.old) }
+    ensures among { OnOk result (IsTravelAmong entries.now.context.now entries.now.count travel.new) }
 {
     as_object(item)?;
     let to = reference(&entries.context.rooms, item, "room")?;
@@ -62,11 +63,11 @@ impl NextTable<Travel> for EntryTable<'_> {
 
     ghost seen = { λ travel. travel };
 
-    ghost reads = { λ t. a_travel_entry (context_of t.context) t.from };
+    ghost reads = { λ t. a_travel_entry (context_of t.context.now) t.from };
 
     ghost most = { λ t. 4000 };
 
-    ghost valid = { λ t place travel. IsContext t.context × (t.from < t.count) × IsTravelAmong t.context t.count travel };
+    ghost valid = { λ t place travel. IsContext t.context.now × (t.from < t.count) × IsTravelAmong t.context.now t.count travel };
 
     fn read_next(
         &self,
@@ -82,7 +83,7 @@ impl NextTable<Travel> for EntryTable<'_> {
 /// The rooms of a list of so many.
 #[derive(Clone, Copy)]
 struct RoomTable<'a> {
-    context: Context<'a>,
+    context: &'a Context<'a>,
     count: u32,
 }
 
@@ -91,11 +92,11 @@ impl NextTable<Rooms> for RoomTable<'_> {
 
     ghost seen = { rooms_read };
 
-    ghost reads = { λ t. a_room (context_of t.context) };
+    ghost reads = { λ t. a_room (context_of t.context.now) };
 
     ghost most = { λ t. t.count };
 
-    ghost valid = { λ t place s. IsContext t.context × IsRooms t.context t.count s × (length s.rooms.items ≡ place) };
+    ghost valid = { λ t place s. IsContext t.context.now × IsRooms t.context.now t.count s × (length s.rooms.items ≡ place) };
 
     #[tactic(auto, using(crate::proofs::Pushed::rooms_push), unfolding(crate::specs::Tables::a_room))]
     fn read_next(
@@ -116,7 +117,10 @@ impl NextTable<Rooms> for RoomTable<'_> {
         let items = list_or_none(&*item, "travel", 4000)?;
         read_onto(alloc, &entries, &items, &mut before.travel)?;
         let unavailable = list_or_none(&*item, "unavailable", 1000)?;
-        let closed = read_each(alloc, &self.context, &unavailable)?;
+        let table = ClosedTable {
+            context: self.context,
+        };
+        let closed = read_each(alloc, &table, &unavailable)?;
         before.rooms.push(RoomPart {
             id,
             closed: Row::from_vec(closed),
@@ -145,10 +149,7 @@ pub fn read_rooms(
         rooms: Vec::new(alloc),
         travel: Travel::new(alloc, count)?,
     };
-    let table = RoomTable {
-        context: *context,
-        count,
-    };
+    let table = RoomTable { context, count };
     read_onto(alloc, &table, items, &mut rooms)?;
     Ok(rooms)
 }

@@ -7,23 +7,23 @@ ghost use Rattle.tt_tree.specs.Tables.{length_after, time_in, a_time_choice, a_c
 use crate::context::Context;
 use std::alloc::Global;
 use tt_bits::Time;
-use tt_fields::{Fault, FileFault, ItemTable, Part, as_object, fault, fault_at, number};
+use tt_fields::{Fault, FileFault, ItemTable, Part, Wrong, as_object, fault, fault_at, number};
 use tt_problem::TimeChoice;
 
-/// The length of a time that begins at `start`. Faults: 31, 32, and 36 where there is no such time.
+/// The length of a time that begins at `start`, or no time where there is none so long.
 #[tactic(auto, unfolding(crate::specs::Tables::length_after))]
 fn length_from<'a>(object: &'a Part<'a>, start: u16) -> Result<u16, Fault<'a>>
     ensures { Reads (λ n. n) result (length_after start (part_of object.now)) }
 {
     let length = number(object, "length", 0, 65_535)?;
     if length == 0 || u32::from(start) + length > 65_535 {
-        Err(fault_at(36, object, "length"))
+        Err(fault_at(Wrong::NoTime, object, "length"))
     } else {
         Ok(length as u16)
     }
 }
 
-/// The time that an object has, without its penalty. Faults: 31, 32, 35 and 36.
+/// The time that an object has, without its penalty.
 #[tactic(auto, unfolding(crate::specs::Tables::time_in))]
 fn read_time<'a>(context: &Context<'_>, object: &'a Part<'a>) -> Result<Time, Fault<'a>>
     requires { IsContext context.now }
@@ -35,12 +35,12 @@ fn read_time<'a>(context: &Context<'_>, object: &'a Part<'a>) -> Result<Time, Fa
     let length = length_from(object, start)?;
     let weeks = tt_fields::weeks(object, "weeks", context.nr_weeks)?;
     match Time::new(days, weeks, start, length) {
-        None => Err(fault(36, object)),
+        None => Err(fault(Wrong::NoTime, object)),
         Some(time) => Ok(time),
     }
 }
 
-/// A time of a class, with its penalty. Faults: 31, 32, 35 and 36.
+/// A time of a class, with its penalty.
 #[tactic(auto, unfolding(crate::specs::Tables::a_time_choice))]
 fn read_time_choice<'a>(context: &Context<'_>, item: &'a Part<'a>) -> Result<TimeChoice, Fault<'a>>
     requires { IsContext context.now }
@@ -53,20 +53,25 @@ fn read_time_choice<'a>(context: &Context<'_>, item: &'a Part<'a>) -> Result<Tim
     Ok(TimeChoice { time, penalty })
 }
 
-/// A time of a class.
-impl ItemTable<TimeChoice> for Context<'_> {
-    ghost reads = { λ c. a_time_choice (context_of c) };
+/// The times of a class.
+#[derive(Clone, Copy)]
+pub struct TimeTable<'a> {
+    pub context: &'a Context<'a>,
+}
 
-    ghost valid = { λ c time. IsValidTime c.nr_days c.nr_weeks time };
+impl ItemTable<TimeChoice> for TimeTable<'_> {
+    ghost reads = { λ t. a_time_choice (context_of t.context.now) };
 
-    ghost ready = { λ c. IsContext c };
+    ghost valid = { λ t time. IsValidTime t.context.now.nr_days t.context.now.nr_weeks time };
+
+    ghost ready = { λ t. IsContext t.context.now };
 
     fn read_item(&self, _alloc: Global, item: &Part<'_>) -> Result<TimeChoice, FileFault> {
-        Ok(read_time_choice(self, &*item)?)
+        Ok(read_time_choice(self.context, &*item)?)
     }
 }
 
-/// An unavailable time of a room. Faults: 31, 32, 35 and 36.
+/// An unavailable time of a room.
 #[tactic(auto, unfolding(crate::specs::Tables::a_closed_time))]
 fn read_closed<'a>(context: &Context<'_>, item: &'a Part<'a>) -> Result<Time, Fault<'a>>
     requires { IsContext context.now }
@@ -77,15 +82,20 @@ fn read_closed<'a>(context: &Context<'_>, item: &'a Part<'a>) -> Result<Time, Fa
     read_time(context, item)
 }
 
-/// An unavailable time of a room.
-impl ItemTable<Time> for Context<'_> {
-    ghost reads = { λ c. a_closed_time (context_of c) };
+/// The unavailable times of a room.
+#[derive(Clone, Copy)]
+pub struct ClosedTable<'a> {
+    pub context: &'a Context<'a>,
+}
 
-    ghost valid = { λ c time. IsTimeOf c.nr_days c.nr_weeks time };
+impl ItemTable<Time> for ClosedTable<'_> {
+    ghost reads = { λ t. a_closed_time (context_of t.context.now) };
 
-    ghost ready = { λ c. IsContext c };
+    ghost valid = { λ t time. IsTimeOf t.context.now.nr_days t.context.now.nr_weeks time };
+
+    ghost ready = { λ t. IsContext t.context.now };
 
     fn read_item(&self, _alloc: Global, item: &Part<'_>) -> Result<Time, FileFault> {
-        Ok(read_closed(self, &*item)?)
+        Ok(read_closed(self.context, &*item)?)
     }
 }

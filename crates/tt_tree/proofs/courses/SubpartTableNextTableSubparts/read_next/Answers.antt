@@ -1,7 +1,7 @@
 use Rattle.std.proofs.Common.{rules, ◌≡◌, ◌+◌, length, subst, arith}
 use Rattle.tt_problem.specs.Spans.{Covers}
 use Rattle.tt_tree.proofs.Whole.{more_classes}
-use Rattle.tt_tree.proofs.courses.ContextNextTableSubparts.read_next.Goals as goal
+use Rattle.tt_tree.proofs.courses.SubpartTableNextTableSubparts.read_next.Goals as goal
 
 pub returns-clause-valid : goal.returns-clause-valid
 returns-clause-valid c =
