@@ -1,6 +1,7 @@
-ghost use Rattle.std.specs.Prelude.{◌≡◌, ◌<◌, ◌≤◌, length, slice_get, Some, IfOk, IfSome};
+ghost use Rattle.std.specs.Prelude.{◌≡◌, ◌<◌, ◌≤◌, length, map, slice_get, slice_index, Some, IfOk, IfSome};
 ghost use Rattle.tt_travel.specs.Table.{most_rooms};
 ghost use Rattle.tt_problem.specs.Spans.{IsSpanWithin};
+ghost use Rattle.tt_problem.specs.Seats.{most_seats};
 ghost use Rattle.tt_problem.specs.Valid.{class_ids, student_ids, AreValidWeights, IsValid, IsValidClass, IsValidRoom, IsValidRule, IsValidStudent};
 ghost use Rattle.tt_problem.specs.RulePlaces.{rules_of};
 ghost use Rattle.tt_problem.specs.Places.{place_of_id, class_id, student_id, class_of, room_of, student_of, subpart_of, config_of, course_of};
@@ -9,6 +10,7 @@ use crate::index::{Index, index_of};
 use crate::parts::{
     ClassPart, CoursePart, Parts, RoomPart, Rule, RulePlace, Span, StudentPart, Weights,
 };
+use crate::sums;
 use indexmap::IndexSet;
 use std::alloc::{AllocError, Global};
 use std::marker::Model;
@@ -218,6 +220,17 @@ impl Problem {
         ensures valid { IsValidStudent self.now result.now }
     {
         &self.parts.students.as_slice()[place as usize]
+    }
+
+    /// The most classes that the list of the student at a place may have.
+    #[tactic(auto, using(crate::proofs::SpanLemmas::few_subparts, crate::proofs::SumLemmas::item_in_map))]
+    pub fn most_seats(&self, student: u32) -> u32
+        requires { student < length self.now.students }
+        ensures most { result ≡ slice_index (map (most_seats self.now) self.now.students) student }
+        ensures few { result ≤ 800000 }
+    {
+        let seats = self.index.seats.as_slice();
+        sums::most_seats(&self.parts, seats, self.student(student))
     }
 
     /// The rules by which parts make a problem hold.

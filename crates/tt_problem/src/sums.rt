@@ -1,5 +1,5 @@
-//! Sums over the parts of a problem, for telling whether they are within its limits. Only the table of
-//! cells takes memory.
+//! Sums over the parts of a problem, for telling whether they are within its limits. Only the tables of
+//! cells and of seats take memory.
 
 ghost use Rattle.std.specs.Prelude.{◌≡◌, ◌≤◌, ◌<◌, All, IfOk, length, map};
 ghost use Rattle.tt_base.specs.Limits.{most_members};
@@ -118,9 +118,7 @@ pub fn links_of(parts: &Parts, cells: &[u16]) -> u64
 fn most_of_course(parts: &Parts, course: &CoursePart) -> u32
     requires within { IsSpanWithin (length parts.now.configs) course.now.configs }
     requires configs { Covers parts.now.configs (length parts.now.subparts) }
-    requires few_subparts { length parts.now.subparts ≤ 20000 }
-    ensures most { result ≡ most_of_course parts.now course.now }
-    ensures few { result ≤ 20000 }
+    ensures { result ≡ most_of_course parts.now course.now }
 {
     let Span { first, after } = course.configs;
     let mut most = 0;
@@ -130,23 +128,40 @@ fn most_of_course(parts: &Parts, course: &CoursePart) -> u32
     most
 }
 
-/// The same of the course at a place.
-#[tactic(auto, using(crate::proofs::SpanLemmas::course_within), unfolding(crate::specs::Seats::most_subparts))]
-fn most_subparts(parts: &Parts, place: u32) -> u32
-    requires place { place < length parts.now.courses }
+/// For each course the greatest number of subparts of a configuration.
+#[tactic(auto, using(crate::proofs::SpanLemmas::course_within))]
+pub fn seat_table(alloc: Global, parts: &Parts) -> Result<Row<u32>, AllocError>
     requires courses { Covers (course_spans parts.now) (length parts.now.configs) }
     requires configs { Covers parts.now.configs (length parts.now.subparts) }
+    ensures { IfOk result (λ seats. seats ≡ map (most_of_course parts.now) parts.now.courses) }
+{
+    let mut seats = Vec::with_capacity(alloc, parts.courses.len())?;
+    for course in parts.courses.as_slice() {
+        seats.push(most_of_course(parts, course))?;
+    }
+    Ok(Row::from_vec(seats))
+}
+
+/// The greatest number of subparts of a configuration of the course at a place. `seats` has that of
+/// each course.
+#[tactic(auto, using(crate::proofs::SumLemmas::seats_in_table, crate::proofs::SumLemmas::few_seats))]
+fn most_subparts(parts: &Parts, seats: &[u32], place: u32) -> u32
+    requires seats { seats.now ≡ map (most_of_course parts.now) parts.now.courses }
+    requires configs { Covers parts.now.configs (length parts.now.subparts) }
     requires few_subparts { length parts.now.subparts ≤ 20000 }
+    requires place { place < length parts.now.courses }
     ensures most { result ≡ most_subparts parts.now place }
     ensures few { result ≤ 20000 }
 {
-    most_of_course(parts, &parts.courses.as_slice()[place as usize])
+    let _ = parts;
+    seats[place as usize]
 }
 
-/// The most classes that the list of a student may have.
+/// The most classes that the list of a student may have. `seats` has for each course the greatest
+/// number of subparts of a configuration.
 #[tactic(auto, unfolding(crate::specs::Seats::most_seats))]
-pub fn most_seats(parts: &Parts, student: &StudentPart) -> u32
-    requires courses { Covers (course_spans parts.now) (length parts.now.configs) }
+pub fn most_seats(parts: &Parts, seats: &[u32], student: &StudentPart) -> u32
+    requires seats { seats.now ≡ map (most_of_course parts.now) parts.now.courses }
     requires configs { Covers parts.now.configs (length parts.now.subparts) }
     requires few_subparts { length parts.now.subparts ≤ 20000 }
     requires student { IsValidStudent parts.now student.now }
@@ -155,14 +170,15 @@ pub fn most_seats(parts: &Parts, student: &StudentPart) -> u32
 {
     let mut most = 0;
     for place in student.courses.as_slice() {
-        most += most_subparts(parts, *place);
+        most += most_subparts(parts, seats, *place);
     }
     most
 }
 
-/// The most classes that the lists of all students may have together.
-pub fn seats_of(parts: &Parts) -> u64
-    requires courses { Covers (course_spans parts.now) (length parts.now.configs) }
+/// The most classes that the lists of all students may have together. `seats` has for each course
+/// the greatest number of subparts of a configuration.
+pub fn seats_of(parts: &Parts, seats: &[u32]) -> u64
+    requires seats { seats.now ≡ map (most_of_course parts.now) parts.now.courses }
     requires configs { Covers parts.now.configs (length parts.now.subparts) }
     requires few_subparts { length parts.now.subparts ≤ 20000 }
     requires few { length parts.now.students ≤ 100000 }
@@ -171,7 +187,7 @@ pub fn seats_of(parts: &Parts) -> u64
 {
     let mut sum = 0;
     for student in parts.students.as_slice() {
-        sum += u64::from(most_seats(parts, student));
+        sum += u64::from(most_seats(parts, seats, student));
     }
     sum
 }
