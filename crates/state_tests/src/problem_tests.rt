@@ -143,13 +143,19 @@ fn has_members(problem: &Problem) -> bool {
 
 // Whether each student may have a class of each of two subparts.
 #[tactic(auto, using(tt_problem::proofs::SpanLemmas::few_subparts))]
-fn has_seats(problem: &Problem) -> bool {
+fn has_seats(alloc: Global, problem: &Problem) -> Result<bool, AllocError> {
     problem.validity();
     if problem.student_count() != 2 {
-        return false;
+        return Ok(false);
     }
     let parts = problem.parts();
-    sums::seats_of(parts) == 4 && sums::most_seats(parts, problem.student(1)) == 2
+    let table = sums::seat_table(alloc, parts)?;
+    let seats = table.as_slice();
+    let most = [
+        sums::most_seats(parts, seats, problem.student(1)),
+        problem.most_seats(1),
+    ];
+    Ok(seats == [2].as_slice() && sums::seats_of(parts, seats) == 4 && most == [2, 2])
 }
 
 #[test]
@@ -166,7 +172,7 @@ fn a_problem_has_the_parts_of_its_text_and_sums_over_them(rt: HostRuntime) -> Re
     assert!(rt; has_travel(&problem));
     assert!(rt; has_cells(rt.alloc(), &problem)?);
     assert!(rt; has_members(&problem));
-    assert!(rt; has_seats(&problem));
+    assert!(rt; has_seats(rt.alloc(), &problem)?);
     drop(problem);
     Ok(())
 }

@@ -5,20 +5,17 @@ use std::test::Fail;
 use test_help::{problem, value};
 use tt_plan::spot;
 use tt_problem::Problem;
-use tt_problem::sums::most_seats;
 use tt_roster::Roster;
 
 // Whether a student of a new roster gets a class and leaves it.
-#[tactic(auto, using(tt_problem::proofs::SpanLemmas::few_subparts))]
 fn seats_a_student(problem: &Problem, roster: &mut Roster) -> bool
     requires fits { IsRosterOf problem.now roster.old }
     requires seats { roster.old.seats ≡ replicate (length problem.now.students) [] }
 {
-    problem.validity();
     if problem.class_count() != 3 || problem.student_count() != 2 {
         return false;
     }
-    if most_seats(problem.parts(), problem.student(1)) != 2 {
+    if problem.most_seats(1) != 2 {
         return false;
     }
     roster.seat(problem, 1, 2);
@@ -49,16 +46,14 @@ fn places_a_class(problem: &Problem, roster: &mut Roster) -> bool
 }
 
 // Whether the joint row of a class has the student whom it has in common with another class.
-#[tactic(auto, using(tt_problem::proofs::SpanLemmas::few_subparts))]
 fn counts_a_common_student(problem: &Problem, roster: &mut Roster) -> bool
     requires fits { IsRosterOf problem.now roster.old }
     requires seats { roster.old.seats ≡ replicate (length problem.now.students) [] }
 {
-    problem.validity();
     if problem.class_count() != 3 || problem.student_count() != 2 {
         return false;
     }
-    if most_seats(problem.parts(), problem.student(0)) != 2 {
+    if problem.most_seats(0) != 2 {
         return false;
     }
     roster.seat(problem, 0, 0);

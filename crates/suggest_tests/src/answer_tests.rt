@@ -61,7 +61,7 @@ fn append_times(out: &mut Reply, first: u32) -> Result<(), AllocError>
 // Two classes that have to start together, with a thousand times each, of which none has a start of
 // the other's.
 fn wide_text(alloc: Global) -> Result<Reply, AllocError> {
-    let mut out = Reply::new(alloc);
+    let mut out = Reply::new(alloc)?;
     out.text(FRONT)?;
     append_times(&mut out, 0)?;
     out.text(MIDDLE)?;

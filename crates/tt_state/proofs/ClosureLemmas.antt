@@ -12,19 +12,15 @@ use Rattle.tt_bits.specs.declared.times.Time.{Time}
 use Rattle.tt_clash.specs.Closures.{made, marked, relifted, without_last}
 use Rattle.tt_problem.specs.declared.parts.Parts.{Parts}
 use Rattle.tt_problem.specs.Valid.{IsTimeOf}
-use Rattle.tt_score.specs.declared.score.Score.{Score}
-use Rattle.tt_score.specs.Fits.{plan_of, student_lists, closures_of}
-use Rattle.std.specs.FinMap.{FinMap}
-use Rattle.tt_cbs.specs.KeyOrder.{key_cmp}
 use Rattle.tt_journal.specs.declared.Entry.{Entry}
 use Rattle.tt_journal.specs.declared.Entry.TheVariants.{Closed, Lifted}
 use Rattle.tt_state.specs.Snapshots.{Snapshot, is_open_in, lifted_in, with_closures, with_closed, with_reopened}
 use Rattle.tt_state.specs.Sound.{IsClosureOf}
 use Rattle.tt_state.specs.History.{lifted_by}
-use Rattle.tt_state.specs.Kept.{LeadBack, snapshot_of}
+use Rattle.tt_state.specs.Kept.{LeadBack}
 use Rattle.tt_state.specs.Past.{LeadsTo, StandsOn}
 use Rattle.tt_state.proofs.PastLemmas.{past_by}
-use Rattle.tt_state.proofs.StateLemmas.{same_snapshot, then}
+use Rattle.tt_state.proofs.StateLemmas.{then}
 use Rattle.tt_state.proofs.ForceLemmas.{same}
 
 -- the last that was added is taken off
@@ -173,21 +169,6 @@ lifted_rest p s es room front (c ∷ cs) on =
 -- all closures of a room were lifted
 pub reopened : (p : Parts) (s : Snapshot) (es : List Entry) (room : ℕ) → StandsOn p s es → LeadsTo p s es (with_reopened s room) (lifted_by room 0 s.closures es)
 reopened p s es room on = lifted_rest p s es room [] s.closures on
-
--- a room was closed, or reopened, by entries on those of a step
-pub closed_leads : (p : Parts) (before after : Score) (counts : FinMap key_cmp ℕ) (es fs : List Entry) (room : ℕ) (t : Time) → StandsOn p (snapshot_of before counts) es → room < length p.rooms → IsTimeOf p.nr_days p.nr_weeks t
-    → length (closures_of before) < 10000 → plan_of after ≡ plan_of before → student_lists after ≡ student_lists before → closures_of after ≡ closures_of before ++ made room t ∷ [] → fs ≡ Closed ∷ es
-    → LeadsTo p (snapshot_of before counts) es (snapshot_of after counts) fs
-closed_leads p before after counts es fs room t on within time few plan lists closures is =
-    let s = snapshot_of before counts in
-    rw (same_snapshot (snapshot_of after counts) (with_closed s room t) plan lists refl closures, is) (closed_one p s es room t on within time few)
-
-pub reopened_leads : (p : Parts) (before after : Score) (counts : FinMap key_cmp ℕ) (es fs : List Entry) (room : ℕ) → StandsOn p (snapshot_of before counts) es
-    → plan_of after ≡ plan_of before → student_lists after ≡ student_lists before → closures_of after ≡ map (lifted_in room) (closures_of before) → fs ≡ lifted_by room 0 (closures_of before) es
-    → LeadsTo p (snapshot_of before counts) es (snapshot_of after counts) fs
-reopened_leads p before after counts es fs room on plan lists closures is =
-    let s = snapshot_of before counts in
-    rw (same_snapshot (snapshot_of after counts) (with_reopened s room) plan lists refl closures, is) (reopened p s es room on)
 
 -- ---- the loops
 

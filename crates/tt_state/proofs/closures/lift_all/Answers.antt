@@ -8,8 +8,8 @@ use Rattle.tt_state.proofs.ClosureLemmas.{counted_next, entries_next, next_lifte
 use Rattle.tt_state.proofs.closures.lift_all.Goals.{then-is_open_in, else-is_open_in}
 use Rattle.tt_state.proofs.closures.lift_all.Goals as goal
 
-pub push-requires : goal.push-requires
-push-requires c =
+pub note-requires-clause-spare : goal.note-requires-clause-spare
+note-requires-clause-spare c =
     let cs = closures_of c.args.score.now in
     let i = c.loop-at.at in
     let lt : i < length cs = omega (arith, c.len-at-end.ensures.count, ap (λ (l : List Closure). length l) c.closures.ensures) in
@@ -24,7 +24,7 @@ loop-at-preserved c =
     let room = c.args.room in
     let i = c.loop-at.at in
     let closure = c.at.result in
-    let es = c.loop-at.journal.list in
+    let es = c.loop-at.past.list in
     let now = closures_of c.loop-at.score in
     let lifted = c.loop-at.invariant.lifted in
     let lt : i < length cs = omega (arith, c.len-at-end.ensures.count, ap (λ (l : List Closure). length l) c.closures.ensures) in
@@ -34,20 +34,20 @@ loop-at-preserved c =
       | then-is_open_in w ↦
           let open_one = sym c.is_open_in.ensures ∙ w.if-is_open_in.true in
           let one = ap {B = ℕ} (λ (b : Bool). cond b 1 0) open_one in
-          let noted = w.push.ensures.list ∙ sym (ap {B = List Entry} (λ (b : Bool). cond b (Lifted i ∷ es) es) open_one) in
-          rw (w.score-is, w.journal-is) (record {
+          let noted = w.note.ensures.list ∙ sym (ap {B = List Entry} (λ (b : Bool). cond b (Lifted i ∷ es) es) open_one) in
+          rw (w.score-is, w.past-is) (record {
             fits = w.lift.ensures.fits;
             planned = w.lift.ensures.plan ∙ c.loop-at.invariant.planned;
             lists = w.lift.ensures.lists ∙ c.loop-at.invariant.lists;
             lifted = w.lift.ensures.closures ∙ next_lifted room cs now i lifted closure next open_one;
-            spare = omega (arith, more, one, c.loop-at.invariant.spare, w.push.ensures.spare);
-            entries = entries_next room i cs closure es w.push.new.self.list next.left noted ∙ c.loop-at.invariant.entries;
+            spare = omega (arith, more, one, c.loop-at.invariant.spare, w.note.ensures.spare);
+            entries = entries_next room i cs closure es w.note.new.self.list next.left noted ∙ c.loop-at.invariant.entries;
           })
       | else-is_open_in w ↦
           let none = sym c.is_open_in.ensures ∙ w.if-is_open_in.false in
           let zero_is = ap {B = ℕ} (λ (b : Bool). cond b 1 0) none in
           let noted = sym (ap {B = List Entry} (λ (b : Bool). cond b (Lifted i ∷ es) es) none) in
-          rw (w.score-is, w.journal-is) (record {
+          rw (w.score-is, w.past-is) (record {
             fits = c.loop-at.invariant.fits;
             planned = c.loop-at.invariant.planned;
             lists = c.loop-at.invariant.lists;

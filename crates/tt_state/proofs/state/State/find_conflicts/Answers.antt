@@ -1,4 +1,4 @@
-use Rattle.std.proofs.Common.{◌∙◌}
+use Rattle.std.proofs.Common.{◌∙◌, refl}
 use Rattle.tt_state.specs.Kept.{snapshot_of}
 use Rattle.tt_state.specs.Values.{conflicts_of}
 use Rattle.tt_state.proofs.ForceLemmas.{found_within}
@@ -10,10 +10,10 @@ invariant_of-self c =
     let s = c.self.inside in
     let of = c.self.invariant in
     let e = c.conflicts.ensures in
-    (asked_state s.problem s.score c.conflicts.new.self s.statistics s.points s.journal.list of.0 e.fits e.plan e.lists e.closures, e.classes ∙ of.1)
+    (asked_state s.problem s.present _ s.past.list of.0 e.fits e.plan e.lists refl e.closures, e.classes ∙ of.1)
 
 pub returns-clause-within : goal.returns-clause-within
 unfolding conflicts_of
 returns-clause-within c =
     let s = c.self.inside in
-    found_within s.problem (snapshot_of s.score s.statistics) c.args.class c.args.value c.conflicts.new.listing.list c.self.invariant.0.sound.plan.whole c.conflicts.ensures.set
+    found_within s.problem (snapshot_of s.present) c.args.class c.args.value c.conflicts.new.listing.list c.self.invariant.0.sound.plan.whole c.conflicts.ensures.set

@@ -1,5 +1,4 @@
-use Rattle.std.proofs.Common.{◌≡◌, ◌∙◌, ◌<◌, inl, inr, arith}
-use Rattle.std.specs.Prelude.{ℕ}
+use Rattle.std.proofs.Common.{◌∙◌, inl, inr, refl, arith}
 use Rattle.std.proofs.lemmas.Bool.{cases_Bool}
 use Rattle.tt_state.specs.Kept.{snapshot_of}
 use Rattle.tt_state.specs.Values.{conflicts_of}
@@ -12,7 +11,7 @@ invariant_of-self c =
     let s = c.self.inside in
     let of = c.self.invariant in
     let e = c.conflicts_within.ensures in
-    (asked_state s.problem s.score c.conflicts_within.new.self s.statistics s.points s.journal.list of.0 e.fits e.plan e.lists e.closures, e.classes ∙ of.1)
+    (asked_state s.problem s.present _ s.past.list of.0 e.fits e.plan e.lists refl e.closures, e.classes ∙ of.1)
 
 pub returns-clause-within : goal.returns-clause-within
 unfolding conflicts_of
@@ -20,6 +19,6 @@ returns-clause-within c =
     let s = c.self.inside in
     let e = c.conflicts_within.ensures in
     elim (cases_Bool c.conflicts_within.result) [
-      | inl found ↦ found_within s.problem (snapshot_of s.score s.statistics) c.args.class c.args.value c.conflicts_within.new.listing.list c.self.invariant.0.sound.plan.whole (e.set found)
+      | inl found ↦ found_within s.problem (snapshot_of s.present) c.args.class c.args.value c.conflicts_within.new.listing.list c.self.invariant.0.sound.plan.whole (e.set found)
       | inr many ↦ let none = e.many many in rw none (λ k d lt. absurd (omega (arith, lt)))
     ]
