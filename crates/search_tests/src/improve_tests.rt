@@ -35,6 +35,18 @@ const PARENT: &str = r#"{"nrDays":1,"nrWeeks":1,"slotsPerDay":288,
             {"id":3,"room":false,"parent":1,"times":[{"days":"1","start":10,"length":4,"weeks":"1","penalty":0}]}]}]}]}],
     "students":[{"id":1,"courses":[1,2]}]}"#;
 
+/// Two classes of one room with two times each. The second time of the first is the first of the second.
+const ONE_ROOM: &str = r#"{"nrDays":1,"nrWeeks":1,"slotsPerDay":288,
+    "optimization":{"time":1,"room":1,"distribution":1,"student":1},
+    "rooms":[{"id":1}],
+    "courses":[{"id":1,"configs":[{"subparts":[{"classes":[
+        {"id":1,"rooms":[{"id":1,"penalty":0}],"times":[
+            {"days":"1","start":10,"length":4,"weeks":"1","penalty":5},
+            {"days":"1","start":20,"length":4,"weeks":"1","penalty":1}]},
+        {"id":2,"rooms":[{"id":1,"penalty":0}],"times":[
+            {"days":"1","start":20,"length":4,"weeks":"1","penalty":2},
+            {"days":"1","start":30,"length":4,"weeks":"1","penalty":0}]}]}]}]}]}"#;
+
 // The total, the student conflicts and the number of unplaced classes.
 fn totals(state: &State) -> (u128, u64, u32) {
     let totals = state.totals();
@@ -76,6 +88,22 @@ fn a_class_gets_the_least_value(rt: HostRuntime) -> Result<(), Fail> {
     assert!(rt; state.undo());
     assert!(rt; totals(&state) == (5, 0, 0));
     drop(state);
+    Ok(())
+}
+
+// The first class can't move before the second has. So where it is drawn first, it is looked at again
+// after the second has moved.
+#[test]
+fn after_a_change_each_object_is_looked_at_again(rt: HostRuntime) -> Result<(), Fail> {
+    for seed in 0..12 {
+        let mut state = state_of(rt.alloc(), ONE_ROOM.as_bytes())?;
+        assert!(rt; assigns(&mut state, 0, 1, Some(1)));
+        assert!(rt; assigns(&mut state, 1, 1, Some(1)));
+        assert!(rt; totals(&state) == (7, 0, 0));
+        assert!(rt; changes(rt.alloc(), &mut state, 40, seed, 2), "seed {seed}");
+        assert!(rt; totals(&state) == (1, 0, 0), "seed {seed}");
+        drop(state);
+    }
     Ok(())
 }
 

@@ -1,10 +1,14 @@
 -- One round after another.
-use Rattle.std.proofs.Common.{◌≡◌, ℕ, zero, suc, ◌+◌, ◌-◌, ◌<◌, ◌≤◌, Bool, true, false, cond, List, Option, Some, None, refl, sym, ap, ◌∙◌, arith}
+use Rattle.std.proofs.Common.{◌≡◌, ℕ, zero, suc, ◌+◌, ◌-◌, ◌<◌, ◌≤◌, Bool, true, false, cond, List, Option, Some, None, length, refl, sym, ap, ◌∙◌, arith, inl, inr}
+use Rattle.std.specs.Prelude.{slice_get}
+use Rattle.std.specs.Option.{option_and_then}
+use Rattle.std.proofs.lemmas.Option.{slice_get_cases}
 use Rattle.rand_core.specs.Stream.{Stream, next_u32}
 use Rattle.tt_problem.specs.declared.parts.Parts.{Parts}
 use Rattle.tt_state.specs.Snapshots.{Snapshot}
-use Rattle.tt_draw.specs.Words.{drawn}
+use Rattle.tt_draw.specs.Words.{drawn, drawn_place}
 use Rattle.tt_improve.specs.declared.objects.Object.{Object}
+use Rattle.tt_improve.specs.Idle.{moved_at}
 use Rattle.tt_improve.specs.Objects.{objects_of}
 use Rattle.tt_improve.specs.Rounds.{Improvement, after_rounds, go_on, moved_by, one_more}
 use Rattle.tt_improve.specs.Standing.{IsNoWorse}
@@ -46,19 +50,31 @@ counts s t made changed false same =
     none : changed ≡ changed + 0
     none = omega arith
 
-pub round_made : (p : Parts) (rounds made changed word : ℕ) (words left : Stream) (objects : List Object) (object : Object) (s t : Snapshot) (moved : Bool) → made < rounds → (word, left) ≡ next_u32 words
-    → objects_of p s ≡ objects → Some object ≡ drawn word objects → moved_by p s object ≡ cond moved (Some t) None → (moved ≡ false → t ≡ s)
+-- a round on the object at a place
+round_on : (p : Parts) (rounds made changed word : ℕ) (words left : Stream) (object : Object) (s t : Snapshot) (moved : Bool) → made < rounds → (word, left) ≡ next_u32 words
+    → drawn word (objects_of p s) ≡ Some object → moved_by p s object ≡ cond moved (Some t) None → (moved ≡ false → t ≡ s)
     → after_rounds p (rounds - made) words (so_far s made changed) ≡ after_rounds p (rounds - (made + 1)) left (so_far t (made + 1) (changed + cond moved 1 0))
-round_made p rounds made changed word words left objects object s t moved below drawn_word same is moves still =
+round_on p rounds made changed word words left object s t moved below drawn_word draws moves still =
     let more : rounds - made ≡ suc (rounds - (made + 1)) = omega arith in
     let the_word : word ≡ (next_u32 words).0 = ap (λ d. d.0) drawn_word in
     let the_rest : left ≡ (next_u32 words).1 = ap (λ d. d.1) drawn_word in
-    let draws : drawn (next_u32 words).0 (objects_of p s) ≡ Some object = ap (λ (w : ℕ). drawn w (objects_of p s)) (sym the_word) ∙ ap (drawn word) same ∙ sym is in
     ap (λ (n : ℕ). after_rounds p n words (so_far s made changed)) more
-    ∙ after_one p (rounds - (made + 1)) words (so_far s made changed) object draws
+    ∙ after_one p (rounds - (made + 1)) words (so_far s made changed) object (ap (λ (w : ℕ). drawn w (objects_of p s)) (sym the_word) ∙ draws)
     ∙ ap (λ (w : Stream). after_rounds p (rounds - (made + 1)) w (one_more (so_far s made changed) (moved_by p s object))) (sym the_rest)
     ∙ ap (λ (o : Option Snapshot). after_rounds p (rounds - (made + 1)) left (one_more (so_far s made changed) o)) moves
     ∙ ap (after_rounds p (rounds - (made + 1)) left) (counts s t made changed moved still)
+
+pub round_made : (p : Parts) (rounds made changed word place : ℕ) (words left : Stream) (objects : List Object) (s t : Snapshot) (moved : Bool) → made < rounds → (word, left) ≡ next_u32 words → objects ≡ objects_of p s
+    → place ≡ drawn_place word (length objects) → place < length objects → moved_at p s objects place ≡ cond moved (Some t) None → (moved ≡ false → t ≡ s)
+    → after_rounds p (rounds - made) words (so_far s made changed) ≡ after_rounds p (rounds - (made + 1)) left (so_far t (made + 1) (changed + cond moved 1 0))
+round_made p rounds made changed word place words left objects s t moved below drawn_word same at within moves still =
+    elim (slice_get_cases objects place).1 [
+      | inl there ↦
+          round_on p rounds made changed word words left there.0 s t moved below drawn_word
+          (ap (drawn word) (sym same) ∙ ap (slice_get objects) (sym at) ∙ there.2)
+          (sym (ap (option_and_then (moved_by p s)) there.2) ∙ moves) still
+      | inr past ↦ absurd (omega (arith, past.0, within))
+    ]
 
 -- no object
 pub rounds_stop : (p : Parts) (n word : ℕ) (words left : Stream) (objects : List Object) (m : Improvement) → (word, left) ≡ next_u32 words → objects_of p m.snapshot ≡ objects → None ≡ drawn word objects → after_rounds p n words m ≡ m

@@ -1,21 +1,21 @@
-ghost use Rattle.std.specs.Prelude.{◌≡◌, ◌<◌, ◌≤◌, ◌^◌, ◌∷◌, [], None, Some, IfOk, OnOk, OnErr, cond, false, length};
+ghost use Rattle.std.specs.Prelude.{◌≡◌, ◌+◌, ◌<◌, ◌≤◌, ◌^◌, ◌∷◌, [], None, Some, IfOk, OnOk, OnErr, cond, false, length};
 ghost use Rattle.tt_state.specs.History.{IsWithinStep, desk_of, earlier, stepped, with_taken};
 ghost use Rattle.tt_choice.specs.Ready.{HasRoom};
-ghost use Rattle.tt_draw.specs.Words.{drawn};
 ghost use Rattle.tt_improve.specs.Classes.{totals_in};
+ghost use Rattle.tt_improve.specs.Idle.{KnowsIdle, moved_at};
 ghost use Rattle.tt_improve.specs.Objects.{objects_of};
 ghost use Rattle.tt_improve.specs.Rounds.{improved, moved_by};
 ghost use Rattle.tt_improve.specs.Standing.{IsNoWorse, IsObjectOf};
 ghost use Rattle.tt_improve.specs.UnderWay.{so_far};
 
+use crate::candidates::Candidates;
 use crate::classes::move_class;
 use crate::courses::move_student;
-use crate::objects::{Object, objects};
+use crate::objects::Object;
 use rand_core::Rng;
 use rand_pcg::Lcg64Xsh32;
 use std::alloc::{AllocError, Global};
 use tt_choice::ChoiceBuffers;
-use tt_draw::draw;
 use tt_io::{Progress, Watcher};
 use tt_state::State;
 
@@ -24,17 +24,6 @@ use tt_state::State;
 pub struct Improved {
     pub rounds: u32,
     pub changed: u32,
-}
-
-/// The object that a random word draws, none where there is no object.
-fn drawn_object(objects: &[Object], word: u32) -> Option<Object>
-    requires { length objects.now ≤ 2 ^ 32 }
-    ensures { result ≡ drawn word objects.now }
-{
-    match objects.get(draw(word, objects.len() as u64) as usize) {
-        None => None,
-        Some(object) => Some(*object),
-    }
 }
 
 /// A round on an object, in the last step. Whether it changes something.
@@ -60,19 +49,51 @@ fn make_round(
     }
 }
 
+/// A round in a stage on the object at a place, in the last step. One that is known to change nothing
+/// is left out. Whether it changes something.
+fn make_round_at(
+    alloc: Global,
+    state: &mut State,
+    candidates: &mut Candidates,
+    place: usize,
+    stage: u32,
+    buffers: &mut ChoiceBuffers,
+) -> Result<bool, AllocError>
+    requires objects { candidates.old.objects.items ≡ objects_of state.old.problem state.old.present }
+    requires place { place < length candidates.old.objects.items }
+    requires idle { KnowsIdle state.old.problem state.old.present candidates.old stage }
+    requires step { 0 < length (earlier state.old) }
+    requires room { HasRoom state.old.problem buffers.old }
+    ensures room { HasRoom state.old.problem buffers.new }
+    ensures step { IsWithinStep (with_taken state.old []) (with_taken state.new []) }
+    ensures objects { candidates.new.objects ≡ candidates.old.objects }
+    ensures moved { IfOk result (λ moved. moved_at state.old.problem state.old.present candidates.old.objects.items place ≡ cond moved (Some state.new.present) None) }
+    ensures same { IfOk result (λ moved. moved ≡ false → state.new.present ≡ state.old.present) }
+    ensures idle { IfOk result (λ moved. KnowsIdle state.old.problem state.new.present candidates.new (stage + cond moved 1 0)) }
+    ensures no_worse { OnOk result (IsNoWorse state.old.problem state.old.present state.new.present) }
+{
+    if candidates.is_of_stage(place, stage) {
+        return Ok(false);
+    }
+    let moved = make_round(alloc, state, candidates.object(place), buffers)?;
+    candidates.note(place, stage);
+    Ok(moved)
+}
+
 /// Makes rounds in the last step, until so many are made or there is no object. The watcher is told of
 /// each.
 fn descend<W: Watcher>(
     alloc: Global,
     state: &mut State,
-    objects: &[Object],
+    candidates: &mut Candidates,
     buffers: &mut ChoiceBuffers,
     rounds: u32,
     seed: u64,
     watcher: &mut W,
 ) -> Result<Improved, AllocError>
-    requires objects { objects.now ≡ objects_of state.old.problem state.old.present }
-    requires few { length objects.now ≤ 2 ^ 32 }
+    requires objects { candidates.old.objects.items ≡ objects_of state.old.problem state.old.present }
+    requires few { length candidates.old.objects.items ≤ 2 ^ 32 }
+    requires idle { KnowsIdle state.old.problem state.old.present candidates.old 1 }
     requires room { HasRoom state.old.problem buffers.old }
     requires step { 0 < length (earlier state.old) }
     ensures step { IsWithinStep (with_taken state.old []) (with_taken state.new []) }
@@ -82,13 +103,14 @@ fn descend<W: Watcher>(
     let mut words = Lcg64Xsh32::new(seed, 1);
     let mut changed = 0;
     for made in 0..rounds {
-        let Some(object) = drawn_object(objects, words.next_u32()) else {
+        let Some(place) = candidates.draw(words.next_u32()) else {
             return Ok(Improved {
                 rounds: made,
                 changed,
             });
         };
-        changed += u32::from(make_round(alloc, state, object, buffers)?);
+        let moved = make_round_at(alloc, state, candidates, place, changed + 1, buffers)?;
+        changed += u32::from(moved);
         watcher.tell(Progress::Rounds {
             made: made + 1,
             of: rounds,
@@ -112,13 +134,13 @@ fn improve_in_step<W: Watcher>(
     ensures present { OnErr result (state.new.present ≡ state.old.present) }
     ensures entries { OnErr result (state.new.entries ≡ state.old.entries) }
 {
-    let objects = objects(alloc, state)?;
+    let mut candidates = Candidates::new(alloc, state)?;
     let mut buffers = ChoiceBuffers::new(alloc, state.problem())?;
     state.begin()?;
     match descend(
         alloc,
         state,
-        objects.as_slice(),
+        &mut candidates,
         &mut buffers,
         rounds,
         seed,
