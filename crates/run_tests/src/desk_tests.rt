@@ -5,9 +5,9 @@ use tt_text::Reply;
 
 #[test]
 fn a_long_line_is_refused(rt: HostRuntime) -> Result<(), Fail> {
-    let mut reply = Reply::new(rt.alloc());
+    let mut reply = Reply::new(rt.alloc())?;
     reply.text("left from the line before\n")?;
-    let outcome = refuse_long_line(&mut reply)?;
+    let outcome = refuse_long_line(&mut reply);
     assert!(rt; outcome == Outcome::Refused(Refusal::BadLine));
     assert_eq!(rt; reply.bytes(), b"refused 10 bad line\n".as_slice());
     Ok(())

@@ -24,8 +24,7 @@ use Rattle.std.specs.Prelude.{◌&&◌}
 use Rattle.tt_solution.specs.Timetable.{Timetable}
 use Rattle.tt_desk.specs.Desk.{Session, Answer, carried_out, known_classes, step_from, with_published, not_ready}
 use Rattle.tt_base.specs.Chain.{◌>>=◌}
-use Rattle.std.specs.Prelude.{OnErr, OnOk, IsOk}
-use Rattle.std.specs.Result.{is_err}
+use Rattle.std.specs.Prelude.{OnErr, IsOk}
 
 -- places that were found before those of some ids
 abbrev pub known_after : Parts → List ℕ → List ℕ → Result (List ℕ) Refusal
@@ -113,11 +112,6 @@ none_unplaced t is = eqb-true _ _ (first_of _ _ (first_of _ _ is))
 pub on_err : {T E P : Type 0} (r : Result T E) → P → OnErr r P
 on_err (Ok x) p = tt
 on_err (Err e) p = p
-
--- what holds where the answer is no error
-pub ok_fact : {T E P : Type 0} (r : Result T E) → is_err r ≡ false → OnOk r P → P
-ok_fact (Ok x) is p = p
-ok_fact (Err e) is p = absurd (cc is)
 
 -- a session is its desk and what is published
 pub by_parts : (a b : Session) → a.desk ≡ b.desk → a.published ≡ b.published → a ≡ b

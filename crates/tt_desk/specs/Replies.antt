@@ -1,12 +1,12 @@
 -- Theorem. The replies to the lines of a script.
-use Rattle.std.specs.Prelude.{ℕ, ⊤, Bool, true, false, List, [], ◌∷◌, ◌++◌, map, if◌then◌else◌, Option, option_map, codes}
+use Rattle.std.specs.Prelude.{ℕ, Bool, true, false, List, [], ◌∷◌, ◌++◌, map, if◌then◌else◌, Option, option_map, codes}
 use Rattle.std.specs.List.{list_any}
 use Rattle.tt_score.specs.declared.totals.Totals.{Totals}
 use Rattle.tt_score.specs.Totals.{totals_of}
 use Rattle.tt_solution.specs.Published.{moved_of}
 use Rattle.tt_text.specs.Fields.{field}
 use Rattle.tt_desk.specs.declared.refusal.Outcome.{Outcome}
-use Rattle.tt_desk.specs.declared.refusal.Outcome.TheVariants.{Skipped, Accepted, Refused, Ended}
+use Rattle.tt_desk.specs.declared.refusal.Outcome.TheVariants.{Accepted, Refused, Ended}
 use Rattle.tt_desk.specs.Refusals.{refusal_line}
 use Rattle.tt_desk.specs.Desk.{Session, Step, line_step, moved_text}
 
@@ -44,13 +44,6 @@ abbrev pub reply_to : Session → List ℕ → Outcome → List ℕ
 reply_to s lines Accepted = lines ++ totals_line (present_totals s) (present_moved s)
 reply_to s lines (Refused r) = refusal_line r
 reply_to s lines _ = []
-
--- something is written for the line
-abbrev pub HasReply : Outcome → Type 0
-HasReply Skipped = ⊥
-HasReply Accepted = ⊤
-HasReply (Refused r) = ⊤
-HasReply Ended = ⊥
 
 -- the reply to a line
 abbrev pub reply_of : Step → List ℕ

@@ -196,7 +196,7 @@ impl Session {
     ) -> Result<Outcome, Wanting>
         requires { reply.old ≡ [] }
         ensures ok { IfOk result (λ outcome. command_step self.old (Command.Force class time room) ≡ record { session = self.new; outcome = outcome; lines = reply.new }) }
-        ensures memory { result ≡ Err Wanting.Command → MayTake self.old (Command.Force class time room) }
+        ensures memory { OnErr result (MayTake self.old (Command.Force class time room)) }
         ensures kept { result ≡ Err Wanting.Command → self.new ≡ self.old }
         ensures done { result ≡ Err Wanting.Reply → (command_step self.old (Command.Force class time room)).session ≡ self.new }
         ensures accepted { result ≡ Err Wanting.Reply → (command_step self.old (Command.Force class time room)).outcome ≡ Outcome.Accepted }

@@ -2,14 +2,14 @@ ghost use Rattle.std.specs.Prelude.{◌≡◌, ◌<◌, [], Err, IfOk, OnErr, On
 ghost use Rattle.tt_script.specs.Forms.{HasDepth};
 ghost use Rattle.tt_desk.specs.Desk.{command_step, line_step};
 ghost use Rattle.tt_desk.specs.Refusals.{refusal_line};
-ghost use Rattle.tt_desk.specs.Replies.{HasReply, reply_of};
+ghost use Rattle.tt_desk.specs.Replies.{reply_of};
 ghost use Rattle.tt_desk.specs.Causes.{IsMemoryCause, MayTake};
 
 use crate::refusal::{Outcome, Refusal};
 use crate::reply::put_refusal;
 use crate::session::Session;
 use crate::wanting::Wanting;
-use std::alloc::{AllocError, Global};
+use std::alloc::Global;
 use tt_io::Watcher;
 use tt_script::{Command, Line, read_line};
 use tt_text::Reply;
@@ -26,10 +26,10 @@ impl Session {
         requires empty { reply.old ≡ [] }
         requires depth { HasDepth command }
         ensures ok { IfOk result (λ outcome. command_step self.old command ≡ record { session = self.new; outcome = outcome; lines = reply.new }) }
-        ensures memory { result ≡ Err Wanting.Command → MayTake self.old command }
+        ensures memory { OnErr result (MayTake self.old command) }
         ensures kept { result ≡ Err Wanting.Command → self.new ≡ self.old }
         ensures done { result ≡ Err Wanting.Reply → (command_step self.old command).session ≡ self.new }
-        ensures words { result ≡ Err Wanting.Reply → HasReply (command_step self.old command).outcome }
+        ensures accepted { result ≡ Err Wanting.Reply → (command_step self.old command).outcome ≡ Outcome.Accepted }
     {
         match command {
             Command::Assign { class, time, room } => Ok(self.assign(class, time, room)?),
@@ -38,10 +38,12 @@ impl Session {
             Command::Section { student, classes } => Ok(self.section(student, classes)?),
             Command::Drop { student } => Ok(self.drop_student(student)?),
             Command::Enrol { student } => Ok(self.enrol(alloc, student)?),
-            Command::EnrolAll => self.enrol_all(alloc, reply, watcher),
-            Command::Search { turns, seed } => self.search(alloc, turns, seed, reply, watcher),
-            Command::Repair { turns, seed } => self.repair(alloc, turns, seed, reply, watcher),
-            Command::Improve { rounds, seed } => self.improve(alloc, rounds, seed, reply, watcher),
+            Command::EnrolAll => Ok(self.enrol_all(alloc, reply, watcher)?),
+            Command::Search { turns, seed } => Ok(self.search(alloc, turns, seed, reply, watcher)?),
+            Command::Repair { turns, seed } => Ok(self.repair(alloc, turns, seed, reply, watcher)?),
+            Command::Improve { rounds, seed } => {
+                Ok(self.improve(alloc, rounds, seed, reply, watcher)?)
+            }
             Command::Recall => Ok(self.recall()?),
             Command::Close {
                 room,
@@ -73,10 +75,10 @@ impl Session {
         watcher: &mut W,
     ) -> Result<Outcome, Wanting>
         ensures ok { IfOk result (λ outcome. line_step self.old line.now ≡ record { session = self.new; outcome = outcome; lines = reply.new }) }
-        ensures memory { result ≡ Err Wanting.Command → IsMemoryCause self.old line.now }
+        ensures memory { OnErr result (IsMemoryCause self.old line.now) }
         ensures kept { result ≡ Err Wanting.Command → self.new ≡ self.old }
         ensures done { result ≡ Err Wanting.Reply → (line_step self.old line.now).session ≡ self.new }
-        ensures words { result ≡ Err Wanting.Reply → HasReply (line_step self.old line.now).outcome }
+        ensures accepted { result ≡ Err Wanting.Reply → (line_step self.old line.now).outcome ≡ Outcome.Accepted }
     {
         reply.clear();
         match read_line(alloc, line)? {
@@ -91,9 +93,9 @@ impl Session {
     }
 
     /// Answers a line: does what it asks for, or says why it is refused, and makes the reply,
-    /// whatever that held. Where memory is wanting, the line was carried out whole or not at all, and
-    /// nothing is said of the reply. The watcher is told how far a long command has come, and when it is
-    /// over.
+    /// whatever that held. Memory is wanting only where the line's command takes some; then the line was
+    /// carried out whole or not at all, and nothing is said of the reply. The watcher is told how far a
+    /// long command has come, and when it is over.
     #[tactic(auto, using(crate::proofs::ReplyLemmas::cause_replies))]
     pub fn answer<W: Watcher>(
         &mut self,
@@ -105,9 +107,9 @@ impl Session {
         ensures session { OnOk result ((line_step self.old line.now).session ≡ self.new) }
         ensures outcome { IfOk result (λ outcome. (line_step self.old line.now).outcome ≡ outcome) }
         ensures reply { OnOk result (reply_of (line_step self.old line.now) ≡ reply.new) }
-        ensures command { result ≡ Err Wanting.Command → IsMemoryCause self.old line.now }
+        ensures memory { OnErr result (IsMemoryCause self.old line.now) }
         ensures kept { result ≡ Err Wanting.Command → self.new ≡ self.old }
-        ensures words { result ≡ Err Wanting.Reply → HasReply (line_step self.old line.now).outcome }
+        ensures accepted { result ≡ Err Wanting.Reply → (line_step self.old line.now).outcome ≡ Outcome.Accepted }
         ensures done { result ≡ Err Wanting.Reply → (line_step self.old line.now).session ≡ self.new }
         ensures replies { OnErr result (0 < length (reply_of (line_step self.old line.now))) }
     {
@@ -120,13 +122,12 @@ impl Session {
 }
 
 /// Answers a line of more than 65,536 bytes, whatever it holds and whatever the reply held: it is
-/// refused.
-pub fn refuse_long_line(reply: &mut Reply) -> Result<Outcome, AllocError>
-    ensures outcome { IfOk result (λ outcome. outcome ≡ Outcome.Refused Refusal.BadLine) }
-    ensures reply { OnOk result (reply.new ≡ refusal_line Refusal.BadLine) }
-    ensures replies { OnErr result (0 < length (refusal_line Refusal.BadLine)) }
+/// refused. This takes no memory.
+pub fn refuse_long_line(reply: &mut Reply) -> Outcome
+    ensures outcome { result ≡ Outcome.Refused Refusal.BadLine }
+    ensures reply { reply.new ≡ refusal_line Refusal.BadLine }
 {
     reply.clear();
-    put_refusal(reply, Refusal::BadLine)?;
-    Ok(Outcome::Refused(Refusal::BadLine))
+    put_refusal(reply, Refusal::BadLine);
+    Outcome::Refused(Refusal::BadLine)
 }

@@ -1,10 +1,12 @@
-ghost use Rattle.std.specs.Prelude.{◌≡◌, ◌<◌, ◌++◌, [], OnOk, OnErr, codes, decimal, length};
+ghost use Rattle.std.specs.Prelude.{◌≡◌, ◌<◌, ◌≤◌, ◌+◌, ◌++◌, [], OnOk, OnErr, codes, decimal, length};
 ghost use Rattle.std.specs.List.{flat_map};
 ghost use Rattle.std.specs.Option.{option_copied, option_map_or};
 ghost use Rattle.tt_text.specs.Fields.{field};
+ghost use Rattle.tt_text.specs.Reply.{kept_bytes, most_digits};
 ghost use Rattle.tt_desk.specs.Desk.{best_lines, moved_text, moved_then, result_line, set_line, suggested_lines, taken_line, taken_lines};
 ghost use Rattle.tt_desk.specs.Refusals.{refusal_text, refusal_line};
-ghost use Rattle.tt_desk.specs.Replies.{HasReply, counts_text, reply_to, sums_text, totals_line};
+ghost use Rattle.tt_desk.specs.Lengths.{most_counts_bytes, most_moved_bytes, most_refusal_bytes, most_sums_bytes, most_totals_bytes};
+ghost use Rattle.tt_desk.specs.Replies.{counts_text, reply_to, sums_text, totals_line};
 
 use crate::refusal::{Outcome, Refusal};
 use crate::session::Session;
@@ -20,7 +22,9 @@ use tt_text::Reply;
 
 // Appends a number, or a dash where there is none.
 fn add_number_or_dash(reply: &mut Reply, moved: Option<u32>) -> Result<(), AllocError>
-    ensures { OnOk result (reply.new ≡ reply.old ++ option_map_or decimal moved (codes "-")) }
+    ensures text { OnOk result (reply.new ≡ reply.old ++ option_map_or decimal moved (codes "-")) }
+    ensures full { OnErr result (kept_bytes < length reply.old + most_digits) }
+    ensures short { OnOk result (length reply.new ≤ length reply.old + most_digits) }
 {
     match moved {
         None => reply.text("-"),
@@ -30,7 +34,9 @@ fn add_number_or_dash(reply: &mut Reply, moved: Option<u32>) -> Result<(), Alloc
 
 // Appends the sums of a line of totals.
 fn add_sums(reply: &mut Reply, totals: &Totals) -> Result<(), AllocError>
-    ensures { OnOk result (reply.new ≡ reply.old ++ sums_text totals.now) }
+    ensures text { OnOk result (reply.new ≡ reply.old ++ sums_text totals.now) }
+    ensures full { OnErr result (kept_bytes < length reply.old + most_sums_bytes) }
+    ensures short { OnOk result (length reply.new ≤ length reply.old + most_sums_bytes) }
 {
     reply.field("ok time ", u128::from(totals.time))?;
     reply.field(" room ", u128::from(totals.room))?;
@@ -41,7 +47,9 @@ fn add_sums(reply: &mut Reply, totals: &Totals) -> Result<(), AllocError>
 
 // Appends the counts of a line of totals.
 fn add_counts(reply: &mut Reply, totals: &Totals) -> Result<(), AllocError>
-    ensures { OnOk result (reply.new ≡ reply.old ++ counts_text totals.now) }
+    ensures text { OnOk result (reply.new ≡ reply.old ++ counts_text totals.now) }
+    ensures full { OnErr result (kept_bytes < length reply.old + most_counts_bytes) }
+    ensures short { OnOk result (length reply.new ≤ length reply.old + most_counts_bytes) }
 {
     reply.field(" hard ", u128::from(totals.hard))?;
     reply.field(" unplaced ", u128::from(totals.unplaced))?;
@@ -50,16 +58,19 @@ fn add_counts(reply: &mut Reply, totals: &Totals) -> Result<(), AllocError>
 
 // Appends the end of a line: how many published classes moved.
 fn add_moved(reply: &mut Reply, moved: Option<u32>) -> Result<(), AllocError>
-    ensures { OnOk result (reply.new ≡ reply.old ++ moved_text moved) }
+    ensures text { OnOk result (reply.new ≡ reply.old ++ moved_text moved) }
+    ensures full { OnErr result (kept_bytes < length reply.old + most_moved_bytes) }
 {
     reply.text(" moved ")?;
     add_number_or_dash(reply, moved)?;
     reply.text("\n")
 }
 
-// Appends the line of totals.
+// Appends the line of totals. It takes no memory behind a reply that leaves so many of its kept
+// bytes.
 fn add_totals(reply: &mut Reply, totals: &Totals, moved: Option<u32>) -> Result<(), AllocError>
-    ensures { OnOk result (reply.new ≡ reply.old ++ totals_line totals.now moved) }
+    ensures text { OnOk result (reply.new ≡ reply.old ++ totals_line totals.now moved) }
+    ensures full { OnErr result (kept_bytes < length reply.old + most_totals_bytes) }
 {
     add_sums(reply, totals)?;
     add_counts(reply, totals)?;
@@ -73,7 +84,9 @@ fn add_not_ready(
     unsectioned: u32,
     hard: u64,
 ) -> Result<(), AllocError>
-    ensures { OnOk result (reply.new ≡ reply.old ++ field (codes "22 not ready ") unplaced ++ field (codes " ") unsectioned ++ field (codes " ") hard) }
+    ensures text { OnOk result (reply.new ≡ reply.old ++ field (codes "22 not ready ") unplaced ++ field (codes " ") unsectioned ++ field (codes " ") hard) }
+    ensures full { OnErr result (kept_bytes < length reply.old + most_refusal_bytes) }
+    ensures short { OnOk result (length reply.new ≤ length reply.old + most_refusal_bytes) }
 {
     reply.field("22 not ready ", u128::from(unplaced))?;
     reply.field(" ", u128::from(unsectioned))?;
@@ -83,7 +96,9 @@ fn add_not_ready(
 // Appends the number and the words of a refusal.
 #[tactic(auto, using(std::proofs::Common::append_assoc))]
 fn add_refusal(reply: &mut Reply, refusal: Refusal) -> Result<(), AllocError>
-    ensures { OnOk result (reply.new ≡ reply.old ++ refusal_text refusal) }
+    ensures text { OnOk result (reply.new ≡ reply.old ++ refusal_text refusal) }
+    ensures full { OnErr result (kept_bytes < length reply.old + most_refusal_bytes) }
+    ensures short { OnOk result (length reply.new ≤ length reply.old + most_refusal_bytes) }
 {
     match refusal {
         Refusal::BadLine => reply.text("10 bad line"),
@@ -114,14 +129,14 @@ fn add_refusal(reply: &mut Reply, refusal: Refusal) -> Result<(), AllocError>
     }
 }
 
-// The line of a refusal, in an empty reply.
-pub(crate) fn put_refusal(reply: &mut Reply, refusal: Refusal) -> Result<(), AllocError>
+/// The line of a refusal, in an empty reply. It takes no memory.
+pub(crate) fn put_refusal(reply: &mut Reply, refusal: Refusal)
     requires { reply.old ≡ [] }
-    ensures { OnOk result (reply.new ≡ refusal_line refusal) }
+    ensures { reply.new ≡ refusal_line refusal }
 {
-    reply.text("refused ")?;
-    add_refusal(reply, refusal)?;
-    reply.text("\n")
+    reply.text("refused ").unwrap();
+    add_refusal(reply, refusal).unwrap();
+    reply.text("\n").unwrap();
 }
 
 // Appends a line for a class that was taken out.
@@ -211,32 +226,34 @@ fn add_best(
 }
 
 /// How many students were enrolled and how many are left, in an empty reply.
-pub(crate) fn put_enrolled(reply: &mut Reply, counts: Enrolled) -> Result<(), AllocError>
+pub(crate) fn put_enrolled(reply: &mut Reply, counts: Enrolled)
     requires { reply.old ≡ [] }
-    ensures { OnOk result (reply.new ≡ field (codes "enrolled ") counts.enrolled ++ field (codes " left ") counts.left ++ codes "\n") }
+    ensures { reply.new ≡ field (codes "enrolled ") counts.enrolled ++ field (codes " left ") counts.left ++ codes "\n" }
 {
-    reply.field("enrolled ", u128::from(counts.enrolled))?;
-    reply.field(" left ", u128::from(counts.left))?;
-    reply.text("\n")
+    reply
+        .field("enrolled ", u128::from(counts.enrolled))
+        .unwrap();
+    reply.field(" left ", u128::from(counts.left)).unwrap();
+    reply.text("\n").unwrap();
 }
 
 /// How many turns were made, in an empty reply.
-pub(crate) fn put_turns(reply: &mut Reply, made: u32) -> Result<(), AllocError>
+pub(crate) fn put_turns(reply: &mut Reply, made: u32)
     requires { reply.old ≡ [] }
-    ensures { OnOk result (reply.new ≡ field (codes "turns ") made ++ codes "\n") }
+    ensures { reply.new ≡ field (codes "turns ") made ++ codes "\n" }
 {
-    reply.field("turns ", u128::from(made))?;
-    reply.text("\n")
+    reply.field("turns ", u128::from(made)).unwrap();
+    reply.text("\n").unwrap();
 }
 
 /// How many rounds were made and how many changed something, in an empty reply.
-pub(crate) fn put_rounds(reply: &mut Reply, made: Improved) -> Result<(), AllocError>
+pub(crate) fn put_rounds(reply: &mut Reply, made: Improved)
     requires { reply.old ≡ [] }
-    ensures { OnOk result (reply.new ≡ field (codes "rounds ") made.rounds ++ field (codes " changed ") made.changed ++ codes "\n") }
+    ensures { reply.new ≡ field (codes "rounds ") made.rounds ++ field (codes " changed ") made.changed ++ codes "\n" }
 {
-    reply.field("rounds ", u128::from(made.rounds))?;
-    reply.field(" changed ", u128::from(made.changed))?;
-    reply.text("\n")
+    reply.field("rounds ", u128::from(made.rounds)).unwrap();
+    reply.field(" changed ", u128::from(made.changed)).unwrap();
+    reply.text("\n").unwrap();
 }
 
 /// Appends how many values were tried, and the best suggestion.
@@ -256,12 +273,11 @@ pub(crate) fn add_suggested(
 
 impl Session {
     // Makes the reply to a line, by what became of it. For an accepted command the reply has the
-    // command's own lines before. Only a line that has a reply takes memory.
-    #[tactic(auto, using(crate::proofs::ReplyLemmas::reply_some))]
+    // command's own lines before. Only a line of totals behind long ones takes memory.
     pub(crate) fn finish_reply(&self, reply: &mut Reply, outcome: Outcome) -> Result<(), AllocError>
         ensures ok { OnOk result (reply.new ≡ reply_to self.now reply.old outcome) }
-        ensures memory { OnErr result (HasReply outcome) }
-        ensures replies { OnErr result (0 < length (reply_to self.now reply.old outcome)) }
+        ensures accepted { OnErr result (outcome ≡ Outcome.Accepted) }
+        ensures full { OnErr result (kept_bytes < length reply.old + most_totals_bytes) }
     {
         match outcome {
             Outcome::Accepted => add_totals(reply, &self.totals(), self.moved()),
@@ -271,7 +287,8 @@ impl Session {
             }
             Outcome::Refused(refusal) => {
                 reply.clear();
-                put_refusal(reply, refusal)
+                put_refusal(reply, refusal);
+                Ok(())
             }
         }
     }

@@ -3,12 +3,12 @@ ghost use Rattle.tt_desk.specs.declared.wanting.Wanting.TheVariants.{Command as 
 
 use std::alloc::AllocError;
 
-/// Why a line isn't answered: for what memory is wanting.
+/// Why a line isn't answered: for what of its command memory is wanting.
 #[derive(Clone, Copy, Debug, PartialEq, Eq)]
 pub enum Wanting {
-    /// The command, or the lines that it is asked for: nothing was done.
+    /// What the command does, or the lines that it is asked for: nothing was done.
     Command,
-    /// The words of what was done, or of a refusal.
+    /// The lines on what was done, or the line of totals behind long ones: all was done.
     Reply,
 }
 

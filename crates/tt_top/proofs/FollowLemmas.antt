@@ -52,11 +52,15 @@ pub if_both : {A : Type 0} (o : Option A) (P Q R : A → Type 0) → ((x : A) �
 if_both None P Q R both p q = tt
 if_both (Some x) P Q R both p q = both x p q
 
+-- what comes after a phase that is this, where it is told
+pub told_phase : {A B : Type 0} (phase x : Phase A) (f : A → Phase B) (P : Phase B → Type 0) → P (Err None) → (phase ≢ Err None → phase ≡ x) → P (x >>= f) → P (phase >>= f)
+told_phase {A} {B} (Err None) x f P none is some = none
+told_phase {A} {B} (Err (Some r)) x f P none is some = subst (λ (phase : Phase A). P (phase >>= f)) (sym (is (λ e. cc e))) some
+told_phase {A} {B} (Ok y) x f P none is some = subst (λ (phase : Phase A). P (phase >>= f)) (sym (is (λ e. cc e))) some
+
 -- a run whose first phase, where it is told, is this
 pub told_run : {A : Type 0} (phase x : Phase A) (f : A → Phase PlainRun) (P : PlainRun → Type 0) → (phase ≢ Err None → phase ≡ x) → IfSome (last_phase (x >>= f)) P → IfSome (last_phase (phase >>= f)) P
-told_run {A} (Err None) x f P is some = tt
-told_run {A} (Err (Some r)) x f P is some = subst (λ (phase : Phase A). IfSome (last_phase (phase >>= f)) P) (sym (is (λ e. cc e))) some
-told_run {A} (Ok y) x f P is some = subst (λ (phase : Phase A). IfSome (last_phase (phase >>= f)) P) (sym (is (λ e. cc e))) some
+told_run phase x f P is some = told_phase phase x f (λ q. IfSome (last_phase q) P) tt is some
 
 -- any run, by how its first phase ends
 pub any_run : {A : Type 0} (phase : Phase A) (f : A → Phase PlainRun) (P : PlainRun → Type 0) → IfErr phase (λ ended. IfSome ended P) → ((x : A) → IfSome (last_phase (f x)) P) → IfSome (last_phase (phase >>= f)) P
@@ -64,14 +68,18 @@ any_run (Ok x) f P ended later = later x
 any_run (Err None) f P ended later = tt
 any_run (Err (Some r)) f P ended later = ended
 
--- a script that is told
-pub told_script : (holds : List ℕ → Option (List ℕ)) (word : Option (List ℕ)) (f : List ℕ → PlainRun) (P : PlainRun → Type 0) → ((script : List ℕ) → script_phase holds word ≡ Ok script → P (f script)) → IfSome (last_phase (script_phase holds word >>= λ s. Ok (f s))) P
-told_script holds None f P all = all [] refl
-told_script holds (Some name) f P all = by (holds name) refl
+-- what comes after a script that is told
+pub script_then : {B : Type 0} (holds : List ℕ → Option (List ℕ)) (word : Option (List ℕ)) (f : List ℕ → B) (P : Phase B → Type 0) → P (Err None) → ((script : List ℕ) → script_phase holds word ≡ Ok script → P (Ok (f script))) → P (script_phase holds word >>= λ s. Ok (f s))
+script_then {B} holds None f P none all = all [] refl
+script_then {B} holds (Some name) f P none all = by (holds name) refl
   where
-    by : (o : Option (List ℕ)) → holds name ≡ o → IfSome (last_phase (script_phase holds (Some name) >>= λ s. Ok (f s))) P
-    by None is = rw is tt
+    by : (o : Option (List ℕ)) → holds name ≡ o → P (script_phase holds (Some name) >>= λ s. Ok (f s))
+    by None is = rw is none
     by (Some bytes) is = rw is (all bytes (rw is refl))
+
+-- a run whose script is told
+pub told_script : (holds : List ℕ → Option (List ℕ)) (word : Option (List ℕ)) (f : List ℕ → PlainRun) (P : PlainRun → Type 0) → ((script : List ℕ) → script_phase holds word ≡ Ok script → P (f script)) → IfSome (last_phase (script_phase holds word >>= λ s. Ok (f s))) P
+told_script holds word f P all = script_then holds word f (λ q. IfSome (last_phase q) P) tt all
 
 pub script_told : (holds : List ℕ → Option (List ℕ)) (word : Option (List ℕ)) (P : List ℕ → Type 0) → ((script : List ℕ) → script_phase holds word ≡ Ok script → P script) → IfSome (option_and_then holds word) P
 script_told holds None P all = tt
@@ -133,9 +141,26 @@ asks_append a None (Some c) xs ys first second = absurd second
 asks_append None (Some b) (Some c) xs ys first second = absurd first
 asks_append (Some a) (Some b) (Some c) xs ys first second = second ∙ ap (λ t. t ++ ys) first ∙ append_assoc a xs ys
 
+none_asked : (before now : Option (List (List ℕ))) → now ≡ before → AsksAll before now []
+none_asked before None same = tt
+none_asked None (Some now) same = absurd (cc same)
+none_asked (Some before) (Some now) same = let is : now ≡ before = cc in is ∙ sym (append-nil before)
+
 module _ (words : FileWords) (o : Outside) where
   all_words : length (first_words words) ≤ length (file_words words)
   all_words = let is : length (file_words words) ≡ length (first_words words) + length (option_to_list words.script) = length-append (first_words words) (option_to_list words.script) in omega arith
+
+  -- where no name was asked for
+  pub asks_none : o.now.asked ≡ o.before.asked → o.now.written ≡ o.before.written → AsksInOrder words o [] 7
+  asks_none same quiet = record {
+    asked = none_asked o.before.asked o.now.asked same;
+    first = (file_words words, refl);
+    some = λ ne. absurd (ne refl);
+    all = λ le. absurd (omega (arith, le));
+    faulty_problem = λ is. absurd (omega (arith, is));
+    faulty_published = λ is. absurd (omega (arith, is));
+    quiet = λ five ne few. nothing_written _ _ quiet;
+  }
 
   -- where the run ended in a phase before the script
   pub asks_early : {A : Type 0} (phase : Phase A) (r : Result (Result A InputFault) End) (e : End) → (e ≢ Sink → o.now.written ≡ o.before.written) → (loads : Loads words phase o.before.asked o.now.asked r) → AsksInOrder words o loads.names (end_status e)

@@ -1,123 +1,46 @@
 -- How the lines of a script that is read piece by piece are answered.
 use Rattle.std.proofs.Common.{◌≡◌, ◌≢◌, ◌≤◌, ◌<◌, ◌+◌, ◌-◌, ℕ, Bool, true, false, List, [], ◌∷◌, ◌++◌, None, Some, Option, Ok, Err, refl, sym, ap, ◌∙◌, subst, append_assoc, arith, inl, inr, take, length, replicate}
-use Rattle.std.specs.Prelude.{Result, IfOk, OnOk, ◌||◌, ◌&&◌, ◌⊎◌, nat_lt, not}
-use Rattle.std.specs.List.{concat, list_any}
+use Rattle.std.specs.Prelude.{Result, IfOk, IfErr, OnOk, ◌||◌, ◌&&◌, ◌⊎◌, nat_lt, not}
+use Rattle.std.specs.List.{list_any}
 use Rattle.std.specs.Io.KnownBytes.{IsAtEnd}
-use Rattle.std.proofs.lemmas.List.{append-nil, length-append, length-replicate}
-use Rattle.std.proofs.lemmas.List.Folds.{concat-append, list_any-append}
+use Rattle.std.proofs.lemmas.List.{length-append, length-replicate}
+use Rattle.std.proofs.lemmas.List.Folds.{list_any-append}
 use Rattle.std.proofs.lemmas.Bool.Decides.{nat_tests}
 use Rattle.std.proofs.Math.Seq.{take-append-add}
 use Rattle.tt_io.specs.Causes.{Writes}
 use Rattle.tt_io.specs.Whole.{Grows, WritesFront}
 use Rattle.tt_io.specs.Lines.{Reader, new_reader, has_line_end, leading_line, after_line, to_come, Counts, StopsIn}
-use Rattle.tt_io.proofs.WrittenLemmas.{Writes-append, nothing_written}
-use Rattle.tt_script.specs.declared.command.Command.TheVariants.{Assign, Unassign, Force, Section, Drop, Enrol, EnrolAll, Search, Repair, Improve, Recall, Close, Reopen, Undo, Publish, Totals, Explain, Why, Stats, Suggest, Quit}
-use Rattle.tt_desk.specs.declared.refusal.Refusal.{Refusal}
+use Rattle.tt_io.proofs.WrittenLemmas.{Writes-append}
 use Rattle.tt_desk.specs.declared.refusal.Refusal.TheVariants.{BadLine}
 use Rattle.tt_desk.specs.declared.refusal.Outcome.{Outcome}
 use Rattle.tt_desk.specs.declared.refusal.Outcome.TheVariants.{Skipped, Accepted, Refused, Ended}
-use Rattle.tt_script.specs.declared.script.Line.{Line}
-use Rattle.tt_script.specs.declared.script.Line.TheVariants.{Empty, Bad, Good}
 use Rattle.tt_script.specs.Script.{lines_of, line_of}
+use Rattle.tt_desk.specs.Causes.{IsMemoryCause}
 use Rattle.tt_desk.specs.Refusals.{refusal_line}
-use Rattle.tt_desk.specs.Desk.{Session, Answer, carried_out, step_from, step_of, line_step}
+use Rattle.tt_desk.specs.Desk.{Session, line_step}
 use Rattle.tt_desk.specs.Replies.{is_end, is_refused, reply_of, replies_to, refuses}
 use Rattle.tt_top.specs.declared.end.End.{End}
 use Rattle.tt_top.specs.declared.end.End.TheVariants.{Files, Sink, Memory, TooLong}
-use Rattle.tt_top.specs.Pieces.{whole_lines, ends_script, has_quit, is_long_script, taken_of}
+use Rattle.tt_top.specs.Pieces.{whole_lines, ends_script, has_quit, is_long_script, answered_part, taken_of}
 use Rattle.tt_top.specs.Ends.{Serves, ServesNext, ServesSome, Answers, AnswersLine, TakesLine, EndsScript, WritesReplies, WritesFirst, past_limit, replies_within}
-use Rattle.tt_top.proofs.ServeLemmas.{HasSent, HasSent-more, HasSent-all, HasSent-first, HasSent-less, HasSent-front, HasSent-same, replies-next, replies-last, refuses-next, refused_more, reply_is_next}
+use Rattle.tt_top.proofs.ServeLemmas.{HasSent-more, HasSent-all, HasSent-first, HasSent-front, HasSent-same, replies-last, refuses-next, refused_more, reply_is_next}
+use Rattle.tt_top.proofs.AnsweredLemmas.{quit_ends, HasAnswered, answered_none, answered_more, answered_last, follows, HasLeft, left_all, left_sent, left_next, left_wants}
 use Rattle.tt_top.proofs.PieceLemmas.{first_of_lines, cut_at_end, leading_one, IsWhole, whole_empty, whole_more, lines_more, whole_is, taken_front, limit_front}
 
--- ---- the line that ends a script
-
-answered_on : (s : Session) (r : Result Answer Refusal) → is_end (step_from s r).outcome ≡ false
-answered_on s (Ok a) = refl
-answered_on s (Err e) = refl
-
-quit_step : (d : Session) (l : Line) → is_end (step_of d l).outcome ≡ ends_script l
-quit_step d Empty = refl
-quit_step d Bad = refl
-quit_step d (Good (Assign class time room)) = answered_on d (carried_out d (Assign class time room))
-quit_step d (Good (Unassign class)) = answered_on d (carried_out d (Unassign class))
-quit_step d (Good (Force class time room)) = answered_on d (carried_out d (Force class time room))
-quit_step d (Good (Section student classes)) = answered_on d (carried_out d (Section student classes))
-quit_step d (Good (Drop student)) = answered_on d (carried_out d (Drop student))
-quit_step d (Good (Enrol student)) = answered_on d (carried_out d (Enrol student))
-quit_step d (Good EnrolAll) = answered_on d (carried_out d EnrolAll)
-quit_step d (Good (Search turns seed)) = answered_on d (carried_out d (Search turns seed))
-quit_step d (Good (Repair turns seed)) = answered_on d (carried_out d (Repair turns seed))
-quit_step d (Good (Improve rounds seed)) = answered_on d (carried_out d (Improve rounds seed))
-quit_step d (Good Recall) = answered_on d (carried_out d Recall)
-quit_step d (Good (Close room days start slots weeks)) = answered_on d (carried_out d (Close room days start slots weeks))
-quit_step d (Good (Reopen room)) = answered_on d (carried_out d (Reopen room))
-quit_step d (Good Undo) = answered_on d (carried_out d Undo)
-quit_step d (Good Publish) = answered_on d (carried_out d Publish)
-quit_step d (Good Totals) = answered_on d (carried_out d Totals)
-quit_step d (Good (Explain class)) = answered_on d (carried_out d (Explain class))
-quit_step d (Good (Why class time room)) = answered_on d (carried_out d (Why class time room))
-quit_step d (Good (Stats class)) = answered_on d (carried_out d (Stats class))
-quit_step d (Good (Suggest class depth)) = answered_on d (carried_out d (Suggest class depth))
-quit_step d (Good Quit) = refl
-
--- a line ends a script exactly where it is `quit`
-quit_ends : (d : Session) (line : List ℕ) → is_end (line_step d line).outcome ≡ ends_script (line_of line)
-unfolding line_step
-quit_ends d line = quit_step d (line_of line)
-
-abbrev quits : List (List ℕ) → Bool
-quits lines = list_any (λ line. ends_script (line_of line)) lines
-
 -- ---- how far a script is served
-
--- These lines were answered, none of which ends the script, and lines after them are answered by the session that is left.
-pub record HasAnswered (d : Session) (lines : List (List ℕ)) (before : Option (List ℕ)) (d' : Session) (now : Option (List ℕ)) : Type 0 where
-  pub follows : (more : List (List ℕ)) → replies_to d (lines ++ more) ≡ replies_to d lines ++ replies_to d' more
-  pub written : Writes before now (concat (replies_to d lines))
-
-pub answered_none : (d : Session) (before : Option (List ℕ)) → HasAnswered d [] before d before
-answered_none d before = record { follows = λ more. refl; written = nothing_written before before refl }
-
--- the reply after those to the lines
-one_reply : (before mid now : Option (List ℕ)) (replies : List (List ℕ)) (reply : List ℕ) → Writes before mid (concat replies) → Writes mid now reply → Writes before now (concat (replies ++ reply ∷ []))
-one_reply before mid now replies reply first second =
-    subst (λ (t : List ℕ). Writes before now t) (sym (concat-append replies (reply ∷ []) ∙ ap (λ t. concat replies ++ t) (append-nil reply))) (Writes-append before mid now _ reply first second)
-
-module _ (d : Session) (lines : List (List ℕ)) (before : Option (List ℕ)) (mid_d : Session) (mid : Option (List ℕ)) (had : HasAnswered d lines before mid_d mid) (line : List ℕ) (now : Option (List ℕ)) (d' : Session) (outcome : Outcome) (answers : Answers line mid now mid_d d' outcome) where
-  -- one more line
-  pub answered_more : is_end outcome ≡ false → HasAnswered d (lines ++ line ∷ []) before d' now
-  answered_more goes =
-      let reply = reply_of (line_step mid_d line) in
-      let one : replies_to mid_d (line ∷ []) ≡ reply ∷ [] = replies-next mid_d d' (line ∷ []) line [] outcome refl answers.session answers.outcome_is goes in
-      let replies_are : replies_to d (lines ++ line ∷ []) ≡ replies_to d lines ++ reply ∷ [] = had.follows (line ∷ []) ∙ ap (λ t. replies_to d lines ++ t) one in
-      record {
-        follows = λ more.
-            ap (replies_to d) (append_assoc lines (line ∷ []) more) ∙ had.follows (line ∷ more)
-            ∙ ap (λ t. replies_to d lines ++ t) (replies-next mid_d d' (line ∷ more) line more outcome refl answers.session answers.outcome_is goes)
-            ∙ sym (append_assoc (replies_to d lines) (reply ∷ []) (replies_to d' more)) ∙ ap (λ t. t ++ replies_to d' more) (sym replies_are);
-        written = subst (λ (t : List (List ℕ)). Writes before now (concat t)) (sym replies_are) (one_reply before mid now (replies_to d lines) reply had.written answers.written);
-      }
-
-  -- the line that ends the script
-  answered_last : is_end outcome ≡ true → Writes before now (concat (replies_to d (lines ++ line ∷ [])))
-  answered_last ends =
-      let reply = reply_of (line_step mid_d line) in
-      let one : replies_to mid_d (line ∷ []) ≡ reply ∷ [] = replies-last mid_d d' (line ∷ []) line [] outcome refl answers.session answers.outcome_is ends in
-      subst (λ (t : List (List ℕ)). Writes before now (concat t)) (sym (had.follows (line ∷ []) ∙ ap (λ t. replies_to d lines ++ t) one)) (one_reply before mid now (replies_to d lines) reply had.written answers.written)
 
 -- What was served so far ends where a line ends, and the rest is served as if it were read alone.
 pub record AtLine (d : Session) (script : List ℕ) (before : Option (List ℕ)) (d' : Session) (now : Option (List ℕ)) (rest : List ℕ) : Type 0 where
   pub done : List ℕ
   pub parts : script ≡ done ++ rest
   pub whole : IsWhole done
-  pub no_quit : list_any (λ line. ends_script (line_of line)) (lines_of done) ≡ false
   pub answered : HasAnswered d (lines_of done) before d' now
 
--- The replies so far, and those to what is still to come, are the replies to the script.
+-- The lines of the script are those that were answered so far, and those of what is still to come.
 pub record IsServed (limit : ℕ) (d : Session) (script : List ℕ) (before : Option (List ℕ)) (d' : Session) (refused : Bool) (now : Option (List ℕ)) (reader : Reader) (left : Option (List ℕ)) : Type 0 where
   pub rest : List ℕ
   pub later : to_come reader left ≡ Some rest
-  pub sent : HasSent before now (replies_to d (lines_of script)) (replies_to d' (lines_of rest))
+  pub so_far : HasLeft d (lines_of script) before d' now (lines_of rest)
   pub refused_is : (refused || refuses d' (lines_of rest)) ≡ refuses d (lines_of script)
   pub at_line : reader.ended ≡ false → AtLine d script before d' now rest
   pub met : reader.ended ≡ true → IsAtEnd left
@@ -129,9 +52,9 @@ pub served_none : (limit : ℕ) (d : Session) (script : List ℕ) (before left :
 served_none limit d script before left reader is told = rw (is, told) (record {
   rest = script;
   later = refl;
-  sent = record { sent = []; parts = refl; written = nothing_written before before refl };
+  so_far = left_all d (lines_of script) before;
   refused_is = refl;
-  at_line = λ _. record { done = []; parts = refl; whole = whole_empty; no_quit = refl; answered = answered_none d before };
+  at_line = λ _. record { done = []; parts = refl; whole = whole_empty; answered = answered_none d before };
   met = λ ended. absurd (cc ended);
   counts = omega arith;
   most = omega arith;
@@ -147,7 +70,6 @@ line_served d script before mid_d mid rest d' now outcome at ends answers goes =
       done = at.done ++ (line ++ 10 ∷ []);
       parts = at.parts ∙ ap (λ t. at.done ++ t) (cut_at_end rest ends ∙ sym (append_assoc line (10 ∷ []) (after_line rest))) ∙ sym (append_assoc at.done (line ++ 10 ∷ []) (after_line rest));
       whole = whole_more at.done line at.whole (leading_one rest);
-      no_quit = ap (list_any (λ l. ends_script (line_of l))) lines_are ∙ list_any-append (λ l. ends_script (line_of l)) (lines_of at.done) (line ∷ []) ∙ rw (at.no_quit, ← quit_ends mid_d line, answers.outcome_is, goes) refl;
       answered = subst (λ (t : List (List ℕ)). HasAnswered d t before d' now) (sym lines_are) (answered_more d (lines_of at.done) before mid_d mid at.answered line now d' outcome answers goes);
     }
 
@@ -187,7 +109,7 @@ module _ (limit : ℕ) (d : Session) (script : List ℕ) (before : Option (List 
         record {
           rest = after_line served.rest;
           later = a.taken.later;
-          sent = HasSent-more before mid now _ _ (reply_of (line_step mid_d line)) _ served.sent a.answered.written (replies-next mid_d d' (lines_of served.rest) line (lines_of (after_line served.rest)) outcome cut a.answered.session a.answered.outcome_is goes);
+          so_far = left_next d (lines_of script) before mid_d mid (lines_of served.rest) d' now line (lines_of (after_line served.rest)) outcome served.so_far cut a.answered goes;
           refused_is = refused_more refused (is_refused outcome) _ _ _ served.refused_is (refuses-next mid_d d' (lines_of served.rest) line (lines_of (after_line served.rest)) outcome cut a.answered.session a.answered.outcome_is goes);
           at_line = λ on. line_served d script before mid_d mid served.rest d' now outcome (served.at_line (was_going reader.ended reader'.ended moves.stays on)) (a.taken.last on) a.answered goes;
           met = met_then reader.ended reader'.ended left left' served.met moves.same moves.ended;
@@ -213,7 +135,7 @@ ended_here limit d script before mid_d refused mid reader left served d' now rea
     let met = met_then reader.ended reader'.ended left left' served.met moves.same moves.ended e.met in
     let counts = counts_then script reader.taken reader'.taken 0 left left' served.counts moves.taken in
     let refused_is = rw e.none at served.refused_is in
-    let sent = rw e.none at served.sent in
+    let sent = rw e.none at (left_sent d (lines_of script) before mid_d mid (lines_of served.rest) served.so_far) in
     (short_script limit script reader'.taken left' counts met moves.most, rw e.outcome_is refused_is, HasSent-all before now _ (HasSent-same before mid now _ _ sent e.written))
 
 -- the lines within the limit are those of a front, and those of what follows it
@@ -263,7 +185,7 @@ quit_here limit d script before mid_d refused mid reader left served d' now read
     let counts = counts_then script reader.taken reader'.taken 0 left left' served.counts moves.taken in (
       by reader'.ended refl,
       refused_is refused (is_refused outcome) _ _ (only_end outcome ends) (refuses-last mid_d (lines_of served.rest) line _ outcome cut a.answered.outcome_is ends) served.refused_is,
-      HasSent-all before now _ (HasSent-more before mid now _ _ (reply_of (line_step mid_d line)) _ served.sent a.answered.written (replies-last mid_d d' (lines_of served.rest) line _ outcome cut a.answered.session a.answered.outcome_is ends)),
+      HasSent-all before now _ (HasSent-more before mid now _ _ (reply_of (line_step mid_d line)) _ (left_sent d (lines_of script) before mid_d mid (lines_of served.rest) served.so_far) a.answered.written (replies-last mid_d d' (lines_of served.rest) line _ outcome cut a.answered.session a.answered.outcome_is ends)),
     )
   where
     refused_is : (so_far one later all : Bool) → one ≡ false → later ≡ (one || false) → (so_far || later) ≡ all → (so_far || one) ≡ all
@@ -279,7 +201,7 @@ quit_here limit d script before mid_d refused mid reader left served d' now read
         let done = at.done ++ (line ++ 10 ∷ []) in
         let parts : script ≡ done ++ after_line served.rest = at.parts ∙ ap (λ t. at.done ++ t) (cut_at_end served.rest (a.taken.last is) ∙ sym (append_assoc line (10 ∷ []) (after_line served.rest))) ∙ sym (append_assoc at.done (line ++ 10 ∷ []) (after_line served.rest)) in
         let last : list_any (λ l. ends_script (line_of l)) (lines_of done) ≡ true =
-        ap (list_any (λ l. ends_script (line_of l))) (lines_more at.done line at.whole one) ∙ list_any-append (λ l. ends_script (line_of l)) (lines_of at.done) (line ∷ []) ∙ rw (at.no_quit, ← quit_ends mid_d line, a.answered.outcome_is, ends) refl in
+        ap (list_any (λ l. ends_script (line_of l))) (lines_more at.done line at.whole one) ∙ list_any-append (λ l. ends_script (line_of l)) (lines_of at.done) (line ∷ []) ∙ rw (at.answered.no_quit, ← quit_ends mid_d line, a.answered.outcome_is, ends) refl in
         quits_within limit script done (after_line served.rest) parts (whole_more at.done line at.whole one)
         (lengths limit reader'.taken done (after_line served.rest) reader'.hand script left' reader' is refl parts a.taken.later (counts_then script reader.taken reader'.taken 0 left left' served.counts moves.taken) moves.most)
         last
@@ -302,15 +224,15 @@ module _ (limit : ℕ) (d : Session) (script : List ℕ) (before : Option (List 
   sent_within at on = by (is_long_script limit script) refl
     where
       by : (long : Bool) → is_long_script limit script ≡ long → WritesFirst before mid (replies_within limit d script)
-      by false is = rw is (HasSent-first before mid _ _ served.sent)
+      by false is = rw is (HasSent-first before mid _ _ (left_sent d (lines_of script) before mid_d mid (lines_of served.rest) served.so_far))
       by true is =
           let later = lines_of (whole_lines (take (limit - length at.done) served.rest)) in
           let all : replies_to d (lines_of (whole_lines (take limit script))) ≡ replies_to d (lines_of at.done) ++ replies_to mid_d later =
-          ap (replies_to d) (lines_within limit script at.done served.rest at.parts at.whole (few_done at on)) ∙ at.answered.follows later in
+          ap (replies_to d) (lines_within limit script at.done served.rest at.parts at.whole (few_done at on)) ∙ follows d (lines_of at.done) before mid_d mid at.answered later in
           rw is (HasSent-first before mid _ (replies_to mid_d later) (record { sent = replies_to d (lines_of at.done); parts = all; written = at.answered.written }))
 
-  -- so is the reply to a line that was taken
-  next_within : (reader' : Reader) (left' : Option (List ℕ)) → TakesLine served.rest reader' left' → Moves limit 0 reader reader' left left' → (later : List (List ℕ)) × HasSent before mid (replies_within limit d script) (replies_to mid_d (leading_line served.rest ∷ later))
+  -- a line that was taken is one of those within the limit
+  next_within : (reader' : Reader) (left' : Option (List ℕ)) → TakesLine served.rest reader' left' → Moves limit 0 reader reader' left left' → (later : List (List ℕ)) × HasLeft d (lines_of (answered_part limit script)) before mid_d mid (leading_line served.rest ∷ later)
   next_within reader' left' takes moves = by (is_long_script limit script) refl
     where
       counts : Counts 0 reader'.taken 0 (Some script) left'
@@ -320,10 +242,10 @@ module _ (limit : ℕ) (d : Session) (script : List ℕ) (before : Option (List 
       going long true is = absurd (cc (sym long ∙ short_script limit script reader'.taken left' counts (met_then reader.ended reader'.ended left left' served.met moves.same moves.ended is) moves.most))
       going long false is = is
 
-      by : (long : Bool) → is_long_script limit script ≡ long → (later : List (List ℕ)) × HasSent before mid (replies_within limit d script) (replies_to mid_d (leading_line served.rest ∷ later))
+      by : (long : Bool) → is_long_script limit script ≡ long → (later : List (List ℕ)) × HasLeft d (lines_of (answered_part limit script)) before mid_d mid (leading_line served.rest ∷ later)
       by false is =
-          let now_lines : List (List ℕ) → Type 0 = λ lines. HasSent before mid (replies_to d (lines_of script)) (replies_to mid_d lines) in
-          (lines_of (after_line served.rest), rw is (subst now_lines (first_of_lines served.rest takes.some) served.sent))
+          let now_left : List (List ℕ) → Type 0 = λ left. HasLeft d (lines_of script) before mid_d mid left in
+          (lines_of (after_line served.rest), rw is (subst now_left (first_of_lines served.rest takes.some) served.so_far))
       by true is =
           let on = going is reader'.ended refl in
           let at = served.at_line (was_going reader.ended reader'.ended moves.stays on) in
@@ -335,7 +257,7 @@ module _ (limit : ℕ) (d : Session) (script : List ℕ) (before : Option (List 
           let lines_are : lines_of (whole_lines (take limit script)) ≡ lines_of at.done ++ (line ∷ later) =
           lines_within limit script done (after_line served.rest) parts (whole_more at.done line at.whole (leading_one served.rest)) few
           ∙ ap (λ t. t ++ later) (lines_more at.done line at.whole (leading_one served.rest)) ∙ append_assoc (lines_of at.done) (line ∷ []) later in
-          (later, rw is (record { sent = replies_to d (lines_of at.done); parts = ap (replies_to d) lines_are ∙ at.answered.follows (line ∷ later); written = at.answered.written }))
+          (later, rw is (record { done = lines_of at.done; parts = lines_are; answered = at.answered }))
 
   -- what was answered of a script of which a read fails
   failed_here : (now : Option (List ℕ)) (left' : Option (List ℕ)) → now ≡ mid → AtLine d script before mid_d mid served.rest → reader.ended ≡ false → StopsIn served.rest [] left' → Serves limit before now d script left' (Err Files)
@@ -354,7 +276,7 @@ module _ (limit : ℕ) (d : Session) (script : List ℕ) (before : Option (List 
       let count : length (at.done ++ stops.part) ≡ limit = omega (arith, ap length parts, length-append (at.done ++ stops.part) (b ∷ stops.rest), counts, moves.most, least) in
       let front : take limit script ≡ at.done ++ stops.part = ap (take limit) parts ∙ limit_front limit (at.done ++ stops.part) (b ∷ stops.rest) count in
       let whole : whole_lines (take limit script) ≡ at.done = ap whole_lines front ∙ whole_is at.done stops.part at.whole stops.no_end in
-      let no_quit : has_quit (take limit script) ≡ false = ap (λ t. list_any (λ l. ends_script (line_of l)) (lines_of t)) whole ∙ at.no_quit in
+      let no_quit : has_quit (take limit script) ≡ false = ap (λ t. list_any (λ l. ends_script (line_of l)) (lines_of t)) whole ∙ at.answered.no_quit in
       let long : nat_lt limit (length script) ≡ true = (let more : limit < length script = omega (arith, counts, moves.most, least) in grind (arith, nat_tests, more)) in
       let is : is_long_script limit script ≡ true = rw (long, no_quit) refl in
       (is, rw (is, whole, same) at.answered.written)
@@ -366,15 +288,13 @@ module _ (limit : ℕ) (d : Session) (script : List ℕ) (before : Option (List 
   served_err d' now reader' left' Files next moves on long = failed_here now left' next.0 (served.at_line (on (inl refl))) (on (inl refl)) next.1
   served_err d' now reader' left' Sink next moves on long =
       let line = leading_line served.rest in
-      let sent = next_within reader' left' next.0 moves in
-      let n = reply_is_next mid_d (line ∷ sent.0) line sent.0 refl in
-      HasSent-front before mid now _ _ (reply_of (line_step mid_d line)) n.0 sent.1 next.1 n.1
+      let within = next_within reader' left' next.0 moves in
+      let n = reply_is_next mid_d (line ∷ within.0) line within.0 refl in
+      HasSent-front before mid now _ _ (reply_of (line_step mid_d line)) n.0 (left_sent d (lines_of (answered_part limit script)) before mid_d mid (line ∷ within.0) within.1) next.1 n.1
   served_err d' now reader' left' Memory next moves on long =
       let line = leading_line served.rest in
       let within = next_within reader' left' next.0 moves in
-      let n = reply_is_next mid_d (line ∷ within.0) line within.0 refl in
-      let sent = HasSent-same before mid now _ _ within.1 next.1 in
-      (HasSent-first before now _ _ sent, inl (HasSent-less before now _ _ (reply_of (line_step mid_d line)) n.0 sent n.1 next.2))
+      left_wants d (lines_of (answered_part limit script)) before mid_d mid now (line ∷ within.0) line within.0 within.1 refl next.1 next.2
   served_err d' now reader' left' TooLong next moves on long = too_long_here now reader' left' next.1.0 next.0 (served.at_line (on (inr refl))) next.1.1 moves (long refl)
 
 -- ---- the answer to the next line
@@ -390,14 +310,14 @@ long_step d line long =
 pub next_answered : (text : List ℕ) (before now : Option (List ℕ)) (d d' : Session) (reader : Reader) (left : Option (List ℕ)) (r : Result Outcome End)
     → 0 < length text → to_come reader left ≡ Some (after_line text) → (reader.ended ≡ false → has_line_end text ≡ true)
     → OnOk r ((line_step d (leading_line text)).session ≡ d') → IfOk r (λ outcome. (line_step d (leading_line text)).outcome ≡ outcome) → OnOk r (Writes before now (reply_of (line_step d (leading_line text))))
-    → (r ≡ Err Memory → now ≡ before) → (r ≡ Err Memory → 0 < length (reply_of (line_step d (leading_line text)))) → (r ≡ Err Sink → WritesFront before now (reply_of (line_step d (leading_line text))))
+    → (r ≡ Err Memory → now ≡ before) → (r ≡ Err Memory → IsMemoryCause d (leading_line text)) → (r ≡ Err Sink → WritesFront before now (reply_of (line_step d (leading_line text))))
     → r ≢ Err Files → r ≢ Err TooLong → ServesNext text before now d d' reader left r
-next_answered text before now d d' reader left (Ok outcome) some later cut session outcome_is written memory replies front no_files no_limit =
+next_answered text before now d d' reader left (Ok outcome) some later cut session outcome_is written memory wants front no_files no_limit =
     inr (record { taken = record { some = some; later = later; last = cut }; answered = record { session = session; outcome_is = outcome_is; written = written } })
-next_answered text before now d d' reader left (Err Files) some later cut session outcome_is written memory replies front no_files no_limit = absurd (no_files refl)
-next_answered text before now d d' reader left (Err Sink) some later cut session outcome_is written memory replies front no_files no_limit = (record { some = some; later = later; last = cut }, front refl)
-next_answered text before now d d' reader left (Err Memory) some later cut session outcome_is written memory replies front no_files no_limit = (record { some = some; later = later; last = cut }, memory refl, replies refl)
-next_answered text before now d d' reader left (Err TooLong) some later cut session outcome_is written memory replies front no_files no_limit = absurd (no_limit refl)
+next_answered text before now d d' reader left (Err Files) some later cut session outcome_is written memory wants front no_files no_limit = absurd (no_files refl)
+next_answered text before now d d' reader left (Err Sink) some later cut session outcome_is written memory wants front no_files no_limit = (record { some = some; later = later; last = cut }, front refl)
+next_answered text before now d d' reader left (Err Memory) some later cut session outcome_is written memory wants front no_files no_limit = (record { some = some; later = later; last = cut }, memory refl, wants refl)
+next_answered text before now d d' reader left (Err TooLong) some later cut session outcome_is written memory wants front no_files no_limit = absurd (no_limit refl)
 
 -- the answer to a line that is too long
 refused_line : (d : Session) (line : List ℕ) (before now : Option (List ℕ)) (outcome : Outcome) → 65536 < length line → outcome ≡ Refused BadLine → Writes before now (refusal_line BadLine) → Answers line before now d d outcome
@@ -408,15 +328,13 @@ refused_line d line before now outcome long outcome_is written =
 -- what the answer to a line that is too long leaves, whatever becomes of it
 pub next_refused : (text : List ℕ) (before now : Option (List ℕ)) (d : Session) (reader : Reader) (left : Option (List ℕ)) (r : Result Outcome End)
     → 65536 < length (leading_line text) → 0 < length text → to_come reader left ≡ Some (after_line text) → (reader.ended ≡ false → has_line_end text ≡ true)
-    → IfOk r (λ outcome. outcome ≡ Refused BadLine) → OnOk r (Writes before now (refusal_line BadLine))
-    → (r ≡ Err Memory → now ≡ before) → (r ≡ Err Memory → 0 < length (refusal_line BadLine)) → (r ≡ Err Sink → WritesFront before now (refusal_line BadLine))
-    → r ≢ Err Files → r ≢ Err TooLong → ServesNext text before now d d reader left r
-next_refused text before now d reader left (Ok outcome) long some later cut outcome_is written memory replies front no_files no_limit =
+    → IfOk r (λ outcome. outcome ≡ Refused BadLine) → OnOk r (Writes before now (refusal_line BadLine)) → WritesFront before now (refusal_line BadLine) → IfErr r (λ e. e ≡ Sink) → ServesNext text before now d d reader left r
+next_refused text before now d reader left (Ok outcome) long some later cut outcome_is written front only =
     inr (record { taken = record { some = some; later = later; last = cut }; answered = refused_line d (leading_line text) before now outcome long outcome_is written })
-next_refused text before now d reader left (Err Files) long some later cut outcome_is written memory replies front no_files no_limit = absurd (no_files refl)
-next_refused text before now d reader left (Err Sink) long some later cut outcome_is written memory replies front no_files no_limit = (record { some = some; later = later; last = cut }, rw (long_step d (leading_line text) long) (front refl))
-next_refused text before now d reader left (Err Memory) long some later cut outcome_is written memory replies front no_files no_limit = (record { some = some; later = later; last = cut }, memory refl, rw (long_step d (leading_line text) long) (replies refl))
-next_refused text before now d reader left (Err TooLong) long some later cut outcome_is written memory replies front no_files no_limit = absurd (no_limit refl)
+next_refused text before now d reader left (Err Files) long some later cut outcome_is written front only = absurd (cc only)
+next_refused text before now d reader left (Err Sink) long some later cut outcome_is written front only = (record { some = some; later = later; last = cut }, rw (long_step d (leading_line text) long) front)
+next_refused text before now d reader left (Err Memory) long some later cut outcome_is written front only = absurd (cc only)
+next_refused text before now d reader left (Err TooLong) long some later cut outcome_is written front only = absurd (cc only)
 
 -- what the answer to a line leaves, whatever the line is
 pub some_answered : (line : List ℕ) (before now : Option (List ℕ)) (d d' : Session) (r : Result Outcome End)
@@ -433,15 +351,11 @@ line_of_length : (n : ℕ) → (line : List ℕ) × (length line ≡ n)
 line_of_length n = (replicate n 0, length-replicate n 0)
 
 -- the same of the answer to a line that is too long
-pub some_refused : (before now : Option (List ℕ)) (d : Session) (r : Result Outcome End) → IfOk r (λ outcome. outcome ≡ Refused BadLine) → OnOk r (Writes before now (refusal_line BadLine))
-    → (r ≡ Err Memory → now ≡ before) → r ≢ Err Files → r ≢ Err TooLong → ServesSome before now d d r
-some_refused before now d (Ok outcome) outcome_is written memory no_files no_limit =
+pub some_refused : (before now : Option (List ℕ)) (d : Session) (r : Result Outcome End) → IfOk r (λ outcome. outcome ≡ Refused BadLine) → OnOk r (Writes before now (refusal_line BadLine)) → IfErr r (λ e. e ≡ Sink) → ServesSome before now d d r
+some_refused before now d (Ok outcome) outcome_is written only =
     let long = line_of_length 65537 in
     inr (long.0, refused_line d long.0 before now outcome (omega (arith, long.1)) outcome_is written)
-some_refused before now d (Err Files) outcome_is written memory no_files no_limit = absurd (no_files refl)
-some_refused before now d (Err Sink) outcome_is written memory no_files no_limit = λ ne. absurd (ne refl)
-some_refused before now d (Err Memory) outcome_is written memory no_files no_limit = λ ne. memory refl
-some_refused before now d (Err TooLong) outcome_is written memory no_files no_limit = absurd (no_limit refl)
+some_refused before now d (Err e) outcome_is written only = λ ne. absurd (ne only)
 
 -- what only grew, twice
 pub grows_then : (a b c : Option (List ℕ)) → Grows a b → Grows b c → Grows a c

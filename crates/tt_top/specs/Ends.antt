@@ -7,6 +7,7 @@ use Rattle.tt_io.specs.Lines.{Reader, has_line_end, leading_line, after_line, to
 use Rattle.tt_script.specs.Script.{lines_of}
 use Rattle.tt_desk.specs.declared.refusal.Outcome.{Outcome}
 use Rattle.tt_desk.specs.declared.refusal.Outcome.TheVariants.{Ended}
+use Rattle.tt_desk.specs.Causes.{IsMemoryCause}
 use Rattle.tt_desk.specs.Desk.{Session, line_step}
 use Rattle.tt_desk.specs.Replies.{is_end, reply_of, replies_to, refuses}
 use Rattle.tt_top.specs.declared.end.End.{End}
@@ -19,6 +20,7 @@ use Rattle.tt_top.specs.declared.end.InputFault.{InputFault}
 use Rattle.tt_top.specs.Words.{FileWords, first_words}
 use Rattle.tt_top.specs.Opening.{FaultyFile, fault_line, opening_line, opened}
 use Rattle.tt_top.specs.Pieces.{whole_lines, is_long_script, answered_part, taken_of}
+use Rattle.tt_top.specs.Wanting.{WantsAfter}
 use Rattle.tt_top.specs.PlainRun.{PlainRun, text_of, Phase, ends, read_phase}
 use Rattle.tt_top.specs.Run.{IsFront}
 
@@ -36,7 +38,7 @@ input_status Published = 4
 
 -- the line and the status of a fault
 abbrev pub faulty_file : InputFault → FaultyFile
-faulty_file f = record { line = fault_line (input_name f.input) (record { number = f.number; path = f.path }); status = input_status f.input }
+faulty_file f = record { line = fault_line (input_name f.input) (record { wrong = f.wrong; path = f.path }); status = input_status f.input }
 
 -- what a file gives, or its line and status
 abbrev pub seen : {A : Type 0} → Result A InputFault → Result A FaultyFile
@@ -90,6 +92,10 @@ WritesFirst before now pieces = (count : ℕ) × Writes before now (concat (take
 abbrev pub WritesLess : Option (List ℕ) → Option (List ℕ) → List ℕ → Type 0
 WritesLess before now text = (front : List ℕ) × (rest : List ℕ) × (text ≡ front ++ rest) × (0 < length rest) × Writes before now front
 
+-- It grew by the replies to the first of these lines, those before one whose command wants memory.
+abbrev pub WritesBefore : Option (List ℕ) → Option (List ℕ) → Session → (lines : List (List ℕ)) → Type 0
+WritesBefore before now d lines = (answered : List (List ℕ)) × WantsAfter d lines answered × Writes before now (concat (replies_to d answered))
+
 -- The phase of the plain run, where it is told, gives what was read, or ends the run alike with these names asked for.
 abbrev pub Agrees : {A : Type 0} → (names : List (List ℕ)) → Phase A → Result (Result A InputFault) End → Type 0
 Agrees names phase (Ok l) = phase ≢ Err None → phase ≡ read_phase names (seen l)
@@ -141,7 +147,7 @@ abbrev pub Serves : (limit : ℕ) → (before now : Option (List ℕ)) → Sessi
 Serves limit before now d s left (Ok refused) = (is_long_script limit s ≡ false) × (refused ≡ refuses d (lines_of s)) × Writes before now (concat (replies_to d (lines_of s)))
 Serves limit before now d s left (Err Files) = WritesFirst before now (replies_within limit d s) × Writes before now (concat (replies_up_to d (taken_of s left)))
 Serves limit before now d s left (Err Sink) = WritesFront before now (concat (replies_within limit d s))
-Serves limit before now d s left (Err Memory) = WritesFirst before now (replies_within limit d s) × (WritesLess before now (concat (replies_within limit d s)) ⊎ (now ≡ before))
+Serves limit before now d s left (Err Memory) = WritesBefore before now d (lines_of (answered_part limit s))
 Serves limit before now d s left (Err TooLong) = (is_long_script limit s ≡ true) × Writes before now (concat (replies_within limit d s))
 
 -- This line was answered.
@@ -174,7 +180,7 @@ abbrev pub ServesNext : (text : List ℕ) → (before now : Option (List ℕ)) �
 ServesNext text before now d d' reader left (Ok outcome) = EndsScript text before now d d' reader outcome ⊎ AnswersLine text before now d d' reader left outcome
 ServesNext text before now d d' reader left (Err Files) = (now ≡ before) × StopsIn text [] left
 ServesNext text before now d d' reader left (Err Sink) = TakesLine text reader left × WritesFront before now (reply_of (line_step d (leading_line text)))
-ServesNext text before now d d' reader left (Err Memory) = TakesLine text reader left × (now ≡ before) × (0 < length (reply_of (line_step d (leading_line text))))
+ServesNext text before now d d' reader left (Err Memory) = TakesLine text reader left × (now ≡ before) × IsMemoryCause d (leading_line text)
 ServesNext text before now d d' reader left (Err TooLong) = (now ≡ before) × ((b : ℕ) × StopsIn text (b ∷ []) left)
 
 -- What serving a next line leaves, whatever it is: the script was ended, or some line was answered; nothing is written where the
@@ -205,7 +211,7 @@ abbrev pub ServesLines : Option (List ℕ) → Option (List ℕ) → Session →
 ServesLines before now d text (Ok refused) = (refused ≡ refuses d (lines_of text)) × Writes before now (concat (replies_to d (lines_of text)))
 ServesLines before now d text (Err Files) = ⊥
 ServesLines before now d text (Err Sink) = WritesFront before now (concat (replies_to d (lines_of text)))
-ServesLines before now d text (Err Memory) = WritesFirst before now (replies_to d (lines_of text)) × (WritesLess before now (concat (replies_to d (lines_of text))) ⊎ (now ≡ before))
+ServesLines before now d text (Err Memory) = WritesBefore before now d (lines_of text)
 ServesLines before now d text (Err TooLong) = ⊥
 
 -- What a run writes that asks for no file, where this is the plain run.

@@ -2,6 +2,7 @@ pub mod Words
 pub mod Opening
 pub mod Pieces
 pub mod PlainRun
+pub mod Wanting
 pub mod Run
 pub mod Ends
 pub mod Forms

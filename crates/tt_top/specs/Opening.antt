@@ -2,6 +2,7 @@
 use Rattle.std.specs.Prelude.{ℕ, List, [], ◌∷◌, ◌++◌, length, None, Some, Option, Result, Ok, Err, codes}
 use Rattle.tt_problem.specs.declared.parts.Parts.{Parts}
 use Rattle.tt_fields.specs.Answer.{Fault}
+use Rattle.tt_fields.specs.Faults.{fault_number}
 use Rattle.tt_read.specs.Tables.{problem_of}
 use Rattle.tt_solution.specs.Timetable.{Timetable}
 use Rattle.tt_solution.specs.Tables.{published_of}
@@ -19,7 +20,7 @@ pub record FaultyFile : Type 0 where
 
 -- the line on a fault of a file
 abbrev pub fault_line : List ℕ → Fault → List ℕ
-fault_line file f = file ++ field (codes " refused ") f.number ++ codes " " ++ f.path ++ codes "\n"
+fault_line file f = file ++ field (codes " refused ") (fault_number f.wrong) ++ codes " " ++ f.path ++ codes "\n"
 
 -- what the problem file gives
 abbrev pub problem_read : Result Parts Fault → Result Parts FaultyFile

@@ -139,14 +139,14 @@ verify_run limit holds problem solution = last_phase (check_phase limit holds pr
 abbrev pub demo_script : (seed turns : ℕ) → List ℕ
 demo_script seed turns = field (codes "enrol all\nsearch ") turns ++ field (codes " ") seed ++ codes "\ntotals\nundo\nundo\n"
 
--- the run of `demo`, by the session that a problem opens, or its fault
-abbrev pub demo_from : (seed turns : ℕ) → Result Session FaultyFile → PlainRun
-demo_from seed turns (Ok s) = answering [] s (lines_of (demo_script seed turns))
-demo_from seed turns (Err faulty) = record { pieces = faulty.line ∷ []; status = faulty.status; names = [] }
+-- the run of a script that asks for no file, by the session that a problem opens, or its fault
+abbrev pub made_run : (script : List ℕ) → Result Session FaultyFile → PlainRun
+made_run script (Ok s) = answering [] s (lines_of script)
+made_run script (Err faulty) = record { pieces = faulty.line ∷ []; status = faulty.status; names = [] }
 
 -- the run of `demo`: the generated text is the problem
 abbrev pub demo_run : (seed classes turns : ℕ) → PlainRun
-demo_run seed classes turns = demo_from seed turns (opened (make_text seed classes) None)
+demo_run seed classes turns = made_run (demo_script seed turns) (opened (make_text seed classes) None)
 
 -- the run of `make`: the generated text and a line end
 abbrev pub make_run : (seed classes : ℕ) → PlainRun

@@ -2,11 +2,13 @@
 use Rattle.std.specs.Prelude.{◌≡◌, ◌≢◌, ◌≤◌, ◌<◌, ℕ, Bool, List, [], ◌∷◌, ◌++◌, ◌⊎◌, IfSome, IsSome, take, length, if◌then◌else◌, None, Some, Option, option_and_then}
 use Rattle.std.specs.List.{concat}
 use Rattle.tt_io.specs.Causes.{Writes, one_more, AsksAll}
+use Rattle.tt_make.specs.Text.{make_text}
 use Rattle.tt_script.specs.Script.{lines_of}
 use Rattle.tt_top.specs.Words.{FileWords, Form, Files, Verify, Demo, Make, first_words, file_words, verify_words}
 use Rattle.tt_top.specs.Opening.{opened, opened_pieces}
 use Rattle.tt_top.specs.Pieces.{taken_of, whole_lines}
-use Rattle.tt_top.specs.PlainRun.{PlainRun, text_of, file_run, lines_run, verify_run, demo_run, make_run, usage_run}
+use Rattle.tt_top.specs.PlainRun.{PlainRun, text_of, file_run, lines_run, verify_run, demo_script, demo_run, make_run, usage_run}
+use Rattle.tt_top.specs.Wanting.{served_phase, made_phase, IsWanting}
 
 -- the most bytes of a file
 abbrev pub file_limit : ℕ
@@ -130,8 +132,8 @@ pub record IsDeskText (text : List ℕ) : Type 0 where
 pub record IsFileRun (words : FileWords) (limit : ℕ) (o : Outside) (status : ℕ) : Type 0 where
   pub names : List (List ℕ)
   pub run : UsesFiles words (file_run limit o.holds words) o names status
-  -- where memory is wanting, nothing is written, or less than the whole, or the first line where the script was asked for
-  pub wanting : status ≡ 7 → IfSome (file_run limit o.holds words) (λ r. Wrote o (λ text. (text ≡ []) ⊎ (IsLess text (text_of r) ⊎ (AsksScript words names × (text ≡ concat (take 1 r.pieces))))))
+  -- where memory is wanting, it is so before the first line, or for the command of the first line that wasn't answered
+  pub wanting : status ≡ 7 → IsWanting (served_phase limit o.holds words) o.before.written o.now.written
   -- what is done before the script is opened, whatever it holds
   pub begins : IfSome (lines_run limit o.holds words []) (λ r. Begins r words o names status)
   -- where a call on the files failed, nothing is written, or the first line and the reply to each line that was taken whole
@@ -157,6 +159,12 @@ pub record IsPlainRun (r : PlainRun) (o : Outside) (status : ℕ) : Type 0 where
   pub causes : HasCauses o status
   pub asks : o.now.asked ≡ o.before.asked
 
+-- What `demo` does.
+pub record IsDemoRun (seed classes turns : ℕ) (o : Outside) (status : ℕ) : Type 0 where
+  pub run : IsPlainRun (demo_run seed classes turns) o status
+  -- where memory is wanting, it is so before the first line, or for the command of the first line that wasn't answered
+  pub wanting : status ≡ 7 → IsWanting (made_phase (demo_script seed turns) (opened (make_text seed classes) None)) o.before.written o.now.written
+
 -- Words of no form give the usage line, for which no memory is wanted.
 pub record IsUsage (o : Outside) (status : ℕ) : Type 0 where
   pub run : IsPlainRun usage_run o status
@@ -168,6 +176,6 @@ pub record IsUsage (o : Outside) (status : ℕ) : Type 0 where
 abbrev pub IsRun : Option Form → ℕ → Outside → ℕ → Type 0
 IsRun (Some (Files words)) limit o status = IsFileRun words limit o status
 IsRun (Some (Verify problem solution)) limit o status = IsVerifyRun problem solution limit o status
-IsRun (Some (Demo seed classes turns)) limit o status = IsPlainRun (demo_run seed classes turns) o status
+IsRun (Some (Demo seed classes turns)) limit o status = IsDemoRun seed classes turns o status
 IsRun (Some (Make seed classes)) limit o status = IsPlainRun (make_run seed classes) o status
 IsRun None limit o status = IsUsage o status

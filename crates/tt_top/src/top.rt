@@ -73,8 +73,8 @@ pub fn run_within<F: Files, S: Sink, W: Watcher>(
 /// - 3: the problem has a fault, which was written; 4: the published timetable has one, or
 ///   the solution file;
 /// - 5 and 6: a call on the files or the output failed, and ended the run;
-/// - 7: memory is wanting; 8: a file has more than 134,217,728 bytes, of a script before a line
-///   `quit`.
+/// - 7: memory is wanting, before the first line or for a command of the script;
+/// - 8: a file has more than 134,217,728 bytes, of a script before a line `quit`.
 pub fn run<F: Files, S: Sink, W: Watcher>(
     alloc: Global,
     words: &[String],

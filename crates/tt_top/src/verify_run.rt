@@ -31,7 +31,7 @@ fn found(alloc: Global, problem: &Problem, solution: &Published) -> Result<Check
     requires { IsTimetableOf problem.now solution.now }
     ensures { IfOk result (λ c. (names : List (List ℕ)) → checking names problem.now solution.now ≡ check_run names c) }
 {
-    let mut reply = Reply::new(alloc);
+    let mut reply = Reply::new(alloc)?;
     let violations = verify(alloc, problem, solution, &mut reply)? != 0;
     Ok(Check { reply, violations })
 }
@@ -86,7 +86,7 @@ fn write_check<S: Sink>(alloc: Global, check: &Loaded<Check>, out: &mut S) -> Re
     match check {
         Ok(check) => hand_on(out, check.reply.bytes()),
         Err(fault) => {
-            let mut reply = Reply::new(alloc);
+            let mut reply = Reply::new(alloc)?;
             put_fault(&mut reply, fault)?;
             hand_on(out, reply.bytes())
         }

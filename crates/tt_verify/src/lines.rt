@@ -1,6 +1,7 @@
 ghost use Rattle.std.specs.Prelude.{◌≡◌, ◌++◌, OnOk, codes};
 ghost use Rattle.tt_verify.specs.Costs.{sums_line};
 ghost use Rattle.tt_verify.specs.Lines.{class_text, line_of, lines_of, verdict_line};
+ghost use Rattle.tt_text.specs.Fields.{field};
 
 use crate::sums::Sums;
 use crate::violation::Violation;
@@ -107,14 +108,23 @@ pub fn add_sum_line(out: &mut Reply, sums: &Sums, hard: u64) -> Result<(), Alloc
     out.text("\n")
 }
 
+/// Appends the line on how many violations there are.
+#[tactic(auto, using(std::proofs::Common::append_assoc))]
+fn add_violations(out: &mut Reply, violations: u64) -> Result<(), AllocError>
+    ensures { OnOk result (out.new ≡ out.old ++ (field (codes "violations ") violations ++ codes "\n")) }
+{
+    out.field("violations ", u128::from(violations))?;
+    out.text("\n")
+}
+
 /// Appends the last line, by the number of violations.
-#[tactic(auto, using(std::proofs::Common::append_assoc), unfolding(crate::specs::Lines::verdict_line))]
+#[tactic(auto, unfolding(crate::specs::Lines::verdict_line))]
 pub fn add_verdict(out: &mut Reply, violations: u64) -> Result<(), AllocError>
     ensures { OnOk result (out.new ≡ out.old ++ verdict_line violations) }
 {
     if violations == 0 {
-        return out.text("valid\n");
+        out.text("valid\n")
+    } else {
+        add_violations(out, violations)
     }
-    out.field("violations ", u128::from(violations))?;
-    out.text("\n")
 }
