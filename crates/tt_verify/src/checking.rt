@@ -22,7 +22,7 @@ use tt_solution::Published;
 use tt_text::Reply;
 
 /// Adds what is wrong with the listed classes and with the students' lists.
-#[tactic(auto, using(std::proofs::Common::append_assoc), unfolding(crate::specs::Violations::listing_faults))]
+#[tactic(auto, using(crate::proofs::CountLemmas::limit_faults_counted, std::proofs::Common::append_assoc), unfolding(crate::specs::Violations::listing_faults))]
 fn add_listing_faults(
     alloc: Global,
     problem: &Problem,
@@ -37,7 +37,7 @@ fn add_listing_faults(
     let counts = student_counts(alloc, problem, published)?;
     add_class_faults(problem, published, plan, found)?;
     add_list_faults(problem, published, found)?;
-    add_limit_faults(problem, published, &counts, found)
+    add_limit_faults(problem, &counts, found)
 }
 
 /// Adds what is counted as hard: clashes, closed rooms and required rules.

@@ -4,8 +4,8 @@ ghost use Rattle.tt_bits.specs.Times.{overlaps};
 ghost use Rattle.tt_clash.specs.Blocked.{is_closed};
 ghost use Rattle.tt_score.specs.Members.{AreSpotsOf};
 ghost use Rattle.tt_solution.specs.Timetable.{IsTimetableOf};
-ghost use Rattle.tt_verify.specs.Counts.{AreCounts};
-ghost use Rattle.tt_verify.specs.Violations.{class_fault, class_faults, closed_fault, closed_faults, limit_fault_with, limit_faults};
+ghost use Rattle.tt_verify.specs.Counts.{limit_faults_by};
+ghost use Rattle.tt_verify.specs.Violations.{class_fault, class_faults, closed_fault, closed_faults, limit_fault_with};
 
 use crate::violation::Violation;
 use std::alloc::AllocError;
@@ -71,17 +71,15 @@ fn add_limit_fault(
 }
 
 /// Adds each class that more students have than its limit allows, by how many have each class.
-#[tactic(auto, using(crate::proofs::WalkLemmas::pieces_more, std::proofs::Common::append_assoc), unfolding(crate::specs::Violations::limit_fault_at))]
+#[tactic(auto, using(crate::proofs::WalkLemmas::pieces_more, std::proofs::Common::append_assoc))]
 pub fn add_limit_faults(
     problem: &Problem,
-    published: &Published,
     counts: &[u32],
     found: &mut Vec<Violation>,
 ) -> Result<(), AllocError>
-    requires { AreCounts (length problem.now.classes) published.now.lists counts.now }
-    ensures { OnOk result (found.new.items ≡ found.old.items ++ limit_faults problem.now published.now.lists) }
+    requires { length counts.now ≡ length problem.now.classes }
+    ensures { OnOk result (found.new.items ≡ found.old.items ++ limit_faults_by problem.now counts.now) }
 {
-    let _ = published;
     for class in 0..problem.class_count() {
         add_limit_fault(problem, class, counts[class as usize], found)?;
     }
