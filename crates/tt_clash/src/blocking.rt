@@ -1,16 +1,14 @@
-ghost use Rattle.std.specs.Prelude.{◌≡◌, ◌<◌, ◌≤◌, length, IfSome};
+ghost use Rattle.std.specs.Prelude.{◌≡◌, ◌<◌, length, IfSome};
 ghost use Rattle.std.specs.List.{list_any};
 ghost use Rattle.tt_bits.specs.Times.{overlaps};
 ghost use Rattle.tt_bits.specs.Spots.{IsBelow};
-ghost use Rattle.tt_problem.specs.Valid.{IsValidRule};
-ghost use Rattle.tt_clash.specs.RulesOf.{IsMemberOf};
-ghost use Rattle.tt_clash.specs.Blocked.{is_closed, blocks_alone, blocked_by};
+ghost use Rattle.tt_clash.specs.Blocked.{is_closed, blocked_by};
 
 use crate::Block;
 use crate::closures::Closures;
 use crate::rules::rules_of;
 use tt_bits::{Spot, Time};
-use tt_problem::{Problem, Rule};
+use tt_problem::Problem;
 
 /// Why the spot is blocked for the class, if it is.
 pub fn blocked(problem: &Problem, closures: &Closures, class: u32, spot: Spot) -> Option<Block>
@@ -23,7 +21,8 @@ pub fn blocked(problem: &Problem, closures: &Closures, class: u32, spot: Spot) -
         return Some(Block::Closed);
     }
     for with in rules_of(problem, class) {
-        if blocks_alone(problem, problem.rule(with.rule), class, spot) {
+        let rule = problem.rule(with.rule);
+        if rule.required && rule.kind.exceeds_alone(spot) {
             return Some(Block::Rule(with.rule));
         }
     }
@@ -51,15 +50,4 @@ fn overlaps_some(times: &[Time], time: Time) -> bool
     ensures { result ≡ list_any (overlaps time) times.now }
 {
     times.iter().any(|other| time.overlaps(other))
-}
-
-/// Whether a rule with the class is a required group rule whose amount is above 0 with the class
-/// alone at the spot.
-fn blocks_alone(problem: &Problem, rule: &Rule, class: u32, spot: Spot) -> bool
-    requires valid { IsValidRule problem.now rule.now }
-    requires member { IsMemberOf rule.now.members class }
-    requires weeks { IsBelow problem.now.nr_weeks spot }
-    ensures { result ≡ blocks_alone problem.now rule.now class spot }
-{
-    rule.required && rule.kind.exceeds_alone(spot)
 }

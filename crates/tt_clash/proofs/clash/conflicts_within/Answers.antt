@@ -1,4 +1,4 @@
-use Rattle.std.proofs.Common.{◌≡◌, ◌≤◌, ◌<◌, ◌∙◌, ap, arith, length, sym, true, false}
+use Rattle.std.proofs.Common.{◌<◌, ap, arith, length, sym}
 use Rattle.std.proofs.lemmas.Bool.{le-leb, lt-leb}
 use Rattle.tt_problem.specs.RulePlaces.{rules_of}
 use Rattle.tt_clash.specs.Placings.{placing_of}

@@ -1,4 +1,4 @@
-use Rattle.std.proofs.Common.{◌≡◌, ℕ, ◌<◌, ◌≤◌, ◌++◌, sym, ap, subst, refl, ◌∙◌, arith, length, get_or, map, List, []}
+use Rattle.std.proofs.Common.{◌≡◌, ℕ, ◌<◌, ◌≤◌, ◌++◌, sym, ap, subst, refl, ◌∙◌, arith, length, get_or, map, List}
 use Rattle.std.proofs.lemmas.List.{take_all}
 use Rattle.tt_problem.specs.declared.parts.RulePlace.{RulePlace}
 use Rattle.tt_problem.specs.RulePlaces.{rules_of}

@@ -1,4 +1,4 @@
-use Rattle.std.proofs.Common.{◌≡◌, arith}
+use Rattle.std.proofs.Common.{arith}
 use Rattle.std.specs.Prelude.{vec_capacity}
 use Rattle.std.proofs.lemmas.List.{with_items_is}
 use Rattle.tt_clash.proofs.ListedLemmas.{listed-within, nothing-listed}
