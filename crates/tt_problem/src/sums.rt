@@ -1,12 +1,12 @@
 //! Sums over the parts of a problem, for telling whether they are within its limits. Only the tables of
 //! cells and of seats take memory.
 
-ghost use Rattle.std.specs.Prelude.{◌≡◌, ◌≤◌, ◌<◌, All, IfOk, length, map};
+ghost use Rattle.std.specs.Prelude.{◌≡◌, ◌≤◌, ◌<◌, All, IfOk, length, map, slice_index, sum_by};
 ghost use Rattle.tt_base.specs.Limits.{most_members};
 ghost use Rattle.tt_problem.specs.Spans.{Covers, IsSpanWithin};
 ghost use Rattle.tt_problem.specs.Valid.{IsValidRule, IsValidStudent, course_spans};
-ghost use Rattle.tt_problem.specs.Seats.{most_of_course, most_subparts, most_seats};
-ghost use Rattle.tt_problem.specs.Sums.{time_cells, class_cells, cells_of, member_count, cells_at, links_of_rule, links_of, seats_of};
+ghost use Rattle.tt_problem.specs.Seats.{most_of_course, most_seats};
+ghost use Rattle.tt_problem.specs.Sums.{time_cells, class_cells, cells_of, member_count, links_of, seats_of};
 
 use crate::parts::{ClassPart, CoursePart, Parts, Rule, Span, StudentPart, TimeChoice};
 use std::alloc::{AllocError, Global};
@@ -68,30 +68,17 @@ pub fn cell_table(alloc: Global, parts: &Parts) -> Result<Row<u16>, AllocError>
     Ok(Row::from_vec(cells))
 }
 
-/// The most cells that a time of the class at a place takes. `cells` has the most of each class.
-#[tactic(auto, using(crate::proofs::SumLemmas::cell_in_table, crate::proofs::SumLemmas::few_cells))]
-fn cells_at(parts: &Parts, cells: &[u16], class: u32) -> u32
-    requires cells { cells.now ≡ map class_cells parts.now.classes }
-    requires class { class < length parts.now.classes }
-    ensures cells { result ≡ cells_at parts.now class }
-    ensures few { result ≤ 896 }
-{
-    let _ = parts;
-    u32::from(cells[class as usize])
-}
-
-/// The most cells that the members of a rule take together. `cells` has the most of each class.
-#[tactic(auto, unfolding(crate::specs::Sums::links_of_rule))]
-fn links_of_rule(parts: &Parts, cells: &[u16], rule: &Rule) -> u32
-    requires cells { cells.now ≡ map class_cells parts.now.classes }
+/// The most cells that the members of a rule take together, by the most of each class.
+fn links_of_rule(cells: &[u16], rule: &Rule) -> u32
+    requires few { All (λ most. most ≤ 896) cells.now }
     requires short { length rule.now.members ≤ most_members }
-    requires classes { All (λ class. class < length parts.now.classes) rule.now.members }
-    ensures links { result ≡ links_of_rule parts.now rule.now }
+    requires classes { All (λ class. class < length cells.now) rule.now.members }
+    ensures links { result ≡ sum_by (slice_index cells.now) rule.now.members }
     ensures few { result ≤ 1792000 }
 {
     let mut sum = 0;
     for class in rule.members.as_slice() {
-        sum += cells_at(parts, cells, *class);
+        sum += u32::from(cells[*class as usize]);
     }
     sum
 }
@@ -107,7 +94,7 @@ pub fn links_of(parts: &Parts, cells: &[u16]) -> u64
     let mut sum = 0;
     for rule in parts.rules.as_slice() {
         if rule.kind.counts_blocks() {
-            sum += u64::from(links_of_rule(parts, cells, rule));
+            sum += u64::from(links_of_rule(cells, rule));
         }
     }
     sum
@@ -142,21 +129,6 @@ pub fn seat_table(alloc: Global, parts: &Parts) -> Result<Row<u32>, AllocError>
     Ok(Row::from_vec(seats))
 }
 
-/// The greatest number of subparts of a configuration of the course at a place. `seats` has that of
-/// each course.
-#[tactic(auto, using(crate::proofs::SumLemmas::seats_in_table, crate::proofs::SumLemmas::few_seats))]
-fn most_subparts(parts: &Parts, seats: &[u32], place: u32) -> u32
-    requires seats { seats.now ≡ map (most_of_course parts.now) parts.now.courses }
-    requires configs { Covers parts.now.configs (length parts.now.subparts) }
-    requires few_subparts { length parts.now.subparts ≤ 20000 }
-    requires place { place < length parts.now.courses }
-    ensures most { result ≡ most_subparts parts.now place }
-    ensures few { result ≤ 20000 }
-{
-    let _ = parts;
-    seats[place as usize]
-}
-
 /// The most classes that the list of a student may have. `seats` has for each course the greatest
 /// number of subparts of a configuration.
 #[tactic(auto, unfolding(crate::specs::Seats::most_seats))]
@@ -170,7 +142,7 @@ pub fn most_seats(parts: &Parts, seats: &[u32], student: &StudentPart) -> u32
 {
     let mut most = 0;
     for place in student.courses.as_slice() {
-        most += most_subparts(parts, seats, *place);
+        most += seats[*place as usize];
     }
     most
 }
