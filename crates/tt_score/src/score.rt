@@ -7,7 +7,7 @@ use crate::joint::JointRoster;
 use crate::making::new_groups;
 use crate::rules::{RuleSums, cost_of, set_in_rules};
 use crate::students::{conflicts_with, conflicts_without, students_with_courses, unsectioned_at};
-use crate::totals::{Totals, weighted};
+use crate::totals::{Penalties, Totals};
 use crate::trial::{Tried, costs_with};
 use std::alloc::{AllocError, Global};
 use tt_bits::{Spot, Time, Value};
@@ -315,19 +315,18 @@ impl Score {
     pub fn totals(&self) -> Totals
         ensures { (p : Parts) → Fits p self.now → result ≡ totals_of p (closures_of self.now) (plan_of self.now) (student_lists self.now) }
     {
-        let student = self.roster.roster().conflicts();
-        Totals {
+        let penalties = Penalties {
             time: self.classes.time,
             room: self.classes.room,
             distribution: self.rules.distribution,
-            student,
-            total: weighted(
-                self.weights,
-                self.classes.time,
-                self.classes.room,
-                self.rules.distribution,
-                student,
-            ),
+            student: self.roster.roster().conflicts(),
+        };
+        Totals {
+            time: penalties.time,
+            room: penalties.room,
+            distribution: penalties.distribution,
+            student: penalties.student,
+            total: penalties.weighted(self.weights),
             hard: self.occupancy.clashes() + self.classes.closed + self.rules.hard,
             unplaced: self.classes.unplaced,
             unsectioned: self.unsectioned,

@@ -4,9 +4,9 @@ use Rattle.std.specs.Option.{option_map_or}
 use Rattle.tt_bits.specs.declared.times.Spot.{Spot}
 use Rattle.tt_bits.specs.declared.times.Value.{Value}
 use Rattle.tt_problem.specs.declared.parts.Parts.{Parts}
-use Rattle.tt_score.specs.declared.totals.Totals.{Totals}
 use Rattle.tt_score.specs.Amounts.{rule_cost}
-use Rattle.tt_score.specs.Totals.{totals_of}
+use Rattle.tt_score.specs.Totals.{penalties_of, totals_of}
+use Rattle.tt_score.specs.Weighted.{weighted}
 use Rattle.tt_solution.specs.Published.{published_plan}
 use Rattle.tt_solution.specs.Timetable.{Timetable}
 use Rattle.tt_verify.specs.declared.sums.Sums.{Sums}
@@ -16,17 +16,10 @@ use Rattle.tt_verify.specs.Lines.{sum_line}
 unfoldable pub cost_at : Parts → List (Option Spot) → (place : ℕ) → ℕ
 cost_at p spots place = option_map_or (rule_cost p spots) (slice_get p.rules place) 0
 
--- the sums are those of these totals
-pub record AreSumsIn (t : Totals) (s : Sums) : Type 0 where
-  pub time_is : s.time ≡ t.time
-  pub room_is : s.room ≡ t.room
-  pub distribution_is : s.distribution ≡ t.distribution
-  pub student_is : s.student ≡ t.student
-  pub total_is : s.total ≡ t.total
-
 -- the sums are those of a plan and of the lists of the students
-abbrev pub AreSumsOf : Parts → List (Option Value) → List (List ℕ) → Sums → Type 0
-AreSumsOf p plan lists s = AreSumsIn (totals_of p [] plan lists) s
+pub record AreSumsOf (p : Parts) (plan : List (Option Value)) (lists : List (List ℕ)) (s : Sums) : Type 0 where
+  pub penalties_are : s.penalties ≡ penalties_of p plan lists
+  pub total_is : s.total ≡ weighted p.weights (penalties_of p plan lists)
 
 -- how many hard conflicts the totals of a timetable count
 abbrev pub hard_count : Parts → Timetable → ℕ
@@ -34,4 +27,4 @@ hard_count p t = (totals_of p [] (published_plan p t) t.lists).hard
 
 -- the line on these sums and hard conflicts
 abbrev pub sums_line : Sums → (hard : ℕ) → List ℕ
-sums_line s hard = sum_line s.time s.room s.distribution s.student s.total hard
+sums_line s hard = sum_line s.penalties.time s.penalties.room s.penalties.distribution s.penalties.student s.total hard

@@ -99,10 +99,11 @@ pub fn add_lines(
 pub fn add_sum_line(out: &mut Reply, sums: &Sums, hard: u64) -> Result<(), AllocError>
     ensures { OnOk result (out.new ≡ out.old ++ sums_line sums.now hard) }
 {
-    out.field("sum time ", u128::from(sums.time))?;
-    out.field(" room ", u128::from(sums.room))?;
-    out.field(" distribution ", sums.distribution)?;
-    out.field(" student ", u128::from(sums.student))?;
+    let penalties = sums.penalties;
+    out.field("sum time ", u128::from(penalties.time))?;
+    out.field(" room ", u128::from(penalties.room))?;
+    out.field(" distribution ", penalties.distribution)?;
+    out.field(" student ", u128::from(penalties.student))?;
     out.field(" total ", sums.total)?;
     out.field(" hard ", u128::from(hard))?;
     out.text("\n")

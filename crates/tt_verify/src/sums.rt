@@ -15,15 +15,13 @@ use std::alloc::{AllocError, Global};
 use tt_bits::{Spot, Value};
 use tt_plan::{room_penalty, time_penalty};
 use tt_problem::{DistKind, Problem, Rule, Weights};
+use tt_score::Penalties;
 use tt_solution::Published;
 
 /// The penalties of a plan and of the lists of the students, and their total.
 #[derive(Clone, Copy)]
 pub struct Sums {
-    pub time: u64,
-    pub room: u64,
-    pub distribution: u128,
-    pub student: u64,
+    pub penalties: Penalties,
     pub total: u128,
 }
 
@@ -121,15 +119,15 @@ fn cost_sum(alloc: Global, problem: &Problem, spots: &[Option<Spot>]) -> Result<
 }
 
 /// The four penalties together, each times its weight.
-fn weighted(weights: Weights, time: u64, room: u64, distribution: u128, student: u64) -> u128
+fn weighted(weights: Weights, penalties: Penalties) -> u128
     requires weights { AreValidWeights weights }
-    requires distribution { distribution < 2 ^ 100 }
-    ensures { result ≡ weighted weights time room distribution student }
+    requires few_costs { penalties.distribution < 2 ^ 100 }
+    ensures { result ≡ weighted weights penalties }
 {
-    u128::from(weights.time) * u128::from(time)
-        + u128::from(weights.room) * u128::from(room)
-        + u128::from(weights.distribution) * distribution
-        + u128::from(weights.student) * u128::from(student)
+    u128::from(weights.time) * u128::from(penalties.time)
+        + u128::from(weights.room) * u128::from(penalties.room)
+        + u128::from(weights.distribution) * penalties.distribution
+        + u128::from(weights.student) * u128::from(penalties.student)
 }
 
 /// The penalties of a plan and of the published lists, and their total.
@@ -147,15 +145,14 @@ pub fn sums_of(
     requires fit { AreSpotsOf problem.now spots.now }
     ensures { IfOk result (λ s. AreSumsOf problem.now plan.now published.now.lists s) }
 {
-    let time = time_sum(problem, plan);
-    let room = room_sum(problem, plan);
-    let distribution = cost_sum(alloc, problem, spots)?;
-    let student = student_conflicts(problem, published, spots);
+    let penalties = Penalties {
+        time: time_sum(problem, plan),
+        room: room_sum(problem, plan),
+        distribution: cost_sum(alloc, problem, spots)?,
+        student: student_conflicts(problem, published, spots),
+    };
     Ok(Sums {
-        time,
-        room,
-        distribution,
-        student,
-        total: weighted(problem.weights(), time, room, distribution, student),
+        penalties,
+        total: weighted(problem.weights(), penalties),
     })
 }

@@ -1,8 +1,8 @@
-use Rattle.std.proofs.Common.{◌≡◌, ◌∙◌, ◌+◌, ◌≤◌, ap, refl, arith}
+use Rattle.std.proofs.Common.{◌∙◌, ◌+◌, ◌≤◌, ap, refl, arith}
 use Rattle.tt_roster.specs.Conflicts.{class_conflicts}
 use Rattle.tt_score.specs.Below.{below}
-use Rattle.tt_score.proofs.TotalLemmas.{below_none, below_some, weighted_grows}
-use Rattle.tt_score.proofs.TriedLemmas.{AreTried, tried_is}
+use Rattle.tt_score.proofs.TotalLemmas.{below_none, below_some}
+use Rattle.tt_score.proofs.TriedLemmas.{AreTried, total_grows, tried_is}
 use Rattle.tt_score.proofs.score.Score.trial_below.Goals as goal
 use Rattle.tt_score.proofs.score.Score.trial_below.Goals.{After-tried-tried, After-class_gain-more}
 
@@ -17,34 +17,25 @@ found c =
     tried_is c.args.problem.now c.args.self.now c.args.class c.args.value c.tried-tried.result c.args.others _ c.requires.fits c.requires.value c.tried-tried.ensures c.requires.others
     (rw c.sure_gain-sure.ensures.same at c.class_gain-more.ensures.pairs)
 
-pub total-requires-clause-few_students : goal.total-requires-clause-few_students
-total-requires-clause-few_students c = omega (arith, (whole (goal.at.total-requires-clause-few_students c).After-tried-tried).few)
-
 pub returns-then-total-bound-clause-total : goal.returns-then-total-bound-clause-total
 returns-then-total-bound-clause-total c =
     let x = c.tried-tried.result in
     let all = whole (goal.at.returns-then-total-bound-clause-total c).After-tried-tried in
     let part : c.args.others ≤ c.args.others + class_conflicts c.args.problem.now.travel c.args.self.now.roster.spots c.args.self.now.roster.seats c.args.class x.spot = omega arith in
-    below_none c.args.bound _ (omega (arith, c.if-total-bound.true, c.total.ensures, weighted_grows c.args.self.now.weights x.time x.room x.distribution _ _ part, all.total))
+    below_none c.args.bound _ (omega (arith, c.if-total-bound.true, c.total.ensures, total_grows c.args.self.now.weights x _ _ part, all.total))
 
 pub overflow_add-others : goal.overflow_add-others
 overflow_add-others c = omega (arith, c.sure_gain-sure.ensures.part, (whole (goal.at.overflow_add-others c).After-tried-tried).few)
-
-pub total-requires-2-clause-few_students : goal.total-requires-2-clause-few_students
-total-requires-2-clause-few_students c = omega (arith, c.sure_gain-sure.ensures.part, (whole (goal.at.total-requires-2-clause-few_students c).After-tried-tried).few)
 
 pub returns-then-total-bound-2-clause-total : goal.returns-then-total-bound-2-clause-total
 returns-then-total-bound-2-clause-total c =
     let x = c.tried-tried.result in
     let all = whole (goal.at.returns-then-total-bound-2-clause-total c).After-tried-tried in
     let part : c.args.others + c.sure_gain-sure.result ≤ c.args.others + class_conflicts c.args.problem.now.travel c.args.self.now.roster.spots c.args.self.now.roster.seats c.args.class x.spot = omega (arith, c.sure_gain-sure.ensures.part) in
-    below_none c.args.bound _ (omega (arith, c.if-total-bound-2.true, c.total-2.ensures, weighted_grows c.args.self.now.weights x.time x.room x.distribution _ _ part, all.total))
+    below_none c.args.bound _ (omega (arith, c.if-total-bound-2.true, c.total-2.ensures, total_grows c.args.self.now.weights x _ _ part, all.total))
 
 pub overflow_add-others-2 : goal.overflow_add-others-2
 overflow_add-others-2 c = omega (arith, (found (goal.at.overflow_add-others-2 c).After-class_gain-more).few)
-
-pub total-total-requires-clause-few_students : goal.total-total-requires-clause-few_students
-total-total-requires-clause-few_students c = omega (arith, (found (goal.at.total-total-requires-clause-few_students c).After-class_gain-more).few)
 
 pub returns-then-total-bound-3-clause-total : goal.returns-then-total-bound-3-clause-total
 returns-then-total-bound-3-clause-total c =

@@ -31,7 +31,5 @@ returns c =
       time = rw c.as_slice-2.ensures.value at c.paid_with-paid.ensures.time;
       room = rw c.as_slice-2.ensures.value at c.paid_with-paid.ensures.room;
       distribution = c.costs_with-distribution.ensures ∙ ap (cost_sum p) spots;
-      few_time = c.paid_with-paid.ensures.few_time;
-      few_room = c.paid_with-paid.ensures.few_room;
       few_costs = omega (arith, c.costs_with-distribution.ensures, few_cost_sum p (slice_set s.occupancy.spots c.args.class (Some c.spot-spot.result)) c.requires.fits.kept.valid);
     }
