@@ -398,15 +398,13 @@ impl Score {
         let spot = tt_plan::spot(problem, class, value);
         let has = spot_now(problem, self.plan.as_slice(), class);
         let paid = paid_with(problem, self.plan.as_slice(), class, value, self.classes);
-        let distribution = costs_with(
+        let placing = Placing {
             problem,
-            &self.occupancy,
-            self.groups.as_slice(),
+            spots: self.occupancy.spots(),
             class,
-            has,
             spot,
-            self.rules.distribution,
-        );
+        };
+        let distribution = costs_with(&placing, self.groups.as_slice(), self.rules.distribution);
         Tried {
             has,
             spot,
