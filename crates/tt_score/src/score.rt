@@ -379,7 +379,7 @@ impl Score {
         if tried.total(self.weights, others) >= bound {
             return None;
         }
-        let sure = self.roster.sure_gain(problem, class, tried.spot);
+        let sure = self.roster.sure_gain(class, tried.spot);
         if tried.total(self.weights, others + sure) >= bound {
             return None;
         }

@@ -25,13 +25,13 @@ returns-then-total-bound-clause-total c =
     below_none c.args.bound _ (omega (arith, c.if-total-bound.true, c.total.ensures, total_grows c.args.self.now.weights x _ _ part, all.total))
 
 pub overflow_add-others : goal.overflow_add-others
-overflow_add-others c = omega (arith, c.sure_gain-sure.ensures.part, (whole (goal.at.overflow_add-others c).After-tried-tried).few)
+overflow_add-others c = omega (arith, c.sure_gain-sure.ensures.part c.args.problem.now c.requires.fits.roster, (whole (goal.at.overflow_add-others c).After-tried-tried).few)
 
 pub returns-then-total-bound-2-clause-total : goal.returns-then-total-bound-2-clause-total
 returns-then-total-bound-2-clause-total c =
     let x = c.tried-tried.result in
     let all = whole (goal.at.returns-then-total-bound-2-clause-total c).After-tried-tried in
-    let part : c.args.others + c.sure_gain-sure.result ≤ c.args.others + class_conflicts c.args.problem.now.travel c.args.self.now.roster.spots c.args.self.now.roster.seats c.args.class x.spot = omega (arith, c.sure_gain-sure.ensures.part) in
+    let part : c.args.others + c.sure_gain-sure.result ≤ c.args.others + class_conflicts c.args.problem.now.travel c.args.self.now.roster.spots c.args.self.now.roster.seats c.args.class x.spot = omega (arith, c.sure_gain-sure.ensures.part c.args.problem.now c.requires.fits.roster) in
     below_none c.args.bound _ (omega (arith, c.if-total-bound-2.true, c.total-2.ensures, total_grows c.args.self.now.weights x _ _ part, all.total))
 
 pub overflow_add-others-2 : goal.overflow_add-others-2
