@@ -31,11 +31,11 @@ pub struct Score {
     roster: JointRoster,
     unsectioned: u32,
     closures: Closures,
-    ghost small: { AreSmall occupancy classes rules weights roster },
+    ghost small: { AreSmall occupancy classes rules weights },
 }
 
 impl Score {
-    ghost use Rattle.std.specs.Prelude.{◌≡◌, ◌↔◌, ◌<◌, ◌≤◌, ◌++◌, ◌∷◌, All, Some, None, IsSome, IfSome, IsTrue, IfOk, OnOk, OnErr, [], false, true, length, slice_index, replicate, slice_get, slice_set, slice_index_or, option_and_then, nat_le};
+    ghost use Rattle.std.specs.Prelude.{◌≡◌, ◌↔◌, ◌<◌, ◌≤◌, ◌++◌, ◌∷◌, Some, None, IsSome, IfSome, IsTrue, IfOk, OnOk, OnErr, [], false, true, length, slice_index, replicate, slice_get, slice_set, slice_index_or, option_and_then, nat_le};
     ghost use Rattle.tt_problem.specs.declared.parts.Parts.{Parts};
     ghost use Rattle.tt_problem.specs.declared.parts.Rule.{Rule};
     ghost use Rattle.tt_clash.specs.Blocked.{blocked_by};
