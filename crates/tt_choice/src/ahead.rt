@@ -21,48 +21,30 @@ fn is_among(spans: &[Span], class: u32) -> bool
 /// Whether the parent of a class, where it has one, is in a front, already taken or a class of the
 /// subparts that are still to come.
 #[tactic(auto, using(tt_base::proofs::ListLemmas::listed_turned))]
-fn may_have_parent(
-    standing: &Standing,
-    taken: &[u32],
-    front: &[u32],
-    rest: &[Span],
-    class: u32,
-) -> bool
-    ensures { result ≡ may_have_parent (situation_in standing.now taken.now) front.now rest.now class }
+fn may_have_parent(standing: &Standing, front: &[u32], rest: &[Span], class: u32) -> bool
+    ensures { result ≡ may_have_parent (situation_in standing.now) front.now rest.now class }
 {
     match standing.parent_of(class) {
         None => true,
         Some(parent) => {
-            front.contains(&parent) || taken.contains(&parent) || is_among(rest, parent)
+            front.contains(&parent) || standing.taken.contains(&parent) || is_among(rest, parent)
         }
     }
 }
 
 /// Whether a class has a seat, and its parent may come too.
-pub(crate) fn may_come(
-    standing: &Standing,
-    taken: &[u32],
-    front: &[u32],
-    rest: &[Span],
-    class: u32,
-) -> bool
-    ensures { result ≡ may_come (situation_in standing.now taken.now) front.now rest.now class }
+pub(crate) fn may_come(standing: &Standing, front: &[u32], rest: &[Span], class: u32) -> bool
+    ensures { result ≡ may_come (situation_in standing.now) front.now rest.now class }
 {
-    standing.has_seat(class) && may_have_parent(standing, taken, front, rest, class)
+    standing.has_seat(class) && may_have_parent(standing, front, rest, class)
 }
 
 /// Whether a subpart has a class that may come.
-fn can_be_filled(
-    standing: &Standing,
-    taken: &[u32],
-    front: &[u32],
-    rest: &[Span],
-    span: Span,
-) -> bool
-    ensures { result ≡ list_any (may_come (situation_in standing.now taken.now) front.now rest.now) (places_between span.first span.after) }
+fn can_be_filled(standing: &Standing, front: &[u32], rest: &[Span], span: Span) -> bool
+    ensures { result ≡ list_any (may_come (situation_in standing.now) front.now rest.now) (places_between span.first span.after) }
 {
     for class in span.first..span.after {
-        if may_come(standing, taken, front, rest, class) {
+        if may_come(standing, front, rest, class) {
             return true;
         }
     }
@@ -70,16 +52,16 @@ fn can_be_filled(
 }
 
 /// Whether each of the subparts that are still to come has a class that may come.
-pub(crate) fn is_open(standing: &Standing, taken: &[u32], front: &[u32], rest: &[Span]) -> bool
-    ensures { result ≡ is_open (situation_in standing.now taken.now) front.now rest.now }
+pub(crate) fn is_open(standing: &Standing, front: &[u32], rest: &[Span]) -> bool
+    ensures { result ≡ is_open (situation_in standing.now) front.now rest.now }
 {
     rest.iter()
-        .all(|span| can_be_filled(standing, taken, front, rest, *span))
+        .all(|span| can_be_filled(standing, front, rest, *span))
 }
 
 /// The fewest classes of a front that a class of a span with a seat conflicts with.
 fn least_with(standing: &Standing, front: &[u32], span: Span) -> u64
-    ensures least { IsLeastWith (situation_in standing.now []) front.now span result }
+    ensures least { IsLeastWith (situation_in standing.now) front.now span result }
     ensures few { result ≤ length front.now }
 {
     let mut least = front.len() as u64;
@@ -101,7 +83,7 @@ fn least_with(standing: &Standing, front: &[u32], span: Span) -> u64
 pub(crate) fn sure_across(standing: &Standing, front: &[u32], rest: &[Span]) -> u64
     requires few_front { length front.now ≤ 20000 }
     requires few_rest { length rest.now ≤ 20000 }
-    ensures across { IsAcross (situation_in standing.now []) front.now rest.now result }
+    ensures across { IsAcross (situation_in standing.now) front.now rest.now result }
     ensures few { result ≤ 400000000 }
 {
     let mut pairs = 0;
@@ -113,10 +95,9 @@ pub(crate) fn sure_across(standing: &Standing, front: &[u32], rest: &[Span]) -> 
 
 /// The lesser of a number and the pairs that a class is sure to have with those already taken and
 /// with those of later subparts. A class without a seat lessens nothing.
-fn lessened(standing: &Standing, taken: &[u32], class: u32, rest: &[Span], least: u64) -> u64
-    requires few_taken { length taken.now ≤ 800000 }
+fn lessened(standing: &Standing, class: u32, rest: &[Span], least: u64) -> u64
     requires few_rest { length rest.now ≤ 20000 }
-    ensures sure { IsSureOf (situation_in standing.now taken.now) class rest.now result }
+    ensures sure { IsSureOf (situation_in standing.now) class rest.now result }
     ensures less { result ≤ least }
 {
     if !standing.has_seat(class) {
@@ -124,20 +105,19 @@ fn lessened(standing: &Standing, taken: &[u32], class: u32, rest: &[Span], least
     }
     let front = [class];
     let across = sure_across(standing, &front, rest);
-    least.min(standing.pairs_with_taken(taken, class) as u64 + across)
+    least.min(standing.pairs_with_taken(class) as u64 + across)
 }
 
 /// The fewest pairs that a class of a span with a seat is sure to have with those already taken and
 /// with those of later subparts.
-fn least_pairs(standing: &Standing, taken: &[u32], span: Span, rest: &[Span]) -> u64
-    requires few_taken { length taken.now ≤ 800000 }
+fn least_pairs(standing: &Standing, span: Span, rest: &[Span]) -> u64
     requires few_rest { length rest.now ≤ 20000 }
-    ensures least { IsLeastOf (situation_in standing.now taken.now) span rest.now result }
-    ensures few { result ≤ length taken.now + length rest.now }
+    ensures least { IsLeastOf (situation_in standing.now) span rest.now result }
+    ensures few { result ≤ length standing.now.taken.now + length rest.now }
 {
-    let mut least = (taken.len() + rest.len()) as u64;
+    let mut least = (standing.taken.len() + rest.len()) as u64;
     for class in span.first..span.after {
-        least = lessened(standing, taken, class, rest, least);
+        least = lessened(standing, class, rest, least);
         if least == 0 {
             return 0;
         }
@@ -147,11 +127,10 @@ fn least_pairs(standing: &Standing, taken: &[u32], span: Span, rest: &[Span]) ->
 
 /// Writes how many pairs are sure to come, from each subpart on: pairs with the classes already taken,
 /// and pairs among the classes that come.
-pub(crate) fn look_ahead(standing: &Standing, taken: &[u32], subparts: &[Span], ahead: &mut [u64])
+pub(crate) fn look_ahead(standing: &Standing, subparts: &[Span], ahead: &mut [u64])
     requires few { length subparts.now ≤ 20000 }
-    requires few_taken { length taken.now ≤ 800000 }
     requires long { length subparts.now < length ahead.old }
-    ensures { AreSure (situation_in standing.now taken.now) subparts.now ahead.new }
+    ensures { AreSure (situation_in standing.now) subparts.now ahead.new }
 {
     let mut place = subparts.len();
     ahead[place] = 0;
@@ -159,6 +138,6 @@ pub(crate) fn look_ahead(standing: &Standing, taken: &[u32], subparts: &[Span], 
         let sure = ahead[place];
         let rest = &subparts[place..];
         place -= 1;
-        ahead[place] = least_pairs(standing, taken, subparts[place], rest) + sure;
+        ahead[place] = least_pairs(standing, subparts[place], rest) + sure;
     }
 }

@@ -34,42 +34,38 @@ fn is_fewer(found: Option<Found>, pairs: u64) -> bool
 }
 
 /// How many pairs a front adds together with one more class.
-fn pairs_with(standing: &Standing, taken: &[u32], front: &[u32], pairs: u64, class: u32) -> u64
-    requires pairs { pairs ≡ pairs_added (situation_in standing.now taken.now) front.now }
-    requires few_taken { length taken.now ≤ 800000 }
+fn pairs_with(standing: &Standing, front: &[u32], pairs: u64, class: u32) -> u64
+    requires pairs { pairs ≡ pairs_added (situation_in standing.now) front.now }
     requires few { length front.now ≤ 20000 }
-    ensures pairs { result ≡ pairs_added (situation_in standing.now taken.now) (front.now ++ class ∷ []) }
+    ensures pairs { result ≡ pairs_added (situation_in standing.now) (front.now ++ class ∷ []) }
     ensures few { result ≤ 17000000000 }
 {
-    pairs
-        + standing.pairs_with_taken(taken, class) as u64
-        + standing.pairs_with(front, class) as u64
+    pairs + standing.pairs_with_taken(class) as u64 + standing.pairs_with(front, class) as u64
 }
 
 /// Whether a choice that goes on from a front with a class of each later subpart may be taken for the
 /// best. `ahead` pairs of these classes are sure to come, beside those with the front.
 fn leads_on(
     standing: &Standing,
-    taken: &[u32],
     front: &[u32],
     rest: &[Span],
     pairs: u64,
     ahead: u64,
     found: Option<Found>,
 ) -> bool
-    requires pairs { pairs ≡ pairs_added (situation_in standing.now taken.now) front.now }
-    requires sure { IsSure (situation_in standing.now taken.now) rest.now ahead }
+    requires pairs { pairs ≡ pairs_added (situation_in standing.now) front.now }
+    requires sure { IsSure (situation_in standing.now) rest.now ahead }
     requires few_front { length front.now ≤ 20000 }
     requires few_rest { length rest.now ≤ 20000 }
     requires few_pairs { pairs ≤ 17000000000 }
     requires few_ahead { ahead ≤ 16400000000 }
-    ensures { result ≡ false → IsInVain (situation_in standing.now taken.now) found front.now rest.now }
+    ensures { result ≡ false → IsInVain (situation_in standing.now) found front.now rest.now }
 {
     let sure = pairs + ahead;
     if !is_fewer(found, sure) {
         return false;
     }
-    if !is_open(standing, taken, front, rest) {
+    if !is_open(standing, front, rest) {
         return false;
     }
     let across = sure_across(standing, front, rest);
@@ -80,7 +76,6 @@ fn leads_on(
 /// choice that goes on from it can be taken for the best.
 fn pairs_through(
     standing: &Standing,
-    taken: &[u32],
     front: &[u32],
     rest: &[Span],
     pairs: u64,
@@ -88,22 +83,21 @@ fn pairs_through(
     found: Option<Found>,
 ) -> Option<u64>
     requires some { 0 < length front.now }
-    requires pairs { pairs ≡ pairs_added (situation_in standing.now taken.now) (take (length front.now - 1) front.now) }
-    requires sure { IsSure (situation_in standing.now taken.now) rest.now ahead }
-    requires few_taken { length taken.now ≤ 800000 }
+    requires pairs { pairs ≡ pairs_added (situation_in standing.now) (take (length front.now - 1) front.now) }
+    requires sure { IsSure (situation_in standing.now) rest.now ahead }
     requires few_front { length front.now ≤ 20000 }
     requires few_rest { length rest.now ≤ 20000 }
     requires few_ahead { ahead ≤ 16400000000 }
-    ensures some { IfSome result (λ more. more ≡ pairs_added (situation_in standing.now taken.now) front.now) }
-    ensures none { IfNone result (IsInVain (situation_in standing.now taken.now) found front.now rest.now) }
+    ensures some { IfSome result (λ more. more ≡ pairs_added (situation_in standing.now) front.now) }
+    ensures none { IfNone result (IsInVain (situation_in standing.now) found front.now rest.now) }
 {
     let last = front.len() - 1;
     let class = front[last];
-    if !may_come(standing, taken, front, rest, class) {
+    if !may_come(standing, front, rest, class) {
         return None;
     }
-    let more = pairs_with(standing, taken, &front[..last], pairs, class);
-    if leads_on(standing, taken, front, rest, more, ahead, found) {
+    let more = pairs_with(standing, &front[..last], pairs, class);
+    if leads_on(standing, front, rest, more, ahead, found) {
         Some(more)
     } else {
         None
@@ -113,19 +107,18 @@ fn pairs_through(
 /// Takes a whole choice for the best where it adds fewer pairs and is allowed.
 fn keep(
     standing: &Standing,
-    taken: &[u32],
     choice: &[u32],
     pairs: u64,
     best: &mut [u32],
     found: Option<Found>,
 ) -> Option<Found>
-    requires pairs { pairs ≡ pairs_added (situation_in standing.now taken.now) choice.now }
+    requires pairs { pairs ≡ pairs_added (situation_in standing.now) choice.now }
     requires room { length choice.now ≤ length best.old }
-    requires found { IfSome found (IsFoundIn (situation_in standing.now taken.now) best.old) }
-    ensures best { chosen best.new result ≡ better (situation_in standing.now taken.now) (chosen best.old found) choice.now }
-    ensures found { IfSome result (IsFoundIn (situation_in standing.now taken.now) best.new) }
+    requires found { IfSome found (IsFoundIn (situation_in standing.now) best.old) }
+    ensures best { chosen best.new result ≡ better (situation_in standing.now) (chosen best.old found) choice.now }
+    ensures found { IfSome result (IsFoundIn (situation_in standing.now) best.new) }
 {
-    if is_fewer(found, pairs) && standing.is_allowed(taken, choice) {
+    if is_fewer(found, pairs) && standing.is_allowed(choice) {
         best[..choice.len()].copy_from_slice(choice);
         Some(Found {
             count: choice.len(),
@@ -141,23 +134,21 @@ fn keep(
 /// no better choice is passed over.
 fn pass(
     standing: &Standing,
-    taken: &[u32],
     subparts: &[Span],
     ahead: &[u64],
     front: &mut [u32],
     best: &mut [u32],
     found: Option<Found>,
 ) -> Option<Found>
-    requires sure { AreSure (situation_in standing.now taken.now) subparts.now ahead.now }
+    requires sure { AreSure (situation_in standing.now) subparts.now ahead.now }
     requires some { 0 < length subparts.now }
     requires spans { All (λ s. s.after ≤ 20000) subparts.now }
     requires few { length subparts.now ≤ 20000 }
-    requires few_taken { length taken.now ≤ 800000 }
     requires front { length subparts.now ≤ length front.old }
     requires room { length subparts.now ≤ length best.old }
-    requires found { IfSome found (IsFoundIn (situation_in standing.now taken.now) best.old) }
-    ensures best { chosen best.new result ≡ passed (situation_in standing.now taken.now) (chosen best.old found) (choices_of subparts.now) }
-    ensures found { IfSome result (IsFoundIn (situation_in standing.now taken.now) best.new) }
+    requires found { IfSome found (IsFoundIn (situation_in standing.now) best.old) }
+    ensures best { chosen best.new result ≡ passed (situation_in standing.now) (chosen best.old found) (choices_of subparts.now) }
+    ensures found { IfSome result (IsFoundIn (situation_in standing.now) best.new) }
 {
     let mut found = found;
     let mut depth = 0;
@@ -168,7 +159,6 @@ fn pass(
             front[depth] = class;
             match pairs_through(
                 standing,
-                taken,
                 &front[..depth + 1],
                 &subparts[depth + 1..],
                 pairs,
@@ -182,7 +172,7 @@ fn pass(
                         pairs = more;
                         class = subparts[depth].first;
                     } else {
-                        found = keep(standing, taken, &front[..depth + 1], more, best, found);
+                        found = keep(standing, &front[..depth + 1], more, best, found);
                         class += 1;
                     }
                 }
@@ -192,7 +182,7 @@ fn pass(
         } else {
             depth -= 1;
             class = front[depth];
-            pairs = pairs_before(standing, taken, &front[..depth], pairs, class);
+            pairs = pairs_before(standing, &front[..depth], pairs, class);
             class += 1;
         }
     }
@@ -202,7 +192,6 @@ fn pass(
 /// be in a choice, there is none to pass.
 fn pass_open(
     standing: &Standing,
-    taken: &[u32],
     subparts: &[Span],
     ahead: &mut [u64],
     front: &mut [u32],
@@ -212,29 +201,26 @@ fn pass_open(
     requires some { 0 < length subparts.now }
     requires spans { All (λ s. s.after ≤ 20000) subparts.now }
     requires few { length subparts.now ≤ 20000 }
-    requires few_taken { length taken.now ≤ 800000 }
     requires ahead { length subparts.now < length ahead.old }
     requires front { length subparts.now ≤ length front.old }
     requires room { length subparts.now ≤ length best.old }
-    requires found { IfSome found (IsFoundIn (situation_in standing.now taken.now) best.old) }
-    ensures best { chosen best.new result ≡ passed (situation_in standing.now taken.now) (chosen best.old found) (choices_of subparts.now) }
-    ensures found { IfSome result (IsFoundIn (situation_in standing.now taken.now) best.new) }
+    requires found { IfSome found (IsFoundIn (situation_in standing.now) best.old) }
+    ensures best { chosen best.new result ≡ passed (situation_in standing.now) (chosen best.old found) (choices_of subparts.now) }
+    ensures found { IfSome result (IsFoundIn (situation_in standing.now) best.new) }
 {
-    if !is_open(standing, taken, &[], subparts) {
+    if !is_open(standing, &[], subparts) {
         return found;
     }
-    look_ahead(standing, taken, subparts, ahead);
-    pass(standing, taken, subparts, ahead, front, best, found)
+    look_ahead(standing, subparts, ahead);
+    pass(standing, subparts, ahead, front, best, found)
 }
 
 /// How many pairs a front adds, from how many it adds together with one more class.
-fn pairs_before(standing: &Standing, taken: &[u32], front: &[u32], pairs: u64, class: u32) -> u64
-    requires pairs { pairs ≡ pairs_added (situation_in standing.now taken.now) (front.now ++ class ∷ []) }
-    ensures { result ≡ pairs_added (situation_in standing.now taken.now) front.now }
+fn pairs_before(standing: &Standing, front: &[u32], pairs: u64, class: u32) -> u64
+    requires pairs { pairs ≡ pairs_added (situation_in standing.now) (front.now ++ class ∷ []) }
+    ensures { result ≡ pairs_added (situation_in standing.now) front.now }
 {
-    pairs
-        - standing.pairs_with_taken(taken, class) as u64
-        - standing.pairs_with(front, class) as u64
+    pairs - standing.pairs_with_taken(class) as u64 - standing.pairs_with(front, class) as u64
 }
 
 /// The least allowed choice of a course: how many classes it has, which then stand at the front of
@@ -242,7 +228,6 @@ fn pairs_before(standing: &Standing, taken: &[u32], front: &[u32], pairs: u64, c
 /// and `subparts` the subparts of all configurations. `front` is scratch.
 fn least_choice(
     standing: &Standing,
-    taken: &[u32],
     configs: &[Span],
     subparts: &[Span],
     course: Span,
@@ -251,19 +236,18 @@ fn least_choice(
     best: &mut [u32],
 ) -> Option<usize>
     requires tables { AreTables configs.now subparts.now }
-    requires few_taken { length taken.now ≤ 800000 }
     requires course { IsSpanWithin (length configs.now) course }
     requires ahead { length subparts.now < length ahead.old }
     requires front { length subparts.now ≤ length front.old }
     requires room { length subparts.now ≤ length best.old }
     ensures within { IfSome result (λ count. count ≤ length best.new) }
-    ensures choice { chosen_by best.new result ≡ least_choice (situation_in standing.now taken.now) (choices_of_course configs.now subparts.now course) }
+    ensures choice { chosen_by best.new result ≡ least_choice (situation_in standing.now) (choices_of_course configs.now subparts.now course) }
 {
     let mut found = None;
     for place in course.first..course.after {
         let config = configs[place as usize];
         let parts = &subparts[config.first as usize..config.after as usize];
-        found = pass_open(standing, taken, parts, ahead, front, best, found);
+        found = pass_open(standing, parts, ahead, front, best, found);
     }
     match found {
         None => None,
@@ -272,14 +256,13 @@ fn least_choice(
 }
 
 /// How many conflicting pairs a choice adds to the classes taken, pairs inside it among them.
-fn pairs_in(standing: &Standing, taken: &[u32], choice: &[u32]) -> u64
-    requires few_taken { length taken.now ≤ 800000 }
+fn pairs_in(standing: &Standing, choice: &[u32]) -> u64
     requires few { length choice.now ≤ 20000 }
-    ensures { result ≡ pairs_added (situation_in standing.now taken.now) choice.now }
+    ensures { result ≡ pairs_added (situation_in standing.now) choice.now }
 {
     let mut pairs = 0;
     for place in 0..choice.len() {
-        pairs = pairs_with(standing, taken, &choice[..place], pairs, choice[place]);
+        pairs = pairs_with(standing, &choice[..place], pairs, choice[place]);
     }
     pairs
 }
@@ -309,10 +292,9 @@ pub fn least_of_course(
     let problem = state.problem();
     problem.validity();
     let parts = problem.parts();
-    let standing = Standing::new(state, student, wanting);
+    let standing = Standing::new(state, student, wanting, taken);
     least_choice(
         &standing,
-        taken,
         parts.configs.as_slice(),
         parts.subparts.as_slice(),
         problem.course(course).configs,
@@ -330,6 +312,6 @@ pub fn pairs_of(state: &State, student: u32, taken: &[u32], choice: &[u32]) -> u
     requires few { length choice.now ≤ 20000 }
     ensures { result ≡ pairs_added (situation_of state.now.problem state.now.present student [] taken.now) choice.now }
 {
-    let standing = Standing::new(state, student, &[]);
-    pairs_in(&standing, taken, choice)
+    let standing = Standing::new(state, student, &[], taken);
+    pairs_in(&standing, choice)
 }

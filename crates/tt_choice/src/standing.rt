@@ -1,4 +1,4 @@
-ghost use Rattle.std.specs.Prelude.{◌≡◌, ℕ, ◌<◌, Some, List, length};
+ghost use Rattle.std.specs.Prelude.{◌≡◌, ℕ, ◌<◌, ◌≤◌, Some, length};
 ghost use Rattle.tt_bits.specs.Spots.{spot_at};
 ghost use Rattle.tt_bits.specs.declared.times.Spot.{Spot};
 ghost use Rattle.tt_score.specs.Fits.{occupancy_of, student_lists};
@@ -9,16 +9,18 @@ use tt_roster::conflict;
 use tt_score::Score;
 use tt_state::{State, others_with};
 
-/// What the choices of a student are judged by: a score, and those of the classes already taken whose
-/// parent may be missing yet.
+/// What the choices of a student are judged by: a score, the classes already taken, and those of them
+/// whose parent may be missing yet.
 #[derive(Drop)]
 pub(crate) struct Standing<'a> {
     problem: &'a Problem,
     score: &'a Score,
     student: u32,
     wanting: &'a [u32],
+    pub taken: &'a [u32],
     ghost rooms: { (class : ℕ) (spot : Spot) (room : ℕ) → spot_at (occupancy_of score.now).spots class ≡ Some spot → spot.room ≡ Some room → room < problem.now.travel.rooms },
     ghost student_within: { student < length (student_lists score.now) },
+    ghost few_taken: { length taken.now ≤ 800000 },
 }
 
 impl<'a> Standing<'a> {
@@ -29,12 +31,13 @@ impl<'a> Standing<'a> {
     ghost use Rattle.tt_choice.specs.Situations.{situation_of};
     ghost use Rattle.tt_choice.specs.Standings.{situation_in};
 
-    /// How a student stands in the present snapshot. `wanting` has those of the classes that are taken
-    /// beforehand whose parent may be missing yet.
-    pub fn new(state: &'a State, student: u32, wanting: &'a [u32]) -> Standing<'a>
-        requires { student < length state.now.problem.students }
+    /// How a student who has taken these classes beforehand stands in the present snapshot. `wanting`
+    /// has those of them whose parent may be missing yet.
+    pub fn new(state: &'a State, student: u32, wanting: &'a [u32], taken: &'a [u32]) -> Standing<'a>
+        requires student { student < length state.now.problem.students }
+        requires few_taken { length taken.now ≤ 800000 }
         ensures problem { result.problem.now ≡ state.now.problem }
-        ensures situation { (taken : List ℕ) → situation_in result taken ≡ situation_of state.now.problem state.now.present student wanting.now taken }
+        ensures situation { situation_in result ≡ situation_of state.now.problem state.now.present student wanting.now taken.now }
     {
         state.soundness();
         let problem = state.problem();
@@ -44,6 +47,7 @@ impl<'a> Standing<'a> {
             score,
             student,
             wanting,
+            taken,
         }
     }
 
@@ -60,7 +64,7 @@ impl<'a> Standing<'a> {
     /// Whether a class has a seat.
     #[tactic(auto, unfolding(tt_state::specs::Seats::has_seat))]
     pub fn has_seat(&self, class: u32) -> bool
-        ensures { result ≡ (situation_in self.now []).has_seat class }
+        ensures { result ≡ (situation_in self.now).has_seat class }
     {
         match self.limit_of(class) {
             None => true,
@@ -70,7 +74,7 @@ impl<'a> Standing<'a> {
 
     /// The parent of a class, if it has one.
     pub fn parent_of(&self, class: u32) -> Option<u32>
-        ensures { result ≡ (situation_in self.now []).parent_of class }
+        ensures { result ≡ (situation_in self.now).parent_of class }
     {
         match self.problem.parts().classes.get(class as usize) {
             Some(part) => part.parent,
@@ -87,7 +91,7 @@ impl<'a> Standing<'a> {
 
     /// Whether two classes are placed, and nobody can attend both.
     pub fn conflicts(&self, class: u32, other: u32) -> bool
-        ensures { result ≡ (situation_in self.now []).conflicts class other }
+        ensures { result ≡ (situation_in self.now).conflicts class other }
     {
         match (self.spot_of(class), self.spot_of(other)) {
             (Some(spot), Some(there)) => conflict(self.problem.travel(), &spot, &there),
@@ -96,10 +100,10 @@ impl<'a> Standing<'a> {
     }
 
     /// How many classes already taken conflict with a class.
-    pub fn pairs_with_taken(&self, taken: &[u32], class: u32) -> usize
-        ensures { result ≡ count_by ((situation_in self.now taken.now).conflicts class) taken.now }
+    pub fn pairs_with_taken(&self, class: u32) -> usize
+        ensures { result ≡ count_by ((situation_in self.now).conflicts class) self.now.taken.now }
     {
-        taken
+        self.taken
             .iter()
             .filter(|other| self.conflicts(class, **other))
             .count()
@@ -107,7 +111,7 @@ impl<'a> Standing<'a> {
 
     /// How many classes of a list conflict with a later class.
     pub fn pairs_with(&self, classes: &[u32], class: u32) -> usize
-        ensures { result ≡ count_by (λ other. (situation_in self.now []).conflicts other class) classes.now }
+        ensures { result ≡ count_by (λ other. (situation_in self.now).conflicts other class) classes.now }
     {
         classes
             .iter()
@@ -117,36 +121,35 @@ impl<'a> Standing<'a> {
 
     /// Whether the parent of a class, where it has one, is in a choice or already taken.
     #[tactic(auto, using(tt_base::proofs::ListLemmas::listed_turned))]
-    fn has_parent_with(&self, taken: &[u32], choice: &[u32], class: u32) -> bool
-        ensures { result ≡ has_parent_with (situation_in self.now taken.now) choice.now class }
+    fn has_parent_with(&self, choice: &[u32], class: u32) -> bool
+        ensures { result ≡ has_parent_with (situation_in self.now) choice.now class }
     {
         match self.parent_of(class) {
             None => true,
-            Some(parent) => choice.contains(&parent) || taken.contains(&parent),
+            Some(parent) => choice.contains(&parent) || self.taken.contains(&parent),
         }
     }
 
     /// Whether each class of a choice has a seat and its parent.
-    fn may_be_taken(&self, taken: &[u32], choice: &[u32]) -> bool
-        ensures { result ≡ may_be_taken (situation_in self.now taken.now) choice.now }
+    fn may_be_taken(&self, choice: &[u32]) -> bool
+        ensures { result ≡ may_be_taken (situation_in self.now) choice.now }
     {
-        choice.iter().all(|class| self.has_seat(*class)
-            && self.has_parent_with(taken, choice, *class))
+        choice.iter().all(|class| self.has_seat(*class) && self.has_parent_with(choice, *class))
     }
 
     /// Whether each class whose parent may be missing has it with a choice.
-    fn brings_parents(&self, taken: &[u32], choice: &[u32]) -> bool
-        ensures { result ≡ list_all (has_parent_with (situation_in self.now taken.now) choice.now) self.now.wanting.now }
+    fn brings_parents(&self, choice: &[u32]) -> bool
+        ensures { result ≡ list_all (has_parent_with (situation_in self.now) choice.now) self.now.wanting.now }
     {
         self.wanting
             .iter()
-            .all(|class| self.has_parent_with(taken, choice, *class))
+            .all(|class| self.has_parent_with(choice, *class))
     }
 
     /// Whether a choice is allowed.
-    pub fn is_allowed(&self, taken: &[u32], choice: &[u32]) -> bool
-        ensures { result ≡ is_allowed (situation_in self.now taken.now) choice.now }
+    pub fn is_allowed(&self, choice: &[u32]) -> bool
+        ensures { result ≡ is_allowed (situation_in self.now) choice.now }
     {
-        self.may_be_taken(taken, choice) && self.brings_parents(taken, choice)
+        self.may_be_taken(choice) && self.brings_parents(choice)
     }
 }

@@ -7,7 +7,7 @@ pub loop-class-preserved : goal.loop-class-preserved
 loop-class-preserved c =
     let before = c.loop-class.invariant in
     record {
-      each = least-more (situation_in c.args.standing.now c.args.taken.now) c.args.span.first c.loop-class.class c.args.rest.now c.loop-class.least c.lessened-least.result before.each c.lessened-least.ensures.less c.lessened-least.ensures.sure;
+      each = least-more (situation_in c.args.standing.now) c.args.span.first c.loop-class.class c.args.rest.now c.loop-class.least c.lessened-least.result before.each c.lessened-least.ensures.less c.lessened-least.ensures.sure;
       few = omega (arith, before.few, c.lessened-least.ensures.less);
     }
 

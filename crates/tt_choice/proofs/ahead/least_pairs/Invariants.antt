@@ -5,6 +5,6 @@ use Rattle.tt_choice.proofs.ahead.least_pairs.Given as goal
 
 abbrev pub invariant-loop-class : goal.invariant-loop-class
 invariant-loop-class l = record {
-  each : (c : ℕ) → l.fn.span.first ≤ c → c < l.class → IsSureOf (situation_in l.standing l.taken) c l.rest l.least;
-  few : l.least ≤ length l.taken + length l.rest;
+  each : (c : ℕ) → l.fn.span.first ≤ c → c < l.class → IsSureOf (situation_in l.standing) c l.rest l.least;
+  few : l.least ≤ length l.standing.taken.now + length l.rest;
 }

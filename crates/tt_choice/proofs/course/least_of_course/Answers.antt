@@ -1,8 +1,7 @@
 use Rattle.std.proofs.Common.{◌≡◌, ◌≤◌, ℕ, List, length, ap, sym, ◌∙◌, subst, arith}
 use Rattle.std.specs.Prelude.{IfSome, slice_get}
 use Rattle.tt_problem.specs.declared.parts.Parts.{Parts}
-use Rattle.tt_problem.specs.declared.parts.Span.{Span}
-use Rattle.tt_choice.specs.Choices.{choices_at, choices_of_course}
+use Rattle.tt_choice.specs.Choices.{choices_of_course}
 use Rattle.tt_choice.specs.Found.{chosen_by}
 use Rattle.tt_choice.specs.Least.{Situation, least_choice}
 use Rattle.tt_choice.specs.Situations.{situation_of}
@@ -25,7 +24,7 @@ returns-clause-choice c =
     (c.as_slice.ensures ∙ ap (λ (q : Parts). q.configs) tables) (c.as_slice-2.ensures ∙ ap (λ (q : Parts). q.subparts) tables) in
     ap (λ (list : List ℕ). chosen_by list c.least_choice.result) (written_back c.args.buffers.now.best.len x items long full)
     ∙ c.least_choice.ensures.choice
-    ∙ ap (λ (s : Situation). least_choice s (choices_of_course c.as_slice.result.now c.as_slice-2.result.now c.course.result.now.configs)) (c.new-standing.ensures.situation c.args.taken.now)
+    ∙ ap (λ (s : Situation). least_choice s (choices_of_course c.as_slice.result.now c.as_slice-2.result.now c.course.result.now.configs)) c.new-standing.ensures.situation
     ∙ ap (least_choice (situation_of h.problem h.present c.args.student c.args.wanting.now c.args.taken.now)) choices
 
 pub returns-clause-few : goal.returns-clause-few
@@ -34,4 +33,4 @@ returns-clause-few c =
     let tables : c.parts-parts.result.now ≡ p = c.parts-parts.ensures ∙ c.problem-problem.ensures in
     let long : length c.as_slice-2.result.now ≡ length p.subparts = ap length (c.as_slice-2.ensures ∙ ap (λ (q : Parts). q.subparts) tables) in
     subst (λ (n : ℕ). IfSome c.least_choice.result (λ count. count ≤ n)) long
-    (found-short (situation_in c.new-standing.result c.args.taken.now) c.as_slice.result.now c.as_slice-2.result.now c.course.result.now.configs c.least_choice.new.best c.least_choice.result c.least_choice.ensures.choice c.least_choice.ensures.within)
+    (found-short (situation_in c.new-standing.result) c.as_slice.result.now c.as_slice-2.result.now c.course.result.now.configs c.least_choice.new.best c.least_choice.result c.least_choice.ensures.choice c.least_choice.ensures.within)
