@@ -17,5 +17,4 @@ pub mod PlaceLemmas
 pub mod ValidLemmas
 pub mod ParentLemmas
 pub mod SeatingLemmas
-pub mod BufferLemmas
 pub mod TableLemmas

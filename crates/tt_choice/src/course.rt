@@ -1,11 +1,11 @@
-ghost use Rattle.std.specs.Prelude.{◌≡◌, ◌+◌, ◌-◌, ◌<◌, ◌≤◌, ◌++◌, ◌∷◌, [], None, false, length, take, IfNone, IfSome, All};
+ghost use Rattle.std.specs.Prelude.{◌≡◌, ℕ, ◌+◌, ◌-◌, ◌<◌, ◌≤◌, ◌++◌, ◌∷◌, [], None, false, length, take, IfNone, IfSome, All};
 ghost use Rattle.tt_choice.specs.Least.{pairs_added, least_choice};
 ghost use Rattle.tt_choice.specs.Passed.{better, passed};
 ghost use Rattle.tt_choice.specs.Ahead.{AreSure, IsSure};
 ghost use Rattle.tt_problem.specs.Spans.{IsSpanWithin};
 ghost use Rattle.tt_choice.specs.Tables.{AreTables};
 ghost use Rattle.tt_choice.specs.Choices.{choices_at, choices_of, choices_of_course};
-ghost use Rattle.tt_choice.specs.Ready.{HasRoom};
+ghost use Rattle.tt_choice.specs.Ready.{HasRoom, HasRoomFor};
 ghost use Rattle.tt_choice.specs.Situations.{situation_of};
 ghost use Rattle.tt_choice.specs.Standings.{situation_in};
 ghost use Rattle.tt_choice.specs.Found.{chosen, chosen_by, has_fewer, IsFoundIn, IsInVain};
@@ -135,21 +135,22 @@ fn keep(
 fn pass(
     standing: &Standing,
     subparts: &[Span],
-    ahead: &[u64],
-    front: &mut [u32],
-    best: &mut [u32],
+    buffers: &mut ChoiceBuffers,
     found: Option<Found>,
 ) -> Option<Found>
-    requires sure { AreSure (situation_in standing.now) subparts.now ahead.now }
+    requires sure { AreSure (situation_in standing.now) subparts.now buffers.old.ahead.items }
     requires some { 0 < length subparts.now }
     requires spans { All (λ s. s.after ≤ 20000) subparts.now }
     requires few { length subparts.now ≤ 20000 }
-    requires front { length subparts.now ≤ length front.old }
-    requires room { length subparts.now ≤ length best.old }
-    requires found { IfSome found (IsFoundIn (situation_in standing.now) best.old) }
-    ensures best { chosen best.new result ≡ passed (situation_in standing.now) (chosen best.old found) (choices_of subparts.now) }
-    ensures found { IfSome result (IsFoundIn (situation_in standing.now) best.new) }
+    requires room { HasRoomFor (length subparts.now) buffers.old }
+    requires found { IfSome found (IsFoundIn (situation_in standing.now) buffers.old.best.items) }
+    ensures room { (count : ℕ) → HasRoomFor count buffers.old → HasRoomFor count buffers.new }
+    ensures best { chosen buffers.new.best.items result ≡ passed (situation_in standing.now) (chosen buffers.old.best.items found) (choices_of subparts.now) }
+    ensures found { IfSome result (IsFoundIn (situation_in standing.now) buffers.new.best.items) }
 {
+    let ahead = buffers.ahead.as_slice();
+    let front = buffers.front.as_mut_slice();
+    let best = buffers.best.as_mut_slice();
     let mut found = found;
     let mut depth = 0;
     let mut pairs = 0;
@@ -193,26 +194,23 @@ fn pass(
 fn pass_open(
     standing: &Standing,
     subparts: &[Span],
-    ahead: &mut [u64],
-    front: &mut [u32],
-    best: &mut [u32],
+    buffers: &mut ChoiceBuffers,
     found: Option<Found>,
 ) -> Option<Found>
     requires some { 0 < length subparts.now }
     requires spans { All (λ s. s.after ≤ 20000) subparts.now }
     requires few { length subparts.now ≤ 20000 }
-    requires ahead { length subparts.now < length ahead.old }
-    requires front { length subparts.now ≤ length front.old }
-    requires room { length subparts.now ≤ length best.old }
-    requires found { IfSome found (IsFoundIn (situation_in standing.now) best.old) }
-    ensures best { chosen best.new result ≡ passed (situation_in standing.now) (chosen best.old found) (choices_of subparts.now) }
-    ensures found { IfSome result (IsFoundIn (situation_in standing.now) best.new) }
+    requires room { HasRoomFor (length subparts.now) buffers.old }
+    requires found { IfSome found (IsFoundIn (situation_in standing.now) buffers.old.best.items) }
+    ensures room { (count : ℕ) → HasRoomFor count buffers.old → HasRoomFor count buffers.new }
+    ensures best { chosen buffers.new.best.items result ≡ passed (situation_in standing.now) (chosen buffers.old.best.items found) (choices_of subparts.now) }
+    ensures found { IfSome result (IsFoundIn (situation_in standing.now) buffers.new.best.items) }
 {
     if !is_open(standing, &[], subparts) {
         return found;
     }
-    look_ahead(standing, subparts, ahead);
-    pass(standing, subparts, ahead, front, best, found)
+    look_ahead(standing, subparts, buffers.ahead.as_mut_slice());
+    pass(standing, subparts, buffers, found)
 }
 
 /// How many pairs a front adds, from how many it adds together with one more class.
@@ -224,30 +222,27 @@ fn pairs_before(standing: &Standing, front: &[u32], pairs: u64, class: u32) -> u
 }
 
 /// The least allowed choice of a course: how many classes it has, which then stand at the front of
-/// `best`, and `None` where no choice is allowed. `configs` are the configurations of all courses,
-/// and `subparts` the subparts of all configurations. `front` is scratch.
+/// the buffer of the best, and `None` where no choice is allowed. `configs` are the configurations of
+/// all courses, and `subparts` the subparts of all configurations.
 fn least_choice(
     standing: &Standing,
     configs: &[Span],
     subparts: &[Span],
     course: Span,
-    ahead: &mut [u64],
-    front: &mut [u32],
-    best: &mut [u32],
+    buffers: &mut ChoiceBuffers,
 ) -> Option<usize>
     requires tables { AreTables configs.now subparts.now }
     requires course { IsSpanWithin (length configs.now) course }
-    requires ahead { length subparts.now < length ahead.old }
-    requires front { length subparts.now ≤ length front.old }
-    requires room { length subparts.now ≤ length best.old }
-    ensures within { IfSome result (λ count. count ≤ length best.new) }
-    ensures choice { chosen_by best.new result ≡ least_choice (situation_in standing.now) (choices_of_course configs.now subparts.now course) }
+    requires room { HasRoomFor (length subparts.now) buffers.old }
+    ensures room { HasRoomFor (length subparts.now) buffers.new }
+    ensures within { IfSome result (λ count. count ≤ length buffers.new.best.items) }
+    ensures choice { chosen_by buffers.new.best.items result ≡ least_choice (situation_in standing.now) (choices_of_course configs.now subparts.now course) }
 {
     let mut found = None;
     for place in course.first..course.after {
         let config = configs[place as usize];
         let parts = &subparts[config.first as usize..config.after as usize];
-        found = pass_open(standing, parts, ahead, front, best, found);
+        found = pass_open(standing, parts, buffers, found);
     }
     match found {
         None => None,
@@ -298,9 +293,7 @@ pub fn least_of_course(
         parts.configs.as_slice(),
         parts.subparts.as_slice(),
         problem.course(course).configs,
-        buffers.ahead.as_mut_slice(),
-        buffers.front.as_mut_slice(),
-        buffers.best.as_mut_slice(),
+        buffers,
     )
 }
 

@@ -1,12 +1,10 @@
-use Rattle.std.proofs.Common.{◌≡◌, ◌≤◌, ℕ, List, length, ap, sym, ◌∙◌, subst, arith}
+use Rattle.std.proofs.Common.{◌≡◌, ◌≤◌, ℕ, length, ap, sym, ◌∙◌, subst}
 use Rattle.std.specs.Prelude.{IfSome, slice_get}
 use Rattle.tt_problem.specs.declared.parts.Parts.{Parts}
 use Rattle.tt_choice.specs.Choices.{choices_of_course}
-use Rattle.tt_choice.specs.Found.{chosen_by}
 use Rattle.tt_choice.specs.Least.{Situation, least_choice}
 use Rattle.tt_choice.specs.Situations.{situation_of}
 use Rattle.tt_choice.specs.Standings.{situation_in}
-use Rattle.tt_choice.proofs.BufferLemmas.{written_back}
 use Rattle.tt_choice.proofs.LengthLemmas.{found-short}
 use Rattle.tt_choice.proofs.TableLemmas.{choices_are}
 use Rattle.tt_choice.proofs.course.least_of_course.Goals as goal
@@ -14,16 +12,11 @@ use Rattle.tt_choice.proofs.course.least_of_course.Goals as goal
 pub returns-clause-choice : goal.returns-clause-choice
 returns-clause-choice c =
     let h = c.args.state.now in
-    let x = c.least_choice.new.best in
-    let items = c.args.buffers.now.best.items in
-    let long : length x ≡ length items = omega (arith, ap length c.as_mut_slice-3.ensures.value) in
-    let full : c.args.buffers.now.best.len ≡ length items = omega (arith, ap length c.as_mut_slice-3.ensures.value, c.as_mut_slice-3.ensures.len) in
     let tables : c.parts-parts.result.now ≡ h.problem = c.parts-parts.ensures ∙ c.problem-problem.ensures in
     let part = ap (λ (q : Parts). slice_get q.courses c.args.course) (sym c.problem-problem.ensures) ∙ c.course.ensures.part in
     let choices = choices_are h.problem c.args.course c.course.result.now c.as_slice.result.now c.as_slice-2.result.now part
     (c.as_slice.ensures ∙ ap (λ (q : Parts). q.configs) tables) (c.as_slice-2.ensures ∙ ap (λ (q : Parts). q.subparts) tables) in
-    ap (λ (list : List ℕ). chosen_by list c.least_choice.result) (written_back c.args.buffers.now.best.len x items long full)
-    ∙ c.least_choice.ensures.choice
+    c.least_choice.ensures.choice
     ∙ ap (λ (s : Situation). least_choice s (choices_of_course c.as_slice.result.now c.as_slice-2.result.now c.course.result.now.configs)) c.new-standing.ensures.situation
     ∙ ap (least_choice (situation_of h.problem h.present c.args.student c.args.wanting.now c.args.taken.now)) choices
 
@@ -33,4 +26,4 @@ returns-clause-few c =
     let tables : c.parts-parts.result.now ≡ p = c.parts-parts.ensures ∙ c.problem-problem.ensures in
     let long : length c.as_slice-2.result.now ≡ length p.subparts = ap length (c.as_slice-2.ensures ∙ ap (λ (q : Parts). q.subparts) tables) in
     subst (λ (n : ℕ). IfSome c.least_choice.result (λ count. count ≤ n)) long
-    (found-short (situation_in c.new-standing.result) c.as_slice.result.now c.as_slice-2.result.now c.course.result.now.configs c.least_choice.new.best c.least_choice.result c.least_choice.ensures.choice c.least_choice.ensures.within)
+    (found-short (situation_in c.new-standing.result) c.as_slice.result.now c.as_slice-2.result.now c.course.result.now.configs c.least_choice.new.buffers.best.items c.least_choice.result c.least_choice.ensures.choice c.least_choice.ensures.within)
