@@ -4,21 +4,13 @@ ghost use Rattle.tt_state.specs.History.{IsWithinStep, earlier};
 ghost use Rattle.tt_state.specs.Snapshots.{in_order, list_in, with_list};
 ghost use Rattle.tt_choice.specs.Ready.{HasRoom};
 ghost use Rattle.tt_choice.specs.Seating.{MayGet};
-ghost use Rattle.tt_improve.specs.Courses.{is_of_course, moved_student, own_of, replaced_by, rest_of};
+ghost use Rattle.tt_improve.specs.Courses.{moved_student, own_of, replaced_by, rest_of};
 ghost use Rattle.tt_improve.specs.Standing.{IsNoWorse, IsSeatedIn};
 
+use crate::pairs::{has_pair, is_of_course};
 use std::alloc::{AllocError, Global};
 use tt_choice::{ChoiceBuffers, least_of_course, pairs_of, seat};
-use tt_problem::Problem;
 use tt_state::State;
-
-/// Whether a class is of a course.
-fn is_of_course(problem: &Problem, course: u32, class: u32) -> bool
-    requires { class < length problem.now.classes }
-    ensures { result ≡ is_of_course problem.now course class }
-{
-    course == problem.course_of(class)
-}
 
 /// The classes of a student that are of a course.
 fn own_classes(
@@ -62,7 +54,7 @@ fn other_classes(
 
 /// The least choice of a course that may replace a student's own classes of it beside the rest of the
 /// list, where it adds fewer pairs than these: how many classes it has, which then stand at the front
-/// of the buffer of the best. Nothing is fewer than no pair.
+/// of the buffer of the best.
 fn fewer_pairs(
     state: &State,
     student: u32,
@@ -84,13 +76,10 @@ fn fewer_pairs(
 {
     state.soundness();
     state.problem().validity();
-    let had = pairs_of(state, student, rest, own);
-    if had == 0 {
-        return None;
-    }
     let Some(size) = least_of_course(state, student, course, rest, rest, buffers) else {
         return None;
     };
+    let had = pairs_of(state, student, rest, own);
     if pairs_of(state, student, rest, &buffers.best.as_slice()[..size]) < had {
         Some(size)
     } else {
@@ -100,6 +89,7 @@ fn fewer_pairs(
 
 /// A round on a course of a student, in the last step: the least choice of the course that may replace
 /// the student's own classes of it does so, where it adds fewer conflicting pairs. Whether it does.
+/// Most students have no pair with a course, and nothing is fewer: this is found out without memory.
 pub(crate) fn move_student(
     alloc: Global,
     state: &mut State,
@@ -116,6 +106,9 @@ pub(crate) fn move_student(
     ensures same { IfOk result (λ moved. moved ≡ false → state.new.present ≡ state.old.present) }
     ensures no_worse { OnOk result (IsNoWorse state.old.problem state.old.present state.new.present) }
 {
+    if !has_pair(state, student, course) {
+        return Ok(false);
+    }
     let own = own_classes(alloc, state, student, course)?;
     let mut list = other_classes(alloc, state, student, course)?;
     match fewer_pairs(

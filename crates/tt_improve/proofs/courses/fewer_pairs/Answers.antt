@@ -4,7 +4,7 @@ use Rattle.tt_problem.specs.Valid.{IsValid}
 use Rattle.tt_problem.proofs.SpanLemmas.{few_subparts}
 use Rattle.tt_choice.specs.Least.{pairs_added}
 use Rattle.tt_improve.specs.Courses.{beside, is_of_course}
-use Rattle.tt_improve.proofs.StudentLemmas.{few_in, found_less, found_more, may_get_at, no_replacement, no_worse_at, none_fewer, replaces, within_courses}
+use Rattle.tt_improve.proofs.StudentLemmas.{few_in, found_less, found_more, may_get_at, no_replacement, no_worse_at, replaces, within_courses}
 use Rattle.tt_improve.proofs.courses.fewer_pairs.Goals as goal
 
 pub pairs_of-had-requires-clause-few_taken : goal.pairs_of-had-requires-clause-few_taken
@@ -19,11 +19,6 @@ pairs_of-had-requires-clause-few c =
     let h = c.args.state.now in
     let valid = subst IsValid c.problem.ensures c.validity.ensures in
     few_in h.problem h.present c.args.student (is_of_course h.problem c.args.course) c.args.own.now valid c.soundness.ensures.present c.requires.object.within c.requires.own
-
-pub returns-then-had-eq0-clause-choice : goal.returns-then-had-eq0-clause-choice
-returns-then-had-eq0-clause-choice c =
-    let h = c.args.state.now in
-    none_fewer h.problem h.present c.args.student c.args.course c.args.rest.now c.args.own.now (sym c.pairs_of-had.ensures ∙ c.if-had-eq0.true)
 
 pub least_of_course-requires-clause-course : goal.least_of_course-requires-clause-course
 least_of_course-requires-clause-course c =
