@@ -4,7 +4,7 @@ use Rattle.std.specs.Option.{option_and_then}
 use Rattle.tt_problem.specs.declared.parts.Parts.{Parts}
 use Rattle.tt_state.specs.Snapshots.{Snapshot}
 use Rattle.tt_improve.specs.declared.objects.Object.{Object}
-use Rattle.tt_improve.specs.declared.candidates.Candidates.{Candidates}
+use Rattle.tt_improve.specs.declared.objects.Objects.{Objects}
 use Rattle.tt_improve.specs.Rounds.{moved_by}
 
 -- the snapshot after a round on the object at a place, none where it changes nothing
@@ -12,7 +12,7 @@ abbrev pub moved_at : Parts → Snapshot → List Object → (place : ℕ) → O
 moved_at p s objects place = option_and_then (moved_by p s) (slice_get objects place)
 
 -- no object has a later stage than this one, and a round on an object that has it changes nothing
-pub record KnowsIdle (p : Parts) (s : Snapshot) (candidates : Candidates) (stage : ℕ) : Type 0 where
-  pub whole : length candidates.stages.items ≡ length candidates.objects.items
-  pub no_later : (place : ℕ) → slice_index candidates.stages.items place ≤ stage
-  pub idle : (place : ℕ) → slice_index candidates.stages.items place ≡ stage → moved_at p s candidates.objects.items place ≡ None
+pub record KnowsIdle (p : Parts) (s : Snapshot) (objects : Objects) (stage : ℕ) : Type 0 where
+  pub whole : length objects.stages.items ≡ length objects.list.items
+  pub no_later : (place : ℕ) → slice_index objects.stages.items place ≤ stage
+  pub idle : (place : ℕ) → slice_index objects.stages.items place ≡ stage → moved_at p s objects.list.items place ≡ None

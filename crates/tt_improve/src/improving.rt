@@ -8,10 +8,9 @@ ghost use Rattle.tt_improve.specs.Rounds.{improved, moved_by};
 ghost use Rattle.tt_improve.specs.Standing.{IsNoWorse, IsObjectOf};
 ghost use Rattle.tt_improve.specs.UnderWay.{so_far};
 
-use crate::candidates::Candidates;
 use crate::classes::move_class;
 use crate::courses::move_student;
-use crate::objects::Object;
+use crate::objects::{Object, Objects};
 use rand_core::Rng;
 use rand_pcg::Lcg64Xsh32;
 use std::alloc::{AllocError, Global};
@@ -24,6 +23,27 @@ use tt_state::State;
 pub struct Improved {
     pub rounds: u32,
     pub changed: u32,
+}
+
+/// What a descent works with: the objects, and room for the walks over the choices of a course.
+#[derive(Drop)]
+struct Descent {
+    objects: Objects,
+    buffers: ChoiceBuffers,
+}
+
+impl Descent {
+    /// Before the first round.
+    fn new(alloc: Global, state: &State) -> Result<Descent, AllocError>
+        ensures objects { IfOk result (λ descent. descent.objects.list.items ≡ objects_of state.now.problem state.now.present) }
+        ensures few { IfOk result (λ descent. length descent.objects.list.items ≤ 2 ^ 32) }
+        ensures idle { IfOk result (λ descent. KnowsIdle state.now.problem state.now.present descent.objects 1) }
+        ensures room { IfOk result (λ descent. HasRoom state.now.problem descent.buffers) }
+    {
+        let objects = Objects::new(alloc, state)?;
+        let buffers = ChoiceBuffers::new(alloc, state.problem())?;
+        Ok(Descent { objects, buffers })
+    }
 }
 
 /// A round on an object, in the last step. Whether it changes something.
@@ -54,29 +74,29 @@ fn make_round(
 fn make_round_at(
     alloc: Global,
     state: &mut State,
-    candidates: &mut Candidates,
+    descent: &mut Descent,
     place: usize,
     stage: u32,
-    buffers: &mut ChoiceBuffers,
 ) -> Result<bool, AllocError>
-    requires objects { candidates.old.objects.items ≡ objects_of state.old.problem state.old.present }
-    requires place { place < length candidates.old.objects.items }
-    requires idle { KnowsIdle state.old.problem state.old.present candidates.old stage }
+    requires objects { descent.old.objects.list.items ≡ objects_of state.old.problem state.old.present }
+    requires place { place < length descent.old.objects.list.items }
+    requires idle { KnowsIdle state.old.problem state.old.present descent.old.objects stage }
     requires step { 0 < length (earlier state.old) }
-    requires room { HasRoom state.old.problem buffers.old }
-    ensures room { HasRoom state.old.problem buffers.new }
+    requires room { HasRoom state.old.problem descent.old.buffers }
+    ensures room { HasRoom state.old.problem descent.new.buffers }
     ensures step { IsWithinStep (with_taken state.old []) (with_taken state.new []) }
-    ensures objects { candidates.new.objects ≡ candidates.old.objects }
-    ensures moved { IfOk result (λ moved. moved_at state.old.problem state.old.present candidates.old.objects.items place ≡ cond moved (Some state.new.present) None) }
+    ensures objects { descent.new.objects.list ≡ descent.old.objects.list }
+    ensures moved { IfOk result (λ moved. moved_at state.old.problem state.old.present descent.old.objects.list.items place ≡ cond moved (Some state.new.present) None) }
     ensures same { IfOk result (λ moved. moved ≡ false → state.new.present ≡ state.old.present) }
-    ensures idle { IfOk result (λ moved. KnowsIdle state.old.problem state.new.present candidates.new (stage + cond moved 1 0)) }
+    ensures idle { IfOk result (λ moved. KnowsIdle state.old.problem state.new.present descent.new.objects (stage + cond moved 1 0)) }
     ensures no_worse { OnOk result (IsNoWorse state.old.problem state.old.present state.new.present) }
 {
-    if candidates.is_of_stage(place, stage) {
+    if descent.objects.is_of_stage(place, stage) {
         return Ok(false);
     }
-    let moved = make_round(alloc, state, candidates.object(place), buffers)?;
-    candidates.note(place, stage);
+    let object = descent.objects.object(place);
+    let moved = make_round(alloc, state, object, &mut descent.buffers)?;
+    descent.objects.note(place, stage);
     Ok(moved)
 }
 
@@ -85,16 +105,15 @@ fn make_round_at(
 fn descend<W: Watcher>(
     alloc: Global,
     state: &mut State,
-    candidates: &mut Candidates,
-    buffers: &mut ChoiceBuffers,
+    descent: &mut Descent,
     rounds: u32,
     seed: u64,
     watcher: &mut W,
 ) -> Result<Improved, AllocError>
-    requires objects { candidates.old.objects.items ≡ objects_of state.old.problem state.old.present }
-    requires few { length candidates.old.objects.items ≤ 2 ^ 32 }
-    requires idle { KnowsIdle state.old.problem state.old.present candidates.old 1 }
-    requires room { HasRoom state.old.problem buffers.old }
+    requires objects { descent.old.objects.list.items ≡ objects_of state.old.problem state.old.present }
+    requires few { length descent.old.objects.list.items ≤ 2 ^ 32 }
+    requires idle { KnowsIdle state.old.problem state.old.present descent.old.objects 1 }
+    requires room { HasRoom state.old.problem descent.old.buffers }
     requires step { 0 < length (earlier state.old) }
     ensures step { IsWithinStep (with_taken state.old []) (with_taken state.new []) }
     ensures end { IfOk result (λ n. so_far state.new.present n.rounds n.changed ≡ improved state.old.problem rounds seed state.old.present) }
@@ -103,13 +122,13 @@ fn descend<W: Watcher>(
     let mut words = Lcg64Xsh32::new(seed, 1);
     let mut changed = 0;
     for made in 0..rounds {
-        let Some(place) = candidates.draw(words.next_u32()) else {
+        let Some(place) = descent.objects.draw(words.next_u32()) else {
             return Ok(Improved {
                 rounds: made,
                 changed,
             });
         };
-        let moved = make_round_at(alloc, state, candidates, place, changed + 1, buffers)?;
+        let moved = make_round_at(alloc, state, descent, place, changed + 1)?;
         changed += u32::from(moved);
         watcher.tell(Progress::Rounds {
             made: made + 1,
@@ -134,18 +153,9 @@ fn improve_in_step<W: Watcher>(
     ensures present { OnErr result (state.new.present ≡ state.old.present) }
     ensures entries { OnErr result (state.new.entries ≡ state.old.entries) }
 {
-    let mut candidates = Candidates::new(alloc, state)?;
-    let mut buffers = ChoiceBuffers::new(alloc, state.problem())?;
+    let mut descent = Descent::new(alloc, state)?;
     state.begin()?;
-    match descend(
-        alloc,
-        state,
-        &mut candidates,
-        &mut buffers,
-        rounds,
-        seed,
-        watcher,
-    ) {
+    match descend(alloc, state, &mut descent, rounds, seed, watcher) {
         Ok(improved) => Ok(improved),
         Err(error) => {
             state.take_back();

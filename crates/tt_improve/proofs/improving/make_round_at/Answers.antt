@@ -5,4 +5,4 @@ use Rattle.tt_improve.proofs.improving.make_round_at.Goals as goal
 pub make_round-requires-clause-object : goal.make_round-requires-clause-object
 make_round-requires-clause-object c =
     let h = c.args.state.now in
-    drawn-of h.problem h.present c.args.candidates.now.objects.items c.args.place c.object.result (sym c.requires.objects) c.object.ensures
+    drawn-of h.problem h.present c.args.descent.now.objects.list.items c.args.place c.object-object.result (sym c.requires.objects) c.object-object.ensures
