@@ -1,10 +1,10 @@
 -- A class that moves to a lower value.
 use Rattle.std.proofs.Common.{◌≡◌, ℕ, nat_le, ◌+◌, ◌<◌, ◌≤◌, Bool, true, false, cond, List, [], ◌∷◌, Option, Some, None, length, drop, refl, sym, ap, ◌∙◌, arith, nat_lt}
-use Rattle.std.specs.Prelude.{◌&&◌, ◌==◌, IfSome, slice_get, option_and_then, if◌then◌else◌}
+use Rattle.std.specs.Prelude.{◌&&◌, ◌==◌, IfSome, slice_get, slice_set, option_and_then, if◌then◌else◌}
 use Rattle.std.specs.Option.{is_none, option_map}
 use Rattle.std.specs.List.{filter}
 use Rattle.std.proofs.lemmas.Bool.{and_parts, eqb-true}
-use Rattle.std.proofs.lemmas.List.{drop_all}
+use Rattle.std.proofs.lemmas.List.{drop_all, set-get_or}
 use Rattle.std.proofs.lemmas.Bool.Decides.{nat_tests}
 use Rattle.tt_base.specs.Lists.{first_least}
 use Rattle.tt_base.proofs.ListLemmas.{drop_at}
@@ -17,7 +17,8 @@ use Rattle.tt_clash.specs.Amounts.{rule_amounts}
 use Rattle.tt_clash.specs.Blocked.{blocked_by}
 use Rattle.tt_clash.specs.ConflictSet.{conflict_set}
 use Rattle.tt_score.specs.Forcing.{among}
-use Rattle.tt_state.specs.Snapshots.{Snapshot, with_value}
+use Rattle.tt_score.specs.Totals.{totals_of}
+use Rattle.tt_state.specs.Snapshots.{Snapshot, value_in, with_value}
 use Rattle.tt_state.specs.Values.{blocked_of, conflicts_of, total_with}
 use Rattle.tt_improve.specs.declared.classes.Best.{Best}
 use Rattle.tt_improve.specs.Below.{better, passed, nothing_below}
@@ -57,6 +58,18 @@ none_within n = by (nat_le n 0) (n == 0) refl refl
     by false false p q = refl
     by true false p q = grind (arith, nat_tests)
     by false true p q = grind (arith, nat_tests)
+
+-- the value that the class has is no better: with it the total is the present one
+pub own_no_better : (p : Parts) (s : Snapshot) (class : ℕ) (v : Value) (best : Best) → value_in s class ≡ Some v → best.total ≤ total_of p s → best ≡ better (is_free p s class) (total_with p s class) best v
+unfolding total_with
+own_no_better p s class v best is low =
+    let same : slice_set s.plan class (Some v) ≡ s.plan = ap (slice_set s.plan class) (sym is) ∙ set-get_or s.plan class None in
+    let total : total_with p s class v ≡ total_of p s = ap (λ plan. (totals_of p s.closures plan s.lists).total) same in
+    let high : nat_lt (total_with p s class v) best.total ≡ false = not_less (total_with p s class v) best.total (omega (arith, total, low)) in
+    rw high refl
+  where
+    not_less : (m n : ℕ) → n ≤ m → nat_lt m n ≡ false
+    not_less m n le = grind (arith, nat_tests)
 
 -- the walk goes on over the values that are left
 pub walk_next : (free : Value → Bool) (total : Value → ℕ) (domain : List Value) (k : ℕ) (v : Value) (start best now : Best) → slice_get domain k ≡ Some v → now ≡ better free total best v

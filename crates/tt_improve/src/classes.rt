@@ -1,10 +1,10 @@
-ghost use Rattle.std.specs.Prelude.{◌≡◌, ◌<◌, [], None, Some, IfOk, IfSome, OnOk, cond, false, length};
+ghost use Rattle.std.specs.Prelude.{◌≡◌, ◌↔◌, ◌<◌, ◌≤◌, [], IsTrue, None, Some, IfOk, IfSome, OnOk, cond, false, length};
 ghost use Rattle.std.specs.Option.{option_map};
 ghost use Rattle.tt_plan.specs.Domain.{IsOfDomain};
 ghost use Rattle.tt_state.specs.History.{IsWithinStep, earlier, with_taken};
-ghost use Rattle.tt_state.specs.Snapshots.{with_value};
+ghost use Rattle.tt_state.specs.Snapshots.{value_in, with_value};
 ghost use Rattle.tt_state.specs.Values.{conflicts_without, total_with};
-ghost use Rattle.tt_improve.specs.Classes.{is_free, moved_class};
+ghost use Rattle.tt_improve.specs.Classes.{is_free, moved_class, total_of};
 ghost use Rattle.tt_improve.specs.Below.{better};
 ghost use Rattle.tt_improve.specs.Standing.{IsLower, IsNoWorse, IsPlacedIn};
 
@@ -20,17 +20,29 @@ struct Best {
     value: Option<Value>,
 }
 
-/// The best once a value was looked at. `others` are the student conflicts without the class. The
-/// conflict set is asked for only where the total is lower.
+/// Whether a class has this value.
+fn has_value(state: &State, class: u32, value: Value) -> bool
+    ensures { IsTrue result ↔ (value_in state.now.present class ≡ Some value) }
+{
+    state.score().value(class) == Some(value)
+}
+
+/// The best once a value was looked at. `others` are the student conflicts without the class. With the
+/// value that the class has the total is the present one, so this is left out. The conflict set is
+/// asked for only where the total is lower.
 #[tactic(auto, using(crate::proofs::ClassLemmas::none_within))]
 fn look_at(state: &mut State, class: u32, value: Value, others: u64, best: Best) -> Best
     requires value { IsOfDomain state.old.problem class value }
     requires others { others ≡ conflicts_without state.old.problem state.old.present class }
+    requires low { best.total ≤ total_of state.old.problem state.old.present }
     ensures problem { state.new.problem ≡ state.old.problem }
     ensures present { state.new.present ≡ state.old.present }
     ensures entries { state.new.entries ≡ state.old.entries }
     ensures better { result ≡ better (is_free state.old.problem state.old.present class) (total_with state.old.problem state.old.present class) best value }
 {
+    if has_value(state, class, value) {
+        return best;
+    }
     if state.blocked(class, value).is_some() {
         return best;
     }
