@@ -2,7 +2,7 @@
 use Rattle.std.proofs.Common.{◌≡◌, ℕ, ◌+◌, ◌<◌, Bool, true, false, cond, List, [], ◌∷◌, Option, None, length, get_or, count_by, sum_by, refl, ap, sym, ◌∙◌, arith}
 use Rattle.std.specs.Prelude.{not, ◌&&◌, ◌==◌}
 use Rattle.std.specs.List.{AllByRecursion, filter, list_any}
-use Rattle.std.proofs.lemmas.Bool.{eqb-true, ne_eqb, or_parts}
+use Rattle.std.proofs.lemmas.Bool.{eqb-true, ne_eqb}
 use Rattle.std.proofs.lemmas.List.Sums.{sum_by-cons}
 use Rattle.tt_base.specs.Among.{pairs_among}
 use Rattle.tt_bits.specs.declared.times.Spot.{Spot}
@@ -16,12 +16,8 @@ use Rattle.tt_choice.specs.Least.{pairs_added}
 use Rattle.tt_choice.specs.Situations.{in_conflict}
 use Rattle.tt_choice.proofs.Order.{all-weaken}
 use Rattle.tt_improve.specs.Courses.{beside, is_of_course, own_of, rest_of}
-use Rattle.tt_improve.specs.Pairs.{has_pair_with, meets_another}
-
--- each item fails a test that none passes
-each_fails : {X : Type 0} (f : X → Bool) (xs : List X) → list_any f xs ≡ false → AllByRecursion (λ x. f x ≡ false) xs
-each_fails f [] e = tt
-each_fails f (x ∷ xs) e = let parts = or_parts (f x) (list_any f xs) e in (parts.0, each_fails f xs parts.1)
+use Rattle.tt_improve.specs.Pairs.{has_pair, meets_another}
+use Rattle.tt_improve.proofs.HardLemmas.{none_of}
 
 -- a test that no item passes
 pub none_passes : {X : Type 0} (f : X → Bool) → ((x : X) → f x ≡ false) → (xs : List X) → list_any f xs ≡ false
@@ -48,13 +44,13 @@ module _ (f : ℕ → ℕ → Bool) (test : ℕ → Bool) where
 
   apart_all : (list : List ℕ) → list_any (λ c. test c && list_any (λ d. not (d == c) && f c d) list) list ≡ false → AllByRecursion (IsApart list) list
   apart_all list none =
-      all-weaken (λ c. (test c && list_any (λ d. not (d == c) && f c d) list) ≡ false) (IsApart list) one list (each_fails (λ c. test c && list_any (λ d. not (d == c) && f c d) list) list none)
+      all-weaken (λ c. (test c && list_any (λ d. not (d == c) && f c d) list) ≡ false) (IsApart list) one list (none_of (λ c. test c && list_any (λ d. not (d == c) && f c d) list) list none)
     where
       one : (c : ℕ) → (test c && list_any (λ d. not (d == c) && f c d) list) ≡ false → IsApart list c
       one c e passes =
           let fails = both_fail (test c) (list_any (λ d. not (d == c) && f c d) list) e passes in
           all-weaken (λ d. (not (d == c) && f c d) ≡ false) (λ d. (d == c) ≡ false → f c d ≡ false) (λ d h other. both_fail (not (d == c)) (f c d) h (ap not other)) list
-          (each_fails (λ d. not (d == c) && f c d) list fails)
+          (none_of (λ d. not (d == c) && f c d) list fails)
 
   -- those that pass, with those that don't
   none_across : (list xs : List ℕ) → AllByRecursion (IsApart list) xs → sum_by (λ c. count_by (f c) (filter (λ d. not (test d)) list)) (filter test xs) ≡ 0
@@ -92,7 +88,7 @@ module _ (f : ℕ → ℕ → Bool) (test : ℕ → Bool) where
           omega (arith, here, rest)
 
 -- where no class of the course conflicts with another class of a student's list, the own classes of the course add no pair
-pub no_pair : (p : Parts) (s : Snapshot) (student course : ℕ) → IsSound p s → student < length p.students → has_pair_with p s course (list_in s student) (list_in s student) ≡ false
+pub no_pair : (p : Parts) (s : Snapshot) (student course : ℕ) → IsSound p s → student < length p.students → has_pair p s course (list_in s student) ≡ false
     → pairs_added (beside p s student (rest_of p course (list_in s student))) (own_of p course (list_in s student)) ≡ 0
 no_pair p s student course sound within none =
     let f = in_conflict p (spots_of p s.plan) in

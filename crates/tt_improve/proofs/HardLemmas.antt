@@ -60,7 +60,8 @@ at_rule P class first (s ∷ rules) (suc k) q r all is here =
     rest None h = h
     rest (Some place) h = h.1
 
-none_of : {X : Type 0} (f : X → Bool) (xs : List X) → list_any f xs ≡ false → AllByRecursion (λ x. f x ≡ false) xs
+-- each item fails a test that none passes
+pub none_of : {X : Type 0} (f : X → Bool) (xs : List X) → list_any f xs ≡ false → AllByRecursion (λ x. f x ≡ false) xs
 none_of f [] e = tt
 none_of f (x ∷ xs) e = let parts = or_parts (f x) (list_any f xs) e in (parts.0, none_of f xs parts.1)
 

@@ -14,3 +14,7 @@ meets_another p s list class = list_any (λ other. not (other == class) && in_co
 -- one of these classes is of the course, and conflicts with another class of a list
 abbrev pub has_pair_with : Parts → Snapshot → (course : ℕ) → (list : List ℕ) → (classes : List ℕ) → Bool
 has_pair_with p s course list classes = list_any (λ class. is_of_course p course class && meets_another p s list class) classes
+
+-- a class of the course in a list conflicts with another class of the list
+abbrev pub has_pair : Parts → Snapshot → (course : ℕ) → (list : List ℕ) → Bool
+has_pair p s course list = has_pair_with p s course list list

@@ -5,7 +5,7 @@ ghost use Rattle.tt_roster.specs.Conflicts.{are_in_conflict};
 ghost use Rattle.tt_state.specs.Snapshots.{list_in};
 ghost use Rattle.tt_choice.specs.Least.{pairs_added};
 ghost use Rattle.tt_improve.specs.Courses.{beside, is_of_course, own_of, rest_of};
-ghost use Rattle.tt_improve.specs.Pairs.{meets_another};
+ghost use Rattle.tt_improve.specs.Pairs.{has_pair, meets_another};
 
 use tt_bits::Spot;
 use tt_problem::Problem;
@@ -60,6 +60,7 @@ fn meets_another(state: &State, student: u32, class: u32) -> bool
 /// none does, the student's own classes of the course add no pair to the rest of the list.
 pub(crate) fn has_pair(state: &State, student: u32, course: u32) -> bool
     requires { student < length state.now.problem.students }
+    ensures pair { result ≡ has_pair state.now.problem state.now.present course (list_in state.now.present student) }
     ensures none { result ≡ false → pairs_added (beside state.now.problem state.now.present student (rest_of state.now.problem course (list_in state.now.present student)))
         (own_of state.now.problem course (list_in state.now.present student)) ≡ 0 }
 {

@@ -17,9 +17,9 @@ loop-class-init c =
       ahead = ap (has_pair_with h.problem h.present c.args.course (list_in h.present c.args.student)) is;
     }
 
-pub returns : goal.returns
-returns c =
+pub returns-clause-none : goal.returns-clause-none
+returns-clause-none c =
     let h = c.args.state.now in
     let list = list_in h.present c.args.student in
     let none = sym c.loop-class.invariant.ahead ∙ ap (has_pair_with h.problem h.present c.args.course list) c.in-None.ensures.steps.0 in
-    record { none = λ here. no_pair h.problem h.present c.args.student c.args.course c.soundness.ensures.present c.requires none }
+    λ here. no_pair h.problem h.present c.args.student c.args.course c.soundness.ensures.present c.requires none
