@@ -12,44 +12,37 @@ use std::alloc::{AllocError, Global};
 use tt_choice::{ChoiceBuffers, least_of_course, pairs_of, seat};
 use tt_state::State;
 
-/// The classes of a student that are of a course.
-fn own_classes(
-    alloc: Global,
-    state: &State,
-    student: u32,
-    course: u32,
-) -> Result<Vec<u32>, AllocError>
-    requires { student < length state.now.problem.students }
-    ensures { IfOk result (λ own. own.items ≡ own_of state.now.problem course (list_in state.now.present student)) }
-{
-    state.soundness();
-    let mut own = Vec::new(alloc);
-    for class in state.score().roster().classes(student) {
-        if is_of_course(state.problem(), course, class) {
-            own.push(class)?;
-        }
-    }
-    Ok(own)
+/// The list of a student: the student's own classes of a course, and the rest.
+#[derive(Drop)]
+struct StudentList {
+    own: Vec<u32>,
+    rest: Vec<u32>,
 }
 
-/// The classes of a student that are not of a course.
-fn other_classes(
-    alloc: Global,
-    state: &State,
-    student: u32,
-    course: u32,
-) -> Result<Vec<u32>, AllocError>
-    requires { student < length state.now.problem.students }
-    ensures { IfOk result (λ rest. rest.items ≡ rest_of state.now.problem course (list_in state.now.present student)) }
-{
-    state.soundness();
-    let mut rest = Vec::new(alloc);
-    for class in state.score().roster().classes(student) {
-        if !is_of_course(state.problem(), course, class) {
-            rest.push(class)?;
+impl StudentList {
+    /// The list of a student, parted by a course.
+    fn by_course(
+        alloc: Global,
+        state: &State,
+        student: u32,
+        course: u32,
+    ) -> Result<StudentList, AllocError>
+        requires { student < length state.now.problem.students }
+        ensures own { IfOk result (λ list. list.own.items ≡ own_of state.now.problem course (list_in state.now.present student)) }
+        ensures rest { IfOk result (λ list. list.rest.items ≡ rest_of state.now.problem course (list_in state.now.present student)) }
+    {
+        state.soundness();
+        let mut own = Vec::new(alloc);
+        let mut rest = Vec::new(alloc);
+        for class in state.score().roster().classes(student) {
+            if is_of_course(state.problem(), course, class) {
+                own.push(class)?;
+            } else {
+                rest.push(class)?;
+            }
         }
+        Ok(StudentList { own, rest })
     }
-    Ok(rest)
 }
 
 /// The least choice of a course that may replace a student's own classes of it beside the rest of the
@@ -109,20 +102,19 @@ pub(crate) fn move_student(
     if !has_pair(state, student, course) {
         return Ok(false);
     }
-    let own = own_classes(alloc, state, student, course)?;
-    let mut list = other_classes(alloc, state, student, course)?;
+    let StudentList { own, mut rest } = StudentList::by_course(alloc, state, student, course)?;
     match fewer_pairs(
         state,
         student,
         course,
-        list.as_slice(),
+        rest.as_slice(),
         own.as_slice(),
         buffers,
     ) {
         None => Ok(false),
         Some(size) => {
-            list.extend_from_slice(&buffers.best.as_slice()[..size])?;
-            seat(state, student, list.as_slice())?;
+            rest.extend_from_slice(&buffers.best.as_slice()[..size])?;
+            seat(state, student, rest.as_slice())?;
             Ok(true)
         }
     }
