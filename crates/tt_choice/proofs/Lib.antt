@@ -18,3 +18,4 @@ pub mod ValidLemmas
 pub mod ParentLemmas
 pub mod SeatingLemmas
 pub mod TableLemmas
+pub mod RoomLemmas

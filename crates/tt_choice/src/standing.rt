@@ -24,7 +24,7 @@ pub(crate) struct Standing<'a> {
 }
 
 impl<'a> Standing<'a> {
-    ghost use Rattle.std.specs.Prelude.{[], Option, ℕ, count_by};
+    ghost use Rattle.std.specs.Prelude.{[], IfNone, IfSome, None, Option, ℕ, count_by};
     ghost use Rattle.std.specs.List.{list_all};
     ghost use Rattle.tt_state.specs.Seats.{limit_of, others_with};
     ghost use Rattle.tt_choice.specs.Least.{has_parent_with, is_allowed, may_be_taken};
@@ -83,18 +83,23 @@ impl<'a> Standing<'a> {
     }
 
     /// The spot of a class, if it is placed.
-    fn spot_of(&self, class: u32) -> Option<Spot>
-        ensures { result ≡ spot_at (occupancy_of self.now.score.now).spots class }
+    fn spot_of(&self, class: u32) -> Option<&Spot>
+        ensures none { IfNone result (spot_at (occupancy_of self.now.score.now).spots class ≡ None) }
+        ensures some { IfSome result (λ spot. spot_at (occupancy_of self.now.score.now).spots class ≡ Some spot.now) }
     {
-        self.score.spot(class)
+        match self.score.occupancy().spots().get(class as usize) {
+            None => None,
+            Some(spot) => spot.as_ref(),
+        }
     }
 
     /// Whether two classes are placed, and nobody can attend both.
     pub fn conflicts(&self, class: u32, other: u32) -> bool
         ensures { result ≡ (situation_in self.now).conflicts class other }
     {
+        let travel = self.problem.travel();
         match (self.spot_of(class), self.spot_of(other)) {
-            (Some(spot), Some(there)) => conflict(self.problem.travel(), &spot, &there),
+            (Some(spot), Some(there)) => conflict(travel, spot, there),
             _ => false,
         }
     }
