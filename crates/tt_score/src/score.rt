@@ -1,6 +1,6 @@
 ghost use Rattle.tt_score.specs.Small.{AreSmall};
 
-use crate::classes::{ClassSums, paid_with, spot_now};
+use crate::classes::{ClassSums, paid_with};
 use crate::closing::newly_closed;
 use crate::group::Group;
 use crate::joint::JointRoster;
@@ -8,7 +8,7 @@ use crate::making::new_groups;
 use crate::rules::{RuleSums, cost_of, set_in_rules};
 use crate::students::{conflicts_with, conflicts_without, students_with_courses, unsectioned_at};
 use crate::totals::{Penalties, Totals};
-use crate::trial::{Tried, costs_with};
+use crate::trial::{costs_with, costs_without};
 use std::alloc::{AllocError, Global};
 use tt_bits::{Spot, Time, Value};
 use tt_clash::{Closures, Listing, Placing, conflicts, conflicts_within};
@@ -35,13 +35,13 @@ pub struct Score {
 }
 
 impl Score {
-    ghost use Rattle.std.specs.Prelude.{◌≡◌, ◌↔◌, ◌<◌, ◌≤◌, ◌++◌, ◌∷◌, Some, None, IsSome, IfSome, IsTrue, IfOk, OnOk, OnErr, [], false, true, length, slice_index, replicate, slice_get, slice_set, slice_index_or, option_and_then, nat_le};
+    ghost use Rattle.std.specs.Prelude.{◌≡◌, ◌↔◌, ◌<◌, ◌≤◌, ◌^◌, ◌++◌, ◌∷◌, Some, None, IsSome, IfSome, IsTrue, IfOk, OnOk, OnErr, [], false, true, length, slice_index, replicate, slice_get, slice_set, slice_index_or, option_and_then, nat_le};
     ghost use Rattle.tt_problem.specs.declared.parts.Parts.{Parts};
     ghost use Rattle.tt_problem.specs.declared.parts.Rule.{Rule};
     ghost use Rattle.tt_clash.specs.Blocked.{blocked_by};
     ghost use Rattle.tt_clash.specs.Closures.{made, relifted, without_last};
-    ghost use Rattle.tt_plan.specs.Domain.{IsOfDomain, spot_at_value, spots_of};
-    ghost use Rattle.tt_score.specs.Amounts.{rule_amount, rule_cost};
+    ghost use Rattle.tt_plan.specs.Domain.{IsOfDomain, IsSpotOf, spot_at_value, spots_of};
+    ghost use Rattle.tt_score.specs.Amounts.{rule_amount, rule_cost, cost_sum, cost_sum_without};
     ghost use Rattle.tt_score.specs.Fits.{Fits, plan_of, student_lists, closures_of, occupancy_of, roster_of, group_count};
     ghost use Rattle.tt_base.specs.Lists.{is_listed};
     ghost use Rattle.tt_bits.specs.Spots.{spot_at};
@@ -49,7 +49,6 @@ impl Score {
     ghost use Rattle.tt_score.specs.Forcing.{conflicts_at};
     ghost use Rattle.tt_score.specs.Totals.{totals_of};
     ghost use Rattle.tt_score.specs.Below.{below};
-    ghost use Rattle.tt_score.specs.Tried.{IsTried};
 
     /// The score where no class is placed, no student has a class, and nothing is closed. Only this
     /// call and `close` take memory.
@@ -341,9 +340,12 @@ impl Score {
         ensures same { self.new ≡ self.old }
     {
         problem.validity();
-        let tried = self.tried(problem, class, value);
-        let student = conflicts_with(problem, &mut self.roster, class, tried.has, tried.spot);
-        tried.total(self.weights, student)
+        let paid = paid_with(problem, self.plan.as_slice(), class, value, self.classes);
+        let spot = tt_plan::spot(problem, class, value);
+        let distribution = self.costs_at(problem, class, spot);
+        let has = self.spot(class);
+        let student = conflicts_with(problem, &mut self.roster, class, has, spot);
+        paid.total(self.weights, distribution, student)
     }
 
     /// The student conflicts without a class.
@@ -353,13 +355,14 @@ impl Score {
         ensures conflicts { result ≡ (totals_of problem.now (closures_of self.old) (slice_set (plan_of self.old) class None) (student_lists self.old)).student }
         ensures same { self.new ≡ self.old }
     {
-        let has = spot_now(problem, self.plan.as_slice(), class);
+        let has = self.spot(class);
         conflicts_without(problem, &mut self.roster, class, has)
     }
 
     /// The total with a class at a value, where it is below a bound. `others` are the student conflicts
-    /// without the class; where these, the times, the rooms and the rules come to the bound, the
-    /// students of the class aren't asked. Nothing is changed.
+    /// without the class. What is cheap is asked first: the rules of the class only where the times,
+    /// the rooms, the other rules and the students who are sure don't come to the bound, and the
+    /// travel of its students only where the rules don't either. Nothing is changed.
     pub fn trial_below(
         &mut self,
         problem: &Problem,
@@ -375,43 +378,56 @@ impl Score {
         ensures same { self.new ≡ self.old }
     {
         problem.validity();
-        let tried = self.tried(problem, class, value);
-        if tried.total(self.weights, others) >= bound {
+        let paid = paid_with(problem, self.plan.as_slice(), class, value, self.classes);
+        let rest = self.costs_without(problem, class);
+        if paid.total(self.weights, rest, others) >= bound {
             return None;
         }
-        let sure = self.roster.sure_gain(class, tried.spot);
-        if tried.total(self.weights, others + sure) >= bound {
+        let spot = tt_plan::spot(problem, class, value);
+        let sure = self.roster.sure_gain(class, spot);
+        if paid.total(self.weights, rest, others + sure) >= bound {
             return None;
         }
-        let more = self.roster.class_gain(problem, class, tried.spot);
-        let total = tried.total(self.weights, others + more);
+        let distribution = self.costs_at(problem, class, spot);
+        if paid.total(self.weights, distribution, others + sure) >= bound {
+            return None;
+        }
+        let more = self.roster.class_gain(problem, class, spot);
+        let total = paid.total(self.weights, distribution, others + more);
         if total < bound { Some(total) } else { None }
     }
 
-    /// A class at a value, as far as no students are asked.
-    fn tried(&self, problem: &Problem, class: u32, value: Value) -> Tried
+    /// The costs of the soft rules of which a class is no member.
+    fn costs_without(&self, problem: &Problem, class: u32) -> u128
         requires fits { Fits problem.now self.now }
-        requires value { IsOfDomain problem.now class value }
-        ensures { IsTried problem.now (plan_of self.now) class value result }
+        requires class { class < length problem.now.classes }
+        ensures costs { result ≡ cost_sum_without problem.now (occupancy_of self.now).spots class }
+        ensures few { result < 2 ^ 100 }
     {
-        problem.validity();
-        let spot = tt_plan::spot(problem, class, value);
-        let has = spot_now(problem, self.plan.as_slice(), class);
-        let paid = paid_with(problem, self.plan.as_slice(), class, value, self.classes);
+        costs_without(
+            problem,
+            &self.occupancy,
+            self.groups.as_slice(),
+            class,
+            self.rules.distribution,
+        )
+    }
+
+    /// The costs of the soft rules with a class at another spot.
+    fn costs_at(&self, problem: &Problem, class: u32, spot: Spot) -> u128
+        requires fits { Fits problem.now self.now }
+        requires class { class < length problem.now.classes }
+        requires spot { IsSpotOf problem.now class spot }
+        ensures costs { result ≡ cost_sum problem.now (slice_set (occupancy_of self.now).spots class (Some spot)) }
+        ensures few { result < 2 ^ 100 }
+    {
         let placing = Placing {
             problem,
             spots: self.occupancy.spots(),
             class,
             spot,
         };
-        let distribution = costs_with(&placing, self.groups.as_slice(), self.rules.distribution);
-        Tried {
-            has,
-            spot,
-            time: paid.time,
-            room: paid.room,
-            distribution,
-        }
+        costs_with(&placing, self.groups.as_slice(), self.rules.distribution)
     }
 
     /// Lists the classes that have to go where a class is forced to a value that isn't blocked: those

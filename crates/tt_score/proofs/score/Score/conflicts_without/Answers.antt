@@ -1,14 +1,11 @@
 use Rattle.std.proofs.Common.{◌∙◌, ap, sym}
 use Rattle.tt_bits.specs.Spots.{spot_at}
 use Rattle.tt_roster.specs.Conflicts.{student_conflicts}
-use Rattle.tt_score.proofs.PlanLemmas.{spot_in}
 use Rattle.tt_score.proofs.TriedLemmas.{spots_without}
 use Rattle.tt_score.proofs.score.Score.conflicts_without.Goals as goal
 
 pub conflicts_without-requires-clause-has : goal.conflicts_without-requires-clause-has
-conflicts_without-requires-clause-has c =
-    let s = c.args.self.now in
-    ap (λ l. spot_at l c.args.class) (c.requires.fits.placed ∙ c.requires.fits.kept.spots) ∙ spot_in c.args.problem.now s.plan.items c.args.class ∙ sym (rw c.as_slice.ensures.value at c.spot_now-has.ensures)
+conflicts_without-requires-clause-has c = ap (λ l. spot_at l c.args.class) c.requires.fits.placed ∙ sym c.spot-has.ensures
 
 pub returns-clause-conflicts : goal.returns-clause-conflicts
 returns-clause-conflicts c =

@@ -1,48 +1,84 @@
-use Rattle.std.proofs.Common.{◌∙◌, ◌+◌, ◌≤◌, ap, refl, arith}
+use Rattle.std.proofs.Common.{◌≡◌, ◌∙◌, ◌+◌, ◌≤◌, Some, ap, refl, arith}
 use Rattle.tt_roster.specs.Conflicts.{class_conflicts}
+use Rattle.tt_score.specs.Amounts.{cost_sum}
 use Rattle.tt_score.specs.Below.{below}
 use Rattle.tt_score.proofs.TotalLemmas.{below_none, below_some}
-use Rattle.tt_score.proofs.TriedLemmas.{AreTried, total_grows, tried_is}
+use Rattle.tt_score.proofs.TriedLemmas.{AreConflicts, IsPaidThen, conflicts_are, conflicts_then, costs_then, others_least, rest_least, spots_are, total_is, total_least}
 use Rattle.tt_score.proofs.score.Score.trial_below.Goals as goal
-use Rattle.tt_score.proofs.score.Score.trial_below.Goals.{After-tried-tried, After-class_gain-more}
+use Rattle.tt_score.proofs.score.Score.trial_below.Goals.{After-paid_with-paid, After-costs_without-rest, After-sure_gain-sure, After-costs_at-distribution, After-class_gain-more}
 
--- the class at the value, with all that its students add
-whole : (c : After-tried-tried)
-    → AreTried c.args.problem.now c.args.self.now c.args.class c.args.value c.tried-tried.result c.args.others (class_conflicts c.args.problem.now.travel c.args.self.now.roster.spots c.args.self.now.roster.seats c.args.class c.tried-tried.result.spot)
-whole c = tried_is c.args.problem.now c.args.self.now c.args.class c.args.value c.tried-tried.result c.args.others _ c.requires.fits c.requires.value c.tried-tried.ensures c.requires.others refl
+-- what all classes pay for their times and rooms with the class at the value
+paid : (c : After-paid_with-paid) → IsPaidThen c.args.problem.now c.args.self.now c.args.class c.args.value c.paid_with-paid.result
+paid c = record { time = rw c.as_slice.ensures.value at c.paid_with-paid.ensures.time; room = rw c.as_slice.ensures.value at c.paid_with-paid.ensures.room }
 
--- the same, where it is found
-found : (c : After-class_gain-more) → AreTried c.args.problem.now c.args.self.now c.args.class c.args.value c.tried-tried.result c.args.others c.class_gain-more.result
+-- the rules without those of the class cost no more
+rest : (c : After-costs_without-rest) → c.costs_without-rest.result ≤ costs_then c.args.problem.now c.args.self.now c.args.class c.args.value
+rest c = omega (arith, c.costs_without-rest.ensures.costs, rest_least c.args.problem.now c.args.self.now c.args.class c.args.value c.requires.fits)
+
+-- the students of the class then
+students : (c : After-sure_gain-sure) → AreConflicts c.args.problem.now c.args.self.now c.args.class c.args.value c.args.others (class_conflicts c.args.problem.now.travel c.args.self.now.roster.spots c.args.self.now.roster.seats c.args.class c.spot-spot.result)
+students c = conflicts_are c.args.problem.now c.args.self.now c.args.class c.args.value c.spot-spot.result c.args.others _ c.requires.fits c.requires.value c.spot-spot.ensures.spot c.requires.others refl
+
+-- those who are sure are some of them
+sure : (c : After-sure_gain-sure) → c.args.others + c.sure_gain-sure.result ≤ conflicts_then c.args.problem.now c.args.self.now c.args.class c.args.value
+sure c = omega (arith, c.sure_gain-sure.ensures.part c.args.problem.now c.requires.fits.roster, (students c).sum)
+
+-- the rules then
+costs : (c : After-costs_at-distribution) → c.costs_at-distribution.result ≡ costs_then c.args.problem.now c.args.self.now c.args.class c.args.value
+costs c =
+    let s = c.args.self.now in
+    c.costs_at-distribution.ensures.costs ∙ ap (cost_sum c.args.problem.now) (spots_are c.args.problem.now s c.args.class c.args.value (Some c.spot-spot.result) s.occupancy.spots c.requires.fits c.spot-spot.ensures.spot refl)
+
+-- all students, where they were asked
+found : (c : After-class_gain-more) → AreConflicts c.args.problem.now c.args.self.now c.args.class c.args.value c.args.others c.class_gain-more.result
 found c =
-    tried_is c.args.problem.now c.args.self.now c.args.class c.args.value c.tried-tried.result c.args.others _ c.requires.fits c.requires.value c.tried-tried.ensures c.requires.others
+    conflicts_are c.args.problem.now c.args.self.now c.args.class c.args.value c.spot-spot.result c.args.others _ c.requires.fits c.requires.value c.spot-spot.ensures.spot c.requires.others
     (rw c.sure_gain-sure.ensures.same at c.class_gain-more.ensures.pairs)
 
 pub returns-then-total-bound-clause-total : goal.returns-then-total-bound-clause-total
 returns-then-total-bound-clause-total c =
-    let x = c.tried-tried.result in
-    let all = whole (goal.at.returns-then-total-bound-clause-total c).After-tried-tried in
-    let part : c.args.others ≤ c.args.others + class_conflicts c.args.problem.now.travel c.args.self.now.roster.spots c.args.self.now.roster.seats c.args.class x.spot = omega arith in
-    below_none c.args.bound _ (omega (arith, c.if-total-bound.true, c.total.ensures, total_grows c.args.self.now.weights x _ _ part, all.total))
+    let at = goal.at.returns-then-total-bound-clause-total c in
+    let others = others_least c.args.problem.now c.args.self.now c.args.class c.args.value c.args.others c.requires.fits c.requires.value c.requires.others in
+    below_none c.args.bound _
+    (omega (arith, c.if-total-bound.true, c.total.ensures, total_least c.args.problem.now c.args.self.now c.args.class c.args.value _ _ _ c.requires.fits (paid at.After-paid_with-paid) (rest at.After-costs_without-rest) others))
 
 pub overflow_add-others : goal.overflow_add-others
-overflow_add-others c = omega (arith, c.sure_gain-sure.ensures.part c.args.problem.now c.requires.fits.roster, (whole (goal.at.overflow_add-others c).After-tried-tried).few)
+overflow_add-others c = omega (arith, c.sure_gain-sure.ensures.part c.args.problem.now c.requires.fits.roster, (students (goal.at.overflow_add-others c).After-sure_gain-sure).few)
 
 pub returns-then-total-bound-2-clause-total : goal.returns-then-total-bound-2-clause-total
 returns-then-total-bound-2-clause-total c =
-    let x = c.tried-tried.result in
-    let all = whole (goal.at.returns-then-total-bound-2-clause-total c).After-tried-tried in
-    let part : c.args.others + c.sure_gain-sure.result ≤ c.args.others + class_conflicts c.args.problem.now.travel c.args.self.now.roster.spots c.args.self.now.roster.seats c.args.class x.spot = omega (arith, c.sure_gain-sure.ensures.part c.args.problem.now c.requires.fits.roster) in
-    below_none c.args.bound _ (omega (arith, c.if-total-bound-2.true, c.total-2.ensures, total_grows c.args.self.now.weights x _ _ part, all.total))
+    let at = goal.at.returns-then-total-bound-2-clause-total c in
+    below_none c.args.bound _
+    (omega (arith, c.if-total-bound-2.true, c.total-2.ensures, total_least c.args.problem.now c.args.self.now c.args.class c.args.value _ _ _ c.requires.fits (paid at.After-paid_with-paid) (rest at.After-costs_without-rest) (sure at.After-sure_gain-sure)))
 
 pub overflow_add-others-2 : goal.overflow_add-others-2
-overflow_add-others-2 c = omega (arith, (found (goal.at.overflow_add-others-2 c).After-class_gain-more).few)
+overflow_add-others-2 c = omega (arith, c.sure_gain-sure.ensures.part c.args.problem.now c.requires.fits.roster, (students (goal.at.overflow_add-others-2 c).After-sure_gain-sure).few)
 
 pub returns-then-total-bound-3-clause-total : goal.returns-then-total-bound-3-clause-total
 returns-then-total-bound-3-clause-total c =
-    let all = found (goal.at.returns-then-total-bound-3-clause-total c).After-class_gain-more in
-    below_some c.args.bound c.total-total.result c.if-total-bound-3.true ∙ ap (below c.args.bound) (c.total-total.ensures ∙ all.total)
+    let at = goal.at.returns-then-total-bound-3-clause-total c in
+    let rules : c.costs_at-distribution.result ≤ costs_then c.args.problem.now c.args.self.now c.args.class c.args.value = omega (arith, costs at.After-costs_at-distribution) in
+    below_none c.args.bound _
+    (omega (arith, c.if-total-bound-3.true, c.total-3.ensures, total_least c.args.problem.now c.args.self.now c.args.class c.args.value _ _ _ c.requires.fits (paid at.After-paid_with-paid) rules (sure at.After-sure_gain-sure)))
 
-pub returns-else-total-bound-3-clause-total : goal.returns-else-total-bound-3-clause-total
-returns-else-total-bound-3-clause-total c =
-    let all = found (goal.at.returns-else-total-bound-3-clause-total c).After-class_gain-more in
-    below_none c.args.bound _ (omega (arith, c.if-total-bound-3.false, c.total-total.ensures, all.total))
+pub overflow_add-others-3 : goal.overflow_add-others-3
+overflow_add-others-3 c = omega (arith, (found (goal.at.overflow_add-others-3 c).After-class_gain-more).few)
+
+pub returns-then-total-bound-4-clause-total : goal.returns-then-total-bound-4-clause-total
+returns-then-total-bound-4-clause-total c =
+    let at = goal.at.returns-then-total-bound-4-clause-total c in
+    below_some c.args.bound c.total-total.result c.if-total-bound-4.true
+    ∙ ap (below c.args.bound)
+    (c.total-total.ensures
+    ∙ total_is c.args.problem.now c.args.self.now c.args.class c.args.value _ _ _ c.requires.fits (paid at.After-paid_with-paid) (costs at.After-costs_at-distribution) (found at.After-class_gain-more).sum)
+
+pub returns-else-total-bound-4-clause-total : goal.returns-else-total-bound-4-clause-total
+returns-else-total-bound-4-clause-total c =
+    let at = goal.at.returns-else-total-bound-4-clause-total c in
+    below_none c.args.bound _
+    (omega (
+      arith,
+      c.if-total-bound-4.false,
+      c.total-total.ensures,
+      total_is c.args.problem.now c.args.self.now c.args.class c.args.value _ _ _ c.requires.fits (paid at.After-paid_with-paid) (costs at.After-costs_at-distribution) (found at.After-class_gain-more).sum,
+    ))
