@@ -142,7 +142,7 @@ fn has_members(problem: &Problem) -> bool {
 }
 
 // Whether each student may have a class of each of two subparts.
-#[tactic(auto, using(tt_problem::proofs::SpanLemmas::few_subparts))]
+#[tactic(auto, using(tt_problem::proofs::SpanLemmas::few_subparts, tt_problem::proofs::SumLemmas::few_in_seats))]
 fn has_seats(alloc: Global, problem: &Problem) -> Result<bool, AllocError> {
     problem.validity();
     if problem.student_count() != 2 {
@@ -152,7 +152,7 @@ fn has_seats(alloc: Global, problem: &Problem) -> Result<bool, AllocError> {
     let table = sums::seat_table(alloc, parts)?;
     let seats = table.as_slice();
     let most = [
-        sums::most_seats(parts, seats, problem.student(1)),
+        sums::most_seats(seats, problem.student(1)),
         problem.most_seats(1),
     ];
     Ok(seats == [2].as_slice() && sums::seats_of(parts, seats) == 4 && most == [2, 2])

@@ -223,14 +223,14 @@ impl Problem {
     }
 
     /// The most classes that the list of the student at a place may have.
-    #[tactic(auto, using(crate::proofs::SpanLemmas::few_subparts, crate::proofs::SumLemmas::item_in_map))]
+    #[tactic(auto, using(crate::proofs::SpanLemmas::few_subparts, crate::proofs::SumLemmas::few_in_seats, crate::proofs::SumLemmas::seats_in_table, crate::proofs::IdLemmas::number_at))]
     pub fn most_seats(&self, student: u32) -> u32
         requires { student < length self.now.students }
         ensures most { result ≡ slice_index (map (most_seats self.now) self.now.students) student }
         ensures few { result ≤ 800000 }
     {
         let seats = self.index.seats.as_slice();
-        sums::most_seats(&self.parts, seats, self.student(student))
+        sums::most_seats(seats, self.student(student))
     }
 
     /// The rules by which parts make a problem hold.

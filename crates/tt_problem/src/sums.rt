@@ -5,7 +5,7 @@ ghost use Rattle.std.specs.Prelude.{◌≡◌, ◌≤◌, ◌<◌, All, IfOk, le
 ghost use Rattle.tt_base.specs.Limits.{most_members};
 ghost use Rattle.tt_problem.specs.Spans.{Covers, IsSpanWithin};
 ghost use Rattle.tt_problem.specs.Valid.{IsValidRule, IsValidStudent, course_spans};
-ghost use Rattle.tt_problem.specs.Seats.{most_of_course, most_seats};
+ghost use Rattle.tt_problem.specs.Seats.{most_of_course};
 ghost use Rattle.tt_problem.specs.Sums.{time_cells, class_cells, cells_of, member_count, links_of, seats_of};
 
 use crate::parts::{ClassPart, CoursePart, Parts, Rule, Span, StudentPart, TimeChoice};
@@ -129,15 +129,13 @@ pub fn seat_table(alloc: Global, parts: &Parts) -> Result<Row<u32>, AllocError>
     Ok(Row::from_vec(seats))
 }
 
-/// The most classes that the list of a student may have. `seats` has for each course the greatest
-/// number of subparts of a configuration.
-#[tactic(auto, unfolding(crate::specs::Seats::most_seats))]
-pub fn most_seats(parts: &Parts, seats: &[u32], student: &StudentPart) -> u32
-    requires seats { seats.now ≡ map (most_of_course parts.now) parts.now.courses }
-    requires configs { Covers parts.now.configs (length parts.now.subparts) }
-    requires few_subparts { length parts.now.subparts ≤ 20000 }
-    requires student { IsValidStudent parts.now student.now }
-    ensures most { result ≡ most_seats parts.now student.now }
+/// The sum of a table over the courses of a student. Where the table has for each course the greatest
+/// number of subparts of a configuration, it is the most classes that the student's list may have.
+pub fn most_seats(seats: &[u32], student: &StudentPart) -> u32
+    requires few_seats { All (λ most. most ≤ 20000) seats.now }
+    requires courses { All (λ place. place < length seats.now) student.now.courses }
+    requires few_courses { length student.now.courses ≤ 40 }
+    ensures most { result ≡ sum_by (slice_index seats.now) student.now.courses }
     ensures few { result ≤ 800000 }
 {
     let mut most = 0;
@@ -149,6 +147,7 @@ pub fn most_seats(parts: &Parts, seats: &[u32], student: &StudentPart) -> u32
 
 /// The most classes that the lists of all students may have together. `seats` has for each course
 /// the greatest number of subparts of a configuration.
+#[tactic(auto, using(crate::proofs::SumLemmas::few_in_seats))]
 pub fn seats_of(parts: &Parts, seats: &[u32]) -> u64
     requires seats { seats.now ≡ map (most_of_course parts.now) parts.now.courses }
     requires configs { Covers parts.now.configs (length parts.now.subparts) }
@@ -159,7 +158,7 @@ pub fn seats_of(parts: &Parts, seats: &[u32]) -> u64
 {
     let mut sum = 0;
     for student in parts.students.as_slice() {
-        sum += u64::from(most_seats(parts, seats, student));
+        sum += u64::from(most_seats(seats, student));
     }
     sum
 }

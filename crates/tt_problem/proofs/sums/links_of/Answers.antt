@@ -1,6 +1,5 @@
-use Rattle.std.proofs.Common.{rules, arith}
+use Rattle.std.proofs.Common.{arith}
 use Rattle.std.proofs.lemmas.Grind.{common_steps}
-use Rattle.tt_problem.specs.Valid.{IsValidRule}
 use Rattle.tt_problem.proofs.SumLemmas.{few_in_table, links_in_table}
 use Rattle.tt_problem.proofs.sums.links_of.Goals as goal
 
@@ -11,6 +10,5 @@ pub loop-rule-preserved : goal.loop-rule-preserved
 loop-rule-preserved c =
     let p = c.args.parts.now in
     let rule = c.rule-item.result in
-    let valid : IsValidRule p rule = search rules in
-    let links = links_in_table p c.args.cells.now rule c.requires.cells valid in
+    let links = links_in_table p c.args.cells.now rule c.requires.cells in
     grind (arith, common_steps)
