@@ -27,7 +27,7 @@ use Rattle.tt_verify.specs.declared.violation.Violation.{Violation}
 use Rattle.tt_verify.specs.declared.violation.Violation.TheVariants as what
 use Rattle.tt_solution.specs.Published.{published_plan, published_value}
 use Rattle.tt_solution.specs.Timetable.{Timetable}
-use Rattle.tt_verify.specs.Costs.{hard_count}
+use Rattle.tt_verify.specs.Verified.{totals_in}
 use Rattle.tt_verify.specs.Pairs.{are_related, related_pairs}
 use Rattle.tt_verify.specs.Violations.{all_rule_faults, amount_faults, clashes_of, closed_fault, closed_faults, hard_violations, kind_faults, pair_faults, rule_faults, rule_faults_at}
 use Rattle.tt_verify.proofs.PairLemmas.{length-related_pairs, pairs_among-placed}
@@ -141,7 +141,7 @@ length-hard_violations p plan whole =
 
 -- what is found after the listing's own faults is what the totals count as hard
 pub hard_found : (p : Parts) (t : Timetable) (plan : List (Option Value)) (spots : List (Option Spot)) (before after : List Violation) → plan ≡ published_plan p t → spots ≡ spots_of p plan
-    → after ≡ before ++ hard_violations p spots → length after - length before ≡ hard_count p t
+    → after ≡ before ++ hard_violations p spots → length after - length before ≡ (totals_in p t).hard
 hard_found p t plan spots before after planned at grown =
     let whole : length (published_plan p t) ≡ length p.classes = length-map-range_with_len (published_value p t) 0 (length p.classes) in
     let here : spots ≡ spots_of p (published_plan p t) = at ∙ ap (spots_of p) planned in

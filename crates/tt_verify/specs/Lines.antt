@@ -4,6 +4,7 @@ use Rattle.std.specs.List.{flat_map}
 use Rattle.tt_problem.specs.declared.parts.Parts.{Parts}
 use Rattle.tt_problem.specs.Places.{class_id, student_id}
 use Rattle.tt_text.specs.Fields.{field}
+use Rattle.tt_verify.specs.declared.sums.Sums.{Sums}
 use Rattle.tt_verify.specs.declared.violation.Violation.{Violation}
 use Rattle.tt_verify.specs.declared.violation.Violation.TheVariants as what
 
@@ -27,14 +28,14 @@ line_of p (what.Amount rule amount) = field (codes "rule ") (rule + 1) ++ field 
 unfoldable pub lines_of : Parts → List Violation → List ℕ
 lines_of p violations = flat_map (line_of p) violations
 
--- the line on the sums
-unfoldable pub sum_line : (time room distribution student total hard : ℕ) → List ℕ
-sum_line time room distribution student total hard =
-    field (codes "sum time ") time
-    ++ field (codes " room ") room
-    ++ field (codes " distribution ") distribution
-    ++ field (codes " student ") student
-    ++ field (codes " total ") total
+-- the line on these sums and hard conflicts
+unfoldable pub sum_line : Sums → (hard : ℕ) → List ℕ
+sum_line s hard =
+    field (codes "sum time ") s.penalties.time
+    ++ field (codes " room ") s.penalties.room
+    ++ field (codes " distribution ") s.penalties.distribution
+    ++ field (codes " student ") s.penalties.student
+    ++ field (codes " total ") s.total
     ++ field (codes " hard ") hard
     ++ codes "\n"
 

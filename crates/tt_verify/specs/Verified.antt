@@ -5,18 +5,26 @@ use Rattle.tt_score.specs.declared.totals.Totals.{Totals}
 use Rattle.tt_score.specs.Totals.{totals_of}
 use Rattle.tt_solution.specs.Published.{published_plan}
 use Rattle.tt_solution.specs.Timetable.{Timetable}
+use Rattle.tt_verify.specs.declared.sums.Sums.{Sums}
 use Rattle.tt_verify.specs.declared.violation.Violation.{Violation}
 use Rattle.tt_verify.specs.Violations.{violations_of}
 use Rattle.tt_verify.specs.Lines.{lines_of, sum_line, verdict_line}
 
--- the line on these totals
-abbrev pub totals_line : Totals → List ℕ
-totals_line t = sum_line t.time t.room t.distribution t.student t.total t.hard
+-- the sums of these totals
+abbrev pub sums_of : Totals → Sums
+sums_of t = record {
+  penalties = record { time = t.time; room = t.room; distribution = t.distribution; student = t.student };
+  total = t.total;
+}
 
--- a line for each of these violations, the line on these totals, and the last line
+-- a line for each of these violations, the line on the sums of these totals, and the last line
 abbrev pub text_with : Parts → List Violation → Totals → List ℕ
-text_with p violations totals = lines_of p violations ++ totals_line totals ++ verdict_line (length violations)
+text_with p violations totals = lines_of p violations ++ sum_line (sums_of totals) totals.hard ++ verdict_line (length violations)
 
--- what is written of a timetable: all that is wrong with it, the totals of its plan and of its lists, and the last line
+-- the totals of a timetable, those of its plan and of its lists
+abbrev pub totals_in : Parts → Timetable → Totals
+totals_in p t = totals_of p [] (published_plan p t) t.lists
+
+-- what is written of a timetable: all that is wrong with it, its totals, and the last line
 unfoldable pub verified_text : Parts → Timetable → List ℕ
-verified_text p t = text_with p (violations_of p t) (totals_of p [] (published_plan p t) t.lists)
+verified_text p t = text_with p (violations_of p t) (totals_in p t)

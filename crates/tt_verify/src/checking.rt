@@ -1,10 +1,8 @@
 ghost use Rattle.std.specs.Prelude.{◌≡◌, ◌++◌, IfOk, OnOk, length, vec_len};
 ghost use Rattle.tt_score.specs.Members.{AreSpotsOf};
-ghost use Rattle.tt_solution.specs.Published.{published_plan};
 ghost use Rattle.tt_solution.specs.Timetable.{IsTimetableOf};
-ghost use Rattle.tt_verify.specs.Costs.{AreSumsOf, hard_count, sums_line};
-ghost use Rattle.tt_verify.specs.Lines.{lines_of, verdict_line};
-ghost use Rattle.tt_verify.specs.Verified.{verified_text};
+ghost use Rattle.tt_verify.specs.Lines.{lines_of, sum_line, verdict_line};
+ghost use Rattle.tt_verify.specs.Verified.{sums_of, totals_in, verified_text};
 ghost use Rattle.tt_verify.specs.Violations.{hard_violations, listing_faults, violations_of};
 
 use crate::clashes::add_clashes;
@@ -75,8 +73,8 @@ fn findings_on(
 ) -> Result<Findings, AllocError>
     requires { IsTimetableOf problem.now published.now }
     ensures violations { IfOk result (λ f. f.violations.items ≡ violations_of problem.now published.now) }
-    ensures hard { IfOk result (λ f. f.hard ≡ hard_count problem.now published.now) }
-    ensures sums { IfOk result (λ f. AreSumsOf problem.now (published_plan problem.now published.now) published.now.lists f.sums) }
+    ensures hard { IfOk result (λ f. f.hard ≡ (totals_in problem.now published.now).hard) }
+    ensures sums { IfOk result (λ f. f.sums ≡ sums_of (totals_in problem.now published.now)) }
 {
     problem.validity();
     let plan = published_plan(alloc, problem, published)?;
@@ -97,7 +95,7 @@ fn findings_on(
 /// Appends a line for each violation, the line on the sums, and the last line.
 #[tactic(auto, using(std::proofs::Common::append_assoc))]
 fn add_findings(out: &mut Reply, problem: &Problem, findings: &Findings) -> Result<(), AllocError>
-    ensures { OnOk result (out.new ≡ out.old ++ (lines_of problem.now findings.now.violations.items ++ sums_line findings.now.sums findings.now.hard ++ verdict_line (vec_len findings.now.violations))) }
+    ensures { OnOk result (out.new ≡ out.old ++ (lines_of problem.now findings.now.violations.items ++ sum_line findings.now.sums findings.now.hard ++ verdict_line (vec_len findings.now.violations))) }
 {
     add_lines(out, problem, findings.violations.as_slice())?;
     add_sum_line(out, &findings.sums, findings.hard)?;

@@ -1,6 +1,5 @@
 ghost use Rattle.std.specs.Prelude.{◌≡◌, ◌++◌, OnOk, codes};
-ghost use Rattle.tt_verify.specs.Costs.{sums_line};
-ghost use Rattle.tt_verify.specs.Lines.{class_text, line_of, lines_of, verdict_line};
+ghost use Rattle.tt_verify.specs.Lines.{class_text, line_of, lines_of, sum_line, verdict_line};
 ghost use Rattle.tt_text.specs.Fields.{field};
 
 use crate::sums::Sums;
@@ -97,7 +96,7 @@ pub fn add_lines(
 /// Appends the line on the sums.
 #[tactic(auto, using(std::proofs::Common::append_assoc), unfolding(crate::specs::Lines::sum_line))]
 pub fn add_sum_line(out: &mut Reply, sums: &Sums, hard: u64) -> Result<(), AllocError>
-    ensures { OnOk result (out.new ≡ out.old ++ sums_line sums.now hard) }
+    ensures { OnOk result (out.new ≡ out.old ++ sum_line sums.now hard) }
 {
     let penalties = sums.penalties;
     out.field("sum time ", u128::from(penalties.time))?;

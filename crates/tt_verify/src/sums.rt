@@ -1,4 +1,4 @@
-ghost use Rattle.std.specs.Prelude.{◌≡◌, ◌*◌, ◌/◌, ◌<◌, ◌≤◌, ◌^◌, IfOk, length};
+ghost use Rattle.std.specs.Prelude.{[], ◌≡◌, ◌*◌, ◌/◌, ◌<◌, ◌≤◌, ◌^◌, IfOk, length};
 ghost use Rattle.tt_plan.specs.Domain.{room_penalty, spots_of, time_penalty};
 ghost use Rattle.tt_problem.specs.Valid.{AreValidWeights};
 ghost use Rattle.tt_score.specs.Amounts.{cost_sum, kind_cost};
@@ -7,7 +7,9 @@ ghost use Rattle.tt_score.specs.Placed.{over_placed};
 ghost use Rattle.tt_score.specs.Plans.{IsPlanOf};
 ghost use Rattle.tt_score.specs.Weighted.{weighted};
 ghost use Rattle.tt_solution.specs.Timetable.{IsTimetableOf};
-ghost use Rattle.tt_verify.specs.Costs.{AreSumsOf, cost_at};
+ghost use Rattle.tt_score.specs.Totals.{totals_of};
+ghost use Rattle.tt_verify.specs.Costs.{cost_at};
+ghost use Rattle.tt_verify.specs.Verified.{sums_of};
 
 use crate::amounts::rule_amount;
 use crate::students::student_conflicts;
@@ -143,7 +145,7 @@ pub fn sums_of(
     requires spots { spots.now ≡ spots_of problem.now plan.now }
     requires whole { length spots.now ≡ length problem.now.classes }
     requires fit { AreSpotsOf problem.now spots.now }
-    ensures { IfOk result (λ s. AreSumsOf problem.now plan.now published.now.lists s) }
+    ensures { IfOk result (λ s. s ≡ sums_of (totals_of problem.now [] plan.now published.now.lists)) }
 {
     let penalties = Penalties {
         time: time_sum(problem, plan),
