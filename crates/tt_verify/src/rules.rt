@@ -15,6 +15,13 @@ use tt_bits::{PairKind, Spot};
 use tt_problem::{DistKind, Problem, Rule};
 use tt_travel::Travel;
 
+/// A required rule on pairs, and its place in the problem.
+#[derive(Clone, Copy)]
+struct PairRule {
+    place: u32,
+    kind: PairKind,
+}
+
 /// Whether two classes are placed, and their spots break a rule on pairs, the first that of the
 /// member listed earlier.
 #[tactic(auto, unfolding(crate::specs::Pairs::are_related))]
@@ -35,8 +42,7 @@ fn breaks(travel: &Travel, spots: &[Option<Spot>], kind: PairKind, class: u32, o
 fn add_pairs_of(
     travel: &Travel,
     spots: &[Option<Spot>],
-    kind: PairKind,
-    rule: u32,
+    rule: PairRule,
     class: u32,
     later: &[u32],
     found: &mut Vec<Violation>,
@@ -44,12 +50,12 @@ fn add_pairs_of(
     requires rooms { (c : ℕ) → IfSome (spot_at spots.now c) (λ x. IsRoomOf travel.now x.room) }
     requires class { class < length spots.now }
     requires within { All (λ class. class < length spots.now) later.now }
-    ensures { OnOk result (found.new.items ≡ found.old.items ++ pair_faults rule (pairs_with (are_related (is_violated kind travel.now) spots.now) class later.now)) }
+    ensures { OnOk result (found.new.items ≡ found.old.items ++ pair_faults rule.place (pairs_with (are_related (is_violated rule.kind travel.now) spots.now) class later.now)) }
 {
     for other in later {
-        if breaks(travel, spots, kind, class, *other) {
+        if breaks(travel, spots, rule.kind, class, *other) {
             found.push(Violation::Pair {
-                rule,
+                rule: rule.place,
                 class,
                 other: *other,
             })?;
@@ -62,19 +68,18 @@ fn add_pairs_of(
 fn add_pairs(
     travel: &Travel,
     spots: &[Option<Spot>],
-    kind: PairKind,
-    rule: u32,
+    rule: PairRule,
     members: &[u32],
     found: &mut Vec<Violation>,
 ) -> Result<(), AllocError>
     requires rooms { (c : ℕ) → IfSome (spot_at spots.now c) (λ x. IsRoomOf travel.now x.room) }
     requires within { All (λ class. class < length spots.now) members.now }
-    ensures { OnOk result (found.new.items ≡ found.old.items ++ pair_faults rule (related_pairs (are_related (is_violated kind travel.now) spots.now) members.now)) }
+    ensures { OnOk result (found.new.items ≡ found.old.items ++ pair_faults rule.place (related_pairs (are_related (is_violated rule.kind travel.now) spots.now) members.now)) }
 {
     for (place, class) in members.iter().enumerate() {
         let class = *class;
         let later = &members[place + 1..];
-        add_pairs_of(travel, spots, kind, rule, class, later, found)?;
+        add_pairs_of(travel, spots, rule, class, later, found)?;
     }
     Ok(())
 }
@@ -126,7 +131,8 @@ fn add_rule_faults(
     }
     match rule.kind {
         DistKind::Pair { kind } => {
-            add_pairs(travel, spots, kind, place, rule.members.as_slice(), found)
+            let members = rule.members.as_slice();
+            add_pairs(travel, spots, PairRule { place, kind }, members, found)
         }
         DistKind::MaxDays { .. }
         | DistKind::MaxWeeks { .. }
