@@ -2,15 +2,14 @@ use Rattle.std.proofs.Common.{◌≡◌, ◌∙◌, ℕ, List, None, length, ap,
 use Rattle.std.specs.Prelude.{nat_le}
 use Rattle.std.proofs.lemmas.List.{with_items_is}
 use Rattle.tt_clash.specs.Blocked.{blocked_by}
-use Rattle.tt_score.proofs.PlanLemmas.{length-spots_from}
+use Rattle.tt_score.proofs.KeptLemmas.{length-spots}
 use Rattle.tt_score.proofs.ConflictLemmas.{is-placing, held-by, free-alone, groups-same, set-agree}
 use Rattle.tt_score.proofs.score.Score.conflicts_within.Goals as goal
 
 pub conflicts_within-requires-clause-placing : goal.conflicts_within-requires-clause-placing
 conflicts_within-requires-clause-placing c =
     let kept = c.requires.fits.kept in
-    let long : length c.args.self.now.occupancy.spots ≡ length c.args.problem.now.classes = omega (arith, ap length kept.spots, length-spots_from c.args.problem.now 0 c.args.self.now.plan.items, kept.planned.whole) in
-    is-placing c.args.problem.now c.args.self.now.occupancy.spots c.spots.result.now c.args.class c.spot.result c.spots.ensures kept.valid.travel_rooms kept.of_classes long c.requires.value.within c.spot.ensures.fits
+    is-placing c.args.problem.now c.args.self.now.occupancy.spots c.spots.result.now c.args.class c.spot.result c.spots.ensures kept.valid.travel_rooms kept.of_classes (length-spots kept) c.requires.value.within c.spot.ensures.fits
 
 pub conflicts_within-requires-clause-groups : goal.conflicts_within-requires-clause-groups
 conflicts_within-requires-clause-groups c =
