@@ -28,8 +28,8 @@ fn has_value(state: &State, class: u32, value: Value) -> bool
 }
 
 /// The best once a value was looked at. `others` are the student conflicts without the class. With the
-/// value that the class has the total is the present one, so this is left out. The conflict set is
-/// asked for only where the total is lower.
+/// value that the class has the total is the present one, so this is left out. Whether the value is
+/// blocked, and then its conflict set, is asked for only where the total is lower.
 #[tactic(auto, using(crate::proofs::ClassLemmas::none_within))]
 fn look_at(state: &mut State, class: u32, value: Value, others: u64, best: Best) -> Best
     requires value { IsOfDomain state.old.problem class value }
@@ -43,12 +43,12 @@ fn look_at(state: &mut State, class: u32, value: Value, others: u64, best: Best)
     if has_value(state, class, value) {
         return best;
     }
-    if state.blocked(class, value).is_some() {
-        return best;
-    }
     let Some(total) = state.trial_below(class, value, others, best.total) else {
         return best;
     };
+    if state.blocked(class, value).is_some() {
+        return best;
+    }
     if state.find_conflicts_within(class, value, 0) {
         Best {
             total,
