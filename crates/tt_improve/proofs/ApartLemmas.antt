@@ -2,6 +2,7 @@
 use Rattle.std.proofs.Common.{◌≡◌, ℕ, ◌+◌, ◌<◌, Bool, true, false, cond, List, [], ◌∷◌, Option, None, length, get_or, count_by, sum_by, refl, ap, sym, ◌∙◌, arith}
 use Rattle.std.specs.Prelude.{not, ◌&&◌, ◌==◌}
 use Rattle.std.specs.List.{AllByRecursion, filter, list_any}
+use Rattle.std.proofs.Math.Bool.{and-false}
 use Rattle.std.proofs.lemmas.Bool.{eqb-true, ne_eqb}
 use Rattle.std.proofs.lemmas.List.Sums.{sum_by-cons}
 use Rattle.tt_base.specs.Among.{pairs_among}
@@ -100,12 +101,8 @@ no_pair p s student course sound within none =
 pub meets_none : (p : Parts) (s : Snapshot) (list : List ℕ) (class : ℕ) → spot_at (spots_of p s.plan) class ≡ None → meets_another p s list class ≡ false
 meets_none p s list class is = none_passes (λ other. not (other == class) && in_conflict p (spots_of p s.plan) class other) fails list
   where
-    neither : (b : Bool) → (b && false) ≡ false
-    neither true = refl
-    neither false = refl
-
     fails : (other : ℕ) → (not (other == class) && in_conflict p (spots_of p s.plan) class other) ≡ false
-    fails other = rw is (neither (not (other == class)))
+    fails other = rw is (and-false (not (other == class)))
 
 -- the same, where the spots are named
 pub meets_none_at : (p : Parts) (s : Snapshot) (list : List ℕ) (class : ℕ) (spots : List (Option Spot)) (o : Option Spot) → spots ≡ spots_of p s.plan → o ≡ get_or spots class o → o ≡ None → false ≡ meets_another p s list class

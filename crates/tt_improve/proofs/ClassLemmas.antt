@@ -3,7 +3,7 @@ use Rattle.std.proofs.Common.{◌≡◌, ℕ, nat_le, ◌+◌, ◌<◌, ◌≤�
 use Rattle.std.specs.Prelude.{◌&&◌, ◌==◌, IfSome, slice_get, slice_set, option_and_then, if◌then◌else◌}
 use Rattle.std.specs.Option.{is_none, option_map}
 use Rattle.std.specs.List.{filter}
-use Rattle.std.proofs.lemmas.Bool.{and_parts, eqb-true}
+use Rattle.std.proofs.lemmas.Bool.{and_parts, eqb-true, le-ltb, ltb-true}
 use Rattle.std.proofs.lemmas.List.{drop_all, set-get_or}
 use Rattle.std.proofs.lemmas.Bool.Decides.{nat_tests}
 use Rattle.tt_base.specs.Lists.{first_least}
@@ -39,12 +39,9 @@ best_nothing Of free total bound = record { low = omega arith; found = tt }
 pub best_next : (Of : Value → Type 0) (free : Value → Bool) (total : Value → ℕ) (bound : ℕ) (best : Best) (v : Value) → Of v → IsBestBelow Of free total bound best → IsBestBelow Of free total bound (better free total best v)
 best_next Of free total bound best v of h = by (nat_lt (total v) best.total) (free v) refl refl
   where
-    less_is : (m n : ℕ) → nat_lt m n ≡ true → m < n
-    less_is m n e = grind (arith, nat_tests)
-
     by : (low is : Bool) → nat_lt (total v) best.total ≡ low → free v ≡ is → IsBestBelow Of free total bound (cond (low && is) (record { total = total v; value = Some v }) best)
     by true true b e =
-        let lt = less_is (total v) best.total b in
+        let lt = ltb-true (total v) best.total b in
         record { low = omega (arith, lt, h.low); found = (of, e, omega (arith, lt, h.low)) }
     by true false b e = h
     by false is b e = h
@@ -65,11 +62,8 @@ unfolding total_with
 own_no_better p s class v best is low =
     let same : slice_set s.plan class (Some v) ≡ s.plan = ap (slice_set s.plan class) (sym is) ∙ set-get_or s.plan class None in
     let total : total_with p s class v ≡ total_of p s = ap (λ plan. (totals_of p s.closures plan s.lists).total) same in
-    let high : nat_lt (total_with p s class v) best.total ≡ false = not_less (total_with p s class v) best.total (omega (arith, total, low)) in
+    let high : nat_lt (total_with p s class v) best.total ≡ false = le-ltb (total_with p s class v) best.total (omega (arith, total, low)) in
     rw high refl
-  where
-    not_less : (m n : ℕ) → n ≤ m → nat_lt m n ≡ false
-    not_less m n le = grind (arith, nat_tests)
 
 -- the walk goes on over the values that are left
 pub walk_next : (free : Value → Bool) (total : Value → ℕ) (domain : List Value) (k : ℕ) (v : Value) (start best now : Best) → slice_get domain k ≡ Some v → now ≡ better free total best v
