@@ -1,4 +1,4 @@
-ghost use Rattle.std.specs.Prelude.{◌≡◌, ◌<◌, ◌≤◌, ◌++◌, [], None, Some, IfOk, IfSome, OnOk, OnErr, cond, false, length, take};
+ghost use Rattle.std.specs.Prelude.{◌≡◌, ◌<◌, ◌≤◌, ◌++◌, [], None, Some, IfOk, IfSome, OnOk, cond, false, length, take};
 ghost use Rattle.std.specs.Option.{option_map};
 ghost use Rattle.tt_state.specs.History.{IsWithinStep, earlier};
 ghost use Rattle.tt_state.specs.Snapshots.{in_order, list_in, with_list};
@@ -34,7 +34,7 @@ impl StudentList {
         state.soundness();
         let mut own = Vec::new(alloc);
         let mut rest = Vec::new(alloc);
-        for class in state.score().roster().classes(student) {
+        for class in state.classes_of(student) {
             if is_of_course(state.problem(), course, class) {
                 own.push(class)?;
             } else {

@@ -42,13 +42,12 @@ fn meets_another(state: &State, student: u32, class: u32) -> bool
 {
     state.soundness();
     state.problem().validity();
-    let roster = state.score().roster();
     let travel = state.problem().travel();
-    let spots = roster.spots();
+    let spots = state.score().roster().spots();
     let Some(spot) = &spots[class as usize] else {
         return false;
     };
-    for other in roster.classes(student) {
+    for other in state.classes_of(student) {
         if other != class && conflicts_at(travel, spots, spot, other) {
             return true;
         }
@@ -65,7 +64,7 @@ pub(crate) fn has_pair(state: &State, student: u32, course: u32) -> bool
         (own_of state.now.problem course (list_in state.now.present student)) ≡ 0 }
 {
     state.soundness();
-    for class in state.score().roster().classes(student) {
+    for class in state.classes_of(student) {
         if is_of_course(state.problem(), course, class) && meets_another(state, student, class) {
             return true;
         }

@@ -1,5 +1,4 @@
-use Rattle.std.proofs.Common.{ℕ, List, ap, sym, ◌∙◌}
-use Rattle.tt_roster.specs.Lists.{list_of}
+use Rattle.std.proofs.Common.{ap, sym, ◌∙◌}
 use Rattle.tt_state.specs.Snapshots.{list_in}
 use Rattle.tt_improve.specs.Pairs.{has_pair_with}
 use Rattle.tt_improve.proofs.ApartLemmas.{no_pair}
@@ -9,7 +8,7 @@ use Rattle.tt_improve.proofs.pairs.has_pair.Goals as goal
 pub loop-class-init : goal.loop-class-init
 loop-class-init c =
     let h = c.args.state.now in
-    let is = c.into_iter-class-iterator.ensures.into_iter_gives ∙ c.classes-class-items.ensures ∙ ap (λ (l : List (List ℕ)). list_of l c.args.student) (c.roster.ensures.lists ∙ c.score.ensures.lists) in
+    let is = c.into_iter-class-iterator.ensures.into_iter_gives ∙ c.classes_of-class-items.ensures in
     record {
       can = tt;
       finite = tt;
