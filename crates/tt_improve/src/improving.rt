@@ -2,7 +2,7 @@ ghost use Rattle.std.specs.Prelude.{◌≡◌, ◌+◌, ◌<◌, ◌≤◌, ◌^
 ghost use Rattle.tt_state.specs.History.{IsWithinStep, desk_of, earlier, stepped, with_taken};
 ghost use Rattle.tt_choice.specs.Ready.{HasRoom};
 ghost use Rattle.tt_improve.specs.Classes.{totals_in};
-ghost use Rattle.tt_improve.specs.Idle.{KnowsIdle, moved_at};
+ghost use Rattle.tt_improve.specs.Idle.{KnowsIdle, moved_at, objects_in};
 ghost use Rattle.tt_improve.specs.Objects.{objects_of};
 ghost use Rattle.tt_improve.specs.Rounds.{improved, moved_by};
 ghost use Rattle.tt_improve.specs.Standing.{IsNoWorse, IsObjectOf};
@@ -35,8 +35,8 @@ struct Descent {
 impl Descent {
     /// Before the first round.
     fn new(alloc: Global, state: &State) -> Result<Descent, AllocError>
-        ensures objects { IfOk result (λ descent. descent.objects.list.items ≡ objects_of state.now.problem state.now.present) }
-        ensures few { IfOk result (λ descent. length descent.objects.list.items ≤ 2 ^ 32) }
+        ensures objects { IfOk result (λ descent. objects_in descent.objects ≡ objects_of state.now.problem state.now.present) }
+        ensures few { IfOk result (λ descent. length (objects_in descent.objects) ≤ 2 ^ 32) }
         ensures idle { IfOk result (λ descent. KnowsIdle state.now.problem state.now.present descent.objects 1) }
         ensures room { IfOk result (λ descent. HasRoom state.now.problem descent.buffers) }
     {
@@ -78,23 +78,22 @@ fn make_round_at(
     place: usize,
     stage: u32,
 ) -> Result<bool, AllocError>
-    requires objects { descent.old.objects.list.items ≡ objects_of state.old.problem state.old.present }
-    requires place { place < length descent.old.objects.list.items }
+    requires objects { objects_in descent.old.objects ≡ objects_of state.old.problem state.old.present }
+    requires place { place < length (objects_in descent.old.objects) }
     requires idle { KnowsIdle state.old.problem state.old.present descent.old.objects stage }
     requires step { 0 < length (earlier state.old) }
     requires room { HasRoom state.old.problem descent.old.buffers }
     ensures room { HasRoom state.old.problem descent.new.buffers }
     ensures step { IsWithinStep (with_taken state.old []) (with_taken state.new []) }
-    ensures objects { descent.new.objects.list ≡ descent.old.objects.list }
-    ensures moved { IfOk result (λ moved. moved_at state.old.problem state.old.present descent.old.objects.list.items place ≡ cond moved (Some state.new.present) None) }
+    ensures objects { objects_in descent.new.objects ≡ objects_in descent.old.objects }
+    ensures moved { IfOk result (λ moved. moved_at state.old.problem state.old.present (objects_in descent.old.objects) place ≡ cond moved (Some state.new.present) None) }
     ensures same { IfOk result (λ moved. moved ≡ false → state.new.present ≡ state.old.present) }
     ensures idle { IfOk result (λ moved. KnowsIdle state.old.problem state.new.present descent.new.objects (stage + cond moved 1 0)) }
     ensures no_worse { OnOk result (IsNoWorse state.old.problem state.old.present state.new.present) }
 {
-    if descent.objects.is_of_stage(place, stage) {
+    let Some(object) = descent.objects.due(place, stage) else {
         return Ok(false);
-    }
-    let object = descent.objects.object(place);
+    };
     let moved = make_round(alloc, state, object, &mut descent.buffers)?;
     descent.objects.note(place, stage);
     Ok(moved)
@@ -110,8 +109,8 @@ fn descend<W: Watcher>(
     seed: u64,
     watcher: &mut W,
 ) -> Result<Improved, AllocError>
-    requires objects { descent.old.objects.list.items ≡ objects_of state.old.problem state.old.present }
-    requires few { length descent.old.objects.list.items ≤ 2 ^ 32 }
+    requires objects { objects_in descent.old.objects ≡ objects_of state.old.problem state.old.present }
+    requires few { length (objects_in descent.old.objects) ≤ 2 ^ 32 }
     requires idle { KnowsIdle state.old.problem state.old.present descent.old.objects 1 }
     requires room { HasRoom state.old.problem descent.old.buffers }
     requires step { 0 < length (earlier state.old) }
