@@ -7,7 +7,7 @@ ghost use Rattle.tt_fields.specs.List.{items_of};
 ghost use Rattle.tt_fields.specs.Table.{Reading, ReadingOnto};
 
 use crate::answer::FileFault;
-use crate::lists::Items;
+use crate::lists::PartList;
 use crate::part::Part;
 use std::alloc::Global;
 
@@ -34,7 +34,7 @@ pub trait ItemTable<X> {
 pub fn read_each<X: Drop, T: ItemTable<X>>(
     alloc: Global,
     table: &T,
-    items: &Items<'_>,
+    items: &PartList<'_>,
 ) -> Result<Vec<X>, FileFault>
     requires { T.ready table.now }
     ensures reads { Gives (λ list. list.items) result (each_as (T.reads table.now) (items_of items.now)) }
@@ -86,7 +86,7 @@ pub trait NextTable<S> {
 pub fn read_onto<S, T: NextTable<S>>(
     alloc: Global,
     table: &T,
-    items: &Items<'_>,
+    items: &PartList<'_>,
     before: &mut S,
 ) -> Result<(), FileFault>
     requires few { length items.now.values.now ≤ T.most table.now }

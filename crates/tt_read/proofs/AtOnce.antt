@@ -12,10 +12,9 @@ use Rattle.tt_fields.specs.Answer.{Part, Fault}
 use Rattle.tt_fields.specs.Kinds.{an_object, a_list, required, or_else}
 use Rattle.tt_fields.specs.List.{items_of}
 use Rattle.tt_fields.proofs.Alike.{Alike, Any, read_too}
+use Rattle.tt_fields.proofs.Chain.{then, after}
 use Rattle.tt_tree.specs.Context.{Context}
-use Rattle.tt_tree.specs.Tables.{Rooms, Tree, rooms_in, courses_in}
-use Rattle.tt_tree.proofs.Places.{after}
-use Rattle.tt_tree.proofs.Pushed.{then}
+use Rattle.tt_tree.specs.Tables.{Campus, Tree, rooms_in, courses_in}
 use Rattle.tt_tree.proofs.Unknown.{unknown, SameRooms, SameTree, rooms_alike, courses_alike}
 use Rattle.tt_tree.proofs.Whole.{classes_whole}
 use Rattle.tt_lists.specs.Tables.{rules_in, students_in}
@@ -33,7 +32,7 @@ also P r other x h is = read_too P x other (subst (λ (q : Result _ Fault). Alik
 
 -- the parts are those of what the lists are read as
 pub record Links (s : Shape) (p : Parts) : Type 0 where
-  pub rooms : Rooms
+  pub rooms : Campus
   pub tree : Tree
   pub rules : List Rule
   pub students : List StudentPart
@@ -54,7 +53,7 @@ links s p is = IfOk-at_ok (Links s) is
 
 -- ---- the first pass finds the same
 
-rooms_found : (term : Term) (o : Part) (items : List Part) (ids : List ℕ) (rooms : Rooms) → or_else [] (a_list 0 most_rooms) (codes "rooms") o ≡ Ok items
+rooms_found : (term : Term) (o : Part) (items : List Part) (ids : List ℕ) (rooms : Campus) → or_else [] (a_list 0 most_rooms) (codes "rooms") o ≡ Ok items
     → rooms_in (term_context term) items ≡ Ok rooms → room_ids rooms.rooms ≡ ids → room_list_of term o ≡ Ok (record { items = items; ids = ids })
 unfolding room_list_of
 rooms_found term o items ids rooms found read same =

@@ -12,14 +12,14 @@ use crate::sums::third_pass;
 use indexmap::IndexSet;
 use std::alloc::{AllocError, Global};
 use tt_fields::{
-    FileFault, Items, Part, as_object, list, list_or_none, number, object as required_object,
+    FileFault, Part, PartList, as_object, list, list_or_none, number, object as required_object,
 };
 use tt_problem::{ClassPart, CoursePart, Parts, RoomPart};
 
 /// Adds the ids of the objects that a list leads to by these keys of lists. What is gathered is
 /// compared with the ids of the parts that are read with it.
 fn gather_ids(
-    items: &Items<'_>,
+    items: &PartList<'_>,
     keys: &[&'static str],
     ids: &mut IndexSet<u32>,
 ) -> Result<(), FileFault> {
@@ -41,7 +41,7 @@ fn gather_ids(
 /// The ids that a list leads to by these keys.
 fn ids_below(
     alloc: Global,
-    items: &Items<'_>,
+    items: &PartList<'_>,
     keys: &[&'static str],
 ) -> Result<IndexSet<u32>, FileFault> {
     let mut ids = IndexSet::new(alloc);

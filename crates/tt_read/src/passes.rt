@@ -1,8 +1,8 @@
-ghost use Rattle.std.specs.Prelude.{◌≡◌, ◌≤◌, length, None, Some, IfOk, codes};
+ghost use Rattle.std.specs.Prelude.{◌≡◌, ◌≤◌, length, None, IfOk, codes};
 ghost use Rattle.tt_travel.specs.Table.{most_rooms};
 ghost use Rattle.tt_problem.specs.Valid.{AreValidWeights, IsValidTerm};
 ghost use Rattle.tt_fields.specs.Answer.{Reads, Gives, part_of};
-ghost use Rattle.tt_fields.specs.List.{items_of, known_of, IsFew};
+ghost use Rattle.tt_fields.specs.List.{items_of};
 ghost use Rattle.tt_tree.specs.Context.{context_of, IsContext};
 ghost use Rattle.tt_tree.specs.Read.{rooms_read, tree_read};
 ghost use Rattle.tt_tree.specs.Whole.{HasClasses};
@@ -15,12 +15,12 @@ use indexmap::IndexSet;
 use std::alloc::Global;
 use tt_base::Row;
 use tt_fields::{
-    Fault, FileFault, Items, Known, Part, as_object, list, list_or_none, number, number_or,
+    Fault, FileFault, Known, Part, PartList, as_object, list, list_or_none, number, number_or,
     object as required_object,
 };
 use tt_lists::{read_rules, read_students};
 use tt_problem::{Parts, Rule, StudentPart, Weights};
-use tt_tree::{Classes, Configs, Context, Rooms, Subparts, Tree, read_courses, read_rooms};
+use tt_tree::{Campus, Classes, Configs, Context, Subparts, Tree, read_courses, read_rooms};
 
 /// The most weeks of a term, by the version of the file's form.
 fn most_weeks(version: u8) -> u32
@@ -82,7 +82,7 @@ fn term_context(term: Term) -> Context<'static>
 /// The list of rooms, and the ids in it.
 #[derive(Drop)]
 pub struct RoomList<'a> {
-    pub items: Items<'a>,
+    pub items: PartList<'a>,
     pub ids: IndexSet<u32>,
 }
 
@@ -100,14 +100,14 @@ fn read_room_list<'a>(
 {
     let context = term_context(term);
     let items = list_or_none(object, "rooms", 2500)?;
-    let Rooms { ids, .. } = read_rooms(alloc, &context, &items)?;
+    let Campus { ids, .. } = read_rooms(alloc, &context, &items)?;
     Ok(RoomList { items, ids })
 }
 
 /// The list of courses, and the ids of courses and of classes in it.
 #[derive(Drop)]
 pub struct CourseList<'a> {
-    pub items: Items<'a>,
+    pub items: PartList<'a>,
     pub ids: IndexSet<u32>,
     pub class_ids: IndexSet<u32>,
 }
@@ -145,7 +145,7 @@ fn read_rule_list<'a>(
     alloc: Global,
     version: u8,
     object: &'a Part<'a>,
-) -> Result<Items<'a>, FileFault>
+) -> Result<PartList<'a>, FileFault>
     ensures reads { Gives items_of result (checked_list 20000 (rules_in version None) (codes "distributions") (part_of object.now)) }
     ensures few { IfOk result (λ items. length items.values.now ≤ 20000) }
 {
@@ -156,7 +156,7 @@ fn read_rule_list<'a>(
 
 /// The list of students, read with no reference looked up.
 #[tactic(auto, unfolding(crate::specs::Tables::checked_list))]
-fn read_student_list<'a>(alloc: Global, object: &'a Part<'a>) -> Result<Items<'a>, FileFault>
+fn read_student_list<'a>(alloc: Global, object: &'a Part<'a>) -> Result<PartList<'a>, FileFault>
     ensures reads { Gives items_of result (checked_list 100000 (students_in None) (codes "students") (part_of object.now)) }
     ensures few { IfOk result (λ items. length items.values.now ≤ 100000) }
 {
@@ -172,8 +172,8 @@ pub struct Shape<'a> {
     pub weights: Weights,
     pub rooms: RoomList<'a>,
     pub courses: CourseList<'a>,
-    pub distributions: Items<'a>,
-    pub students: Items<'a>,
+    pub distributions: PartList<'a>,
+    pub students: PartList<'a>,
 }
 
 /// The first pass: the whole value, with no reference looked up.
@@ -218,7 +218,7 @@ fn shape_context<'a>(shape: &'a Shape<'_>) -> Context<'a>
 /// The parts of a problem.
 fn parts_with(
     shape: &Shape<'_>,
-    rooms: Rooms,
+    rooms: Campus,
     tree: Tree,
     rules: Row<Rule>,
     students: Row<StudentPart>,

@@ -1,5 +1,5 @@
 -- Places of what is referred to.
-use Rattle.std.proofs.Common.{◌≡◌, ℕ, suc, ◌<◌, ◌≤◌, List, length, Option, Some, None, Result, Ok, Err, refl, sym, ap, ◌∙◌, arith}
+use Rattle.std.proofs.Common.{◌≡◌, ℕ, suc, ◌<◌, ◌≤◌, List, length, Option, Some, None, Result, Ok, refl, sym, ap, ◌∙◌, arith}
 use Rattle.std.specs.Prelude.{IfOk, IfSome, option_map, codes}
 use Rattle.std.specs.Option.{option_map_or}
 use Rattle.std.proofs.lemmas.Result.{IfOk-at_ok}
@@ -11,17 +11,12 @@ use Rattle.serde_json.specs.declared.value.Value.{Value}
 use Rattle.tt_fields.specs.declared.faults.Wrong.TheVariants.{NotOfKind}
 use Rattle.tt_fields.specs.declared.references.Known.{Known}
 use Rattle.tt_fields.specs.Path.{at}
-use Rattle.tt_base.specs.Chain.{◌>>=◌}
 use Rattle.tt_fields.specs.Answer.{Part, Fault, fault}
 use Rattle.tt_fields.specs.Kinds.{a_number, items_at, place_of, a_reference, required, value_at}
 use Rattle.tt_fields.specs.List.{known_of, IsAmong}
+use Rattle.tt_fields.proofs.Chain.{after}
 use Rattle.tt_fields.proofs.Walk.{items_count}
 use Rattle.tt_tree.specs.Context.{HasIds}
-
--- what holds of what f reads from any value that was read first holds of both
-pub after : {A B : Type 0} (P : B → Type 0) (r : Result A Fault) (f : A → Result B Fault) → ((x : A) → r ≡ Ok x → IfOk (f x) P) → IfOk (r >>= f) P
-after P (Ok x) f h = h x refl
-after P (Err e) f h = tt
 
 length_from : (path : List ℕ) (i : ℕ) (ds : Items) → length (items_at path i ds) ≡ items_len ds
 length_from path i no_items = refl

@@ -12,26 +12,16 @@ use Rattle.tt_problem.specs.declared.parts.ClassPart.{ClassPart}
 use Rattle.tt_problem.specs.declared.parts.CoursePart.{CoursePart}
 use Rattle.tt_problem.specs.Spans.{CoversFrom, Covers}
 use Rattle.tt_problem.specs.Valid.{IsValidRoom, room_ids, class_ids, course_ids}
-use Rattle.tt_fields.specs.declared.answer.FileFault.{FileFault}
-use Rattle.tt_fields.specs.declared.answer.FileFault.TheVariants as faults
 use Rattle.tt_base.specs.Chain.{◌>>=◌}
-use Rattle.tt_fields.specs.Answer.{Part, Fault, Fails}
+use Rattle.tt_fields.specs.Answer.{Part, Fault}
 use Rattle.tt_fields.specs.Kinds.{a_number, an_object, a_list, required, or_else, new_id, each, each_as}
+use Rattle.tt_fields.proofs.Chain.{then}
 use Rattle.tt_tree.specs.declared.context as context
 use Rattle.tt_tree.specs.declared.rooms as rooms
 use Rattle.tt_tree.specs.declared.courses as courses
 use Rattle.tt_tree.specs.Context.{Context}
-use Rattle.tt_tree.specs.Read.{IsTravelAmong, IsRooms, IsClassAmong, AreClasses, IsConfigs, IsTree}
-use Rattle.tt_tree.specs.Tables.{a_travel_entry, a_closed_time, Rooms, a_room}
-
--- a fault of what is read first is the fault of both
-pub fails_on : {A B : Type 0} (e : FileFault) (read : Result A Fault) (f : A → Result B Fault) → Fails e read → Fails e (read >>= f)
-fails_on faults.Memory read f h = tt
-fails_on (faults.Fault wrong path) read f h = ap (λ (r : Result _ Fault). r >>= f) h
-
--- what is read after a value that was read
-pub then : {A B : Type 0} (r : Result A Fault) (x : A) (f : A → Result B Fault) (out : Result B Fault) → r ≡ Ok x → f x ≡ out → (r >>= f) ≡ out
-then r x f out is rest = ap (λ (s : Result _ Fault). s >>= f) is ∙ rest
+use Rattle.tt_tree.specs.Read.{IsTravelAmong, IsCampus, IsClassAmong, AreClasses, IsConfigs, IsTree}
+use Rattle.tt_tree.specs.Tables.{a_travel_entry, a_closed_time, Campus, a_room}
 
 -- no ids differ
 pub none_distinct : IsDistinct nat_eq []
@@ -41,14 +31,14 @@ none_distinct = tt
 -- ---- rooms
 
 -- the rooms before, and one more of which all but the unavailable times was read
-abbrev pub closed_room : ℕ → List RoomPart → Table → List Time → Result Rooms Fault
+abbrev pub closed_room : ℕ → List RoomPart → Table → List Time → Result Campus Fault
 closed_room id rooms travel closed = Ok (record { rooms = rooms ++ record { id = id; closed = closed } ∷ []; travel = travel })
 
 -- what is left of a room after its travel
-abbrev pub room_rest : Context → ℕ → List RoomPart → Table → Part → Result Rooms Fault
+abbrev pub room_rest : Context → ℕ → List RoomPart → Table → Part → Result Campus Fault
 room_rest c id rooms travel p = or_else [] (a_list 0 1000) (codes "unavailable") p >>= λ unavailable. each_as (a_closed_time c) unavailable >>= closed_room id rooms travel
 
-pub room_is : (c : Context) (s : Rooms) (ids more : List ℕ) (from id : ℕ) (p : Part) (now : Table) (entries : List Part)
+pub room_is : (c : Context) (s : Campus) (ids more : List ℕ) (from id : ℕ) (p : Part) (now : Table) (entries : List Part)
     → an_object p ≡ Ok p → required (a_number 0 4294967295) (codes "id") p ≡ Ok id → new_id id ids p ≡ Ok more
     → or_else [] (a_list 0 4000) (codes "travel") p ≡ Ok entries → each (a_travel_entry c from) entries s.travel ≡ Ok now
     → ids ≡ room_ids s.rooms → length s.rooms ≡ from → a_room c p s ≡ room_rest c id s.rooms now p
@@ -61,8 +51,8 @@ room_is c s ids more from id p now entries object number new travels read same c
     (then (each (a_travel_entry c (length s.rooms)) entries s.travel) now _ _ (ap (λ (n : ℕ). each (a_travel_entry c n) entries s.travel) count ∙ read)
     refl))))
 
-pub rooms_push : (c : context.Context.Context) (count : ℕ) (s t : rooms.Rooms.Rooms) (r : RoomPart) → IsRooms c count s → t.rooms.items ≡ s.rooms.items ++ r ∷ []
-    → t.ids.keys ≡ s.ids.keys ++ r.id ∷ [] → IsDistinct nat_eq t.ids.keys → IsTravelAmong c count t.travel → IsValidRoom c.nr_days c.nr_weeks r → IsRooms c count t
+pub rooms_push : (c : context.Context.Context) (count : ℕ) (s t : rooms.Campus.Campus) (r : RoomPart) → IsCampus c count s → t.rooms.items ≡ s.rooms.items ++ r ∷ []
+    → t.ids.keys ≡ s.ids.keys ++ r.id ∷ [] → IsDistinct nat_eq t.ids.keys → IsTravelAmong c count t.travel → IsValidRoom c.nr_days c.nr_weeks r → IsCampus c count t
 rooms_push c count s t r so_far pushed added distinct travel good = record {
   travel = travel;
   ids = added ∙ ap (λ (l : List ℕ). l ++ r.id ∷ []) so_far.ids ∙ sym (map-append (λ (x : RoomPart). x.id) s.rooms.items (r ∷ [])) ∙ ap (λ (l : List RoomPart). room_ids l) (sym pushed);

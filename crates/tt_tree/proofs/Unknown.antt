@@ -10,7 +10,7 @@ use Rattle.tt_fields.specs.Answer.{Part}
 use Rattle.tt_fields.specs.Kinds.{a_number, a_truth, an_object, a_list, a_reference, place_of, required, or_else, optional, new_id, each, each_as}
 use Rattle.tt_fields.proofs.Alike.{Alike, Any, equal_alike, then_alike, after_alike, same_alike, required_alike, optional_alike, place_alike, reference_alike, each_alike, each_as_alike, ids_push}
 use Rattle.tt_tree.specs.Context.{Context}
-use Rattle.tt_tree.specs.Tables.{time_in, a_time_choice, a_closed_time, a_travel_entry, Rooms, a_room, no_rooms, rooms_in, a_room_choice, rooms_where, rooms_of, a_class, Subparts, a_subpart, no_limit, Configs, a_config, Tree, a_course, no_tree, courses_in}
+use Rattle.tt_tree.specs.Tables.{time_in, a_time_choice, a_closed_time, a_travel_entry, Campus, a_room, no_rooms, rooms_in, a_room_choice, rooms_where, rooms_of, a_class, Subparts, a_subpart, no_limit, Configs, a_config, Tree, a_course, no_tree, courses_in}
 
 -- the same term, with no ids known
 abbrev pub unknown : Context → Context
@@ -37,7 +37,7 @@ closed_alike c p =
 -- ---- rooms
 
 -- the rooms have the same ids
-abbrev pub SameRooms : Rooms → Rooms → Type 0
+abbrev pub SameRooms : Campus → Campus → Type 0
 SameRooms s t = room_ids s.rooms ≡ room_ids t.rooms
 
 entry_alike : (c : Context) (from other : ℕ) (p : Part) (s t : Table) → Alike Any (a_travel_entry c from p s) (a_travel_entry (unknown c) other p t)
@@ -48,7 +48,7 @@ entry_alike c from other p s t =
     (required_alike Any (a_reference c.rooms) (a_reference None) (reference_alike c.rooms) (codes "room") o) (λ to place k.
     after_alike Any (required (a_number 0 65535) (codes "value") o) _ _ (λ slots. tt)))
 
-room_alike : (c : Context) (p : Part) (s t : Rooms) → SameRooms s t → Alike SameRooms (a_room c p s) (a_room (unknown c) p t)
+room_alike : (c : Context) (p : Part) (s t : Campus) → SameRooms s t → Alike SameRooms (a_room c p s) (a_room (unknown c) p t)
 unfolding a_room
 room_alike c p s t same =
     after_alike SameRooms (an_object p) _ _ (λ o.

@@ -22,7 +22,8 @@ use Rattle.tt_tree.specs.Tables.{span, no_limit, a_time_choice, rooms_of, a_clas
 use Rattle.tt_tree.specs.declared.courses as courses
 use Rattle.tt_tree.specs.Read.{subparts_read, configs_read}
 use Rattle.tt_tree.specs.Whole.{HasClasses}
-use Rattle.tt_tree.proofs.Places.{after, items_length}
+use Rattle.tt_fields.proofs.Chain.{after}
+use Rattle.tt_tree.proofs.Places.{items_length}
 
 -- ---- one line of a table
 

@@ -12,10 +12,10 @@ use Rattle.tt_problem.specs.Valid.{IsValidTime, IsValidRoom, room_ids, class_ids
 use Rattle.tt_fields.specs.declared.references.Known.{Known}
 use Rattle.tt_fields.specs.List.{IsAmong}
 use Rattle.tt_tree.specs.Context.{HasIds}
-use Rattle.tt_tree.specs.Tables.{Rooms, Subparts, Configs, Tree}
+use Rattle.tt_tree.specs.Tables.{Campus, Subparts, Configs, Tree}
 
 -- the rooms that the code has read
-abbrev pub rooms_read : rooms.Rooms.Rooms → Rooms
+abbrev pub rooms_read : rooms.Campus.Campus → Campus
 rooms_read s = record { rooms = s.rooms.items; travel = s.travel }
 
 -- the classes that the code has read
@@ -42,7 +42,7 @@ pub record IsTravelAmong (c : context.Context.Context) (count : ℕ) (t : Table)
   pub known : HasIds c.rooms count
 
 -- the rooms are valid and have these ids, which differ, and there is the travel between `count` rooms
-pub record IsRooms (c : context.Context.Context) (count : ℕ) (s : rooms.Rooms.Rooms) : Type 0 where
+pub record IsCampus (c : context.Context.Context) (count : ℕ) (s : rooms.Campus.Campus) : Type 0 where
   pub travel : IsTravelAmong c count s.travel
   pub ids : s.ids.keys ≡ room_ids s.rooms.items
   pub distinct : IsDistinct nat_eq s.ids.keys

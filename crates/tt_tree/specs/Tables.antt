@@ -61,12 +61,12 @@ a_travel_entry c from p table = do
   Ok (with_travel table from to slots)
 
 -- the rooms that have been read, and the travel between all rooms as far as it has been read
-pub record Rooms : Type 0 where
+pub record Campus : Type 0 where
   pub rooms : List RoomPart
   pub travel : Table
 
 -- a room, after those that have been read
-unfoldable pub a_room : Context → Part → Rooms → Result Rooms Fault
+unfoldable pub a_room : Context → Part → Campus → Result Campus Fault
 a_room c p s = do
   o ← an_object p
   id ← required (a_number 0 4294967295) (codes "id") o
@@ -78,11 +78,11 @@ a_room c p s = do
   Ok (record { rooms = s.rooms ++ record { id = id; closed = closed } ∷ []; travel = travel })
 
 -- none of `count` rooms has been read
-abbrev pub no_rooms : ℕ → Rooms
+abbrev pub no_rooms : ℕ → Campus
 no_rooms count = record { rooms = []; travel = no_travel count }
 
 -- all rooms of a list, and the travel between them
-unfoldable pub rooms_in : Context → List Part → Result Rooms Fault
+unfoldable pub rooms_in : Context → List Part → Result Campus Fault
 rooms_in c items = each (a_room c) items (no_rooms (length items))
 
 -- ---- courses

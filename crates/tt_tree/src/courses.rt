@@ -1,11 +1,10 @@
-ghost use Rattle.std.specs.Prelude.{◌≡◌, ◌<◌, ◌≤◌, ◌^◌, List, [], ◌∷◌, ◌++◌, length, nat_eq, All, IfOk, OnOk};
-ghost use Rattle.std.specs.List.{IsDistinct};
+ghost use Rattle.std.specs.Prelude.{◌≡◌, ◌<◌, ◌≤◌, ◌^◌, List, [], ◌∷◌, ◌++◌, length, All, IfOk, OnOk};
 ghost use Rattle.tt_problem.specs.Spans.{Covers};
 ghost use Rattle.tt_problem.specs.declared.parts.ClassPart.{ClassPart as ClassSeen};
 ghost use Rattle.tt_fields.specs.Answer.{Reads, Gives, part_of};
 ghost use Rattle.tt_fields.specs.List.{items_of};
 ghost use Rattle.tt_tree.specs.Context.{context_of, IsContext};
-ghost use Rattle.tt_tree.specs.Read.{classes_read, subparts_read, configs_read, tree_read, IsChoiceAmong, IsClassAmong, AreClasses, IsSubparts, IsConfigs, IsTree};
+ghost use Rattle.tt_tree.specs.Read.{classes_read, subparts_read, configs_read, tree_read, IsChoiceAmong, AreClasses, IsSubparts, IsConfigs, IsTree};
 ghost use Rattle.tt_tree.specs.Tables.{a_room_choice, rooms_where, rooms_of, a_class, span, a_subpart, a_config, a_course, courses_in, Subparts as SubpartsSeen, Configs as ConfigsSeen, Tree as TreeSeen};
 ghost use Rattle.tt_tree.specs.Whole.{HasClasses};
 
@@ -15,7 +14,7 @@ use indexmap::IndexSet;
 use std::alloc::{AllocError, Global};
 use tt_base::Row;
 use tt_fields::{
-    Fault, FileFault, ItemTable, Items, NextTable, Part, add_id, as_object, known_id, list,
+    Fault, FileFault, ItemTable, NextTable, Part, PartList, add_id, as_object, known_id, list,
     list_or_none, number, optional_number, optional_reference, read_each, read_onto, truth_or,
 };
 use tt_problem::{ClassPart, CoursePart, RoomChoice, Span};
@@ -308,7 +307,7 @@ impl NextTable<Tree> for CourseTable<'_> {
 pub fn read_courses(
     alloc: Global,
     context: &Context<'_>,
-    items: &Items<'_>,
+    items: &PartList<'_>,
 ) -> Result<Tree, FileFault>
     requires { IsContext context.now }
     ensures reads { Gives tree_read result (courses_in (context_of context.now) (items_of items.now)) }

@@ -11,4 +11,4 @@ mod times;
 
 pub use context::Context;
 pub use courses::{Classes, Configs, Subparts, Tree, read_courses};
-pub use rooms::{Rooms, read_rooms};
+pub use rooms::{Campus, read_rooms};

@@ -1,12 +1,10 @@
-ghost use Rattle.std.specs.Prelude.{◌≡◌, ◌<◌, ◌≤◌, [], ◌∷◌, ◌++◌, length, nat_eq, IfOk, OnOk};
-ghost use Rattle.std.specs.List.{IsDistinct};
+ghost use Rattle.std.specs.Prelude.{◌≡◌, ◌<◌, ◌≤◌, length, IfOk, OnOk};
 ghost use Rattle.tt_travel.specs.Table.{Table, most_rooms};
-ghost use Rattle.tt_problem.specs.Valid.{IsValidRoom};
 ghost use Rattle.tt_fields.specs.Answer.{Reads, Gives, part_of};
 ghost use Rattle.tt_fields.specs.List.{items_of};
 ghost use Rattle.tt_tree.specs.Context.{context_of, IsContext, HasIds};
-ghost use Rattle.tt_tree.specs.Read.{rooms_read, IsTravelAmong, IsRooms};
-ghost use Rattle.tt_tree.specs.Tables.{a_travel_entry, a_room, rooms_in, Rooms as RoomsSeen};
+ghost use Rattle.tt_tree.specs.Read.{rooms_read, IsTravelAmong, IsCampus};
+ghost use Rattle.tt_tree.specs.Tables.{a_travel_entry, a_room, rooms_in, Campus as CampusSeen};
 
 use crate::context::Context;
 use crate::times::ClosedTable;
@@ -14,8 +12,8 @@ use indexmap::IndexSet;
 use std::alloc::Global;
 use tt_base::Row;
 use tt_fields::{
-    Fault, FileFault, Items, NextTable, Part, add_id, as_object, list_or_none, number, read_each,
-    read_onto, reference,
+    Fault, FileFault, NextTable, Part, PartList, add_id, as_object, list_or_none, number,
+    read_each, read_onto, reference,
 };
 use tt_problem::RoomPart;
 use tt_travel::Travel;
@@ -23,7 +21,7 @@ use tt_travel::Travel;
 /// The rooms that have been read, their ids, and the travel between all rooms as far as it has been
 /// read.
 #[derive(Drop)]
-pub struct Rooms {
+pub struct Campus {
     pub ids: IndexSet<u32>,
     pub rooms: Vec<RoomPart>,
     pub travel: Travel,
@@ -87,8 +85,8 @@ struct RoomTable<'a> {
     count: u32,
 }
 
-impl NextTable<Rooms> for RoomTable<'_> {
-    ghost Seen = { RoomsSeen };
+impl NextTable<Campus> for RoomTable<'_> {
+    ghost Seen = { CampusSeen };
 
     ghost seen = { rooms_read };
 
@@ -96,7 +94,7 @@ impl NextTable<Rooms> for RoomTable<'_> {
 
     ghost most = { λ t. t.count };
 
-    ghost valid = { λ t place s. IsContext t.context.now × IsRooms t.context.now t.count s × (length s.rooms.items ≡ place) };
+    ghost valid = { λ t place s. IsContext t.context.now × IsCampus t.context.now t.count s × (length s.rooms.items ≡ place) };
 
     #[tactic(auto, using(crate::proofs::Pushed::rooms_push), unfolding(crate::specs::Tables::a_room))]
     fn read_next(
@@ -104,7 +102,7 @@ impl NextTable<Rooms> for RoomTable<'_> {
         alloc: Global,
         place: usize,
         item: &Part<'_>,
-        before: &mut Rooms,
+        before: &mut Campus,
     ) -> Result<(), FileFault> {
         let entries = EntryTable {
             context: self.context,
@@ -134,17 +132,17 @@ impl NextTable<Rooms> for RoomTable<'_> {
 pub fn read_rooms(
     alloc: Global,
     context: &Context<'_>,
-    items: &Items<'_>,
-) -> Result<Rooms, FileFault>
+    items: &PartList<'_>,
+) -> Result<Campus, FileFault>
     requires context { IsContext context.now }
     requires few { length items.now.values.now ≤ most_rooms }
     requires known { HasIds context.now.rooms (length items.now.values.now) }
     ensures reads { Gives rooms_read result (rooms_in (context_of context.now) (items_of items.now)) }
-    ensures rooms { IfOk result (λ rooms. IsRooms context.now (length items.now.values.now) rooms) }
+    ensures rooms { IfOk result (λ rooms. IsCampus context.now (length items.now.values.now) rooms) }
     ensures count { IfOk result (λ rooms. length rooms.rooms.items ≡ length items.now.values.now) }
 {
     let count = items.len() as u32;
-    let mut rooms = Rooms {
+    let mut rooms = Campus {
         ids: IndexSet::new(alloc),
         rooms: Vec::new(alloc),
         travel: Travel::new(alloc, count)?,

@@ -5,11 +5,12 @@ use Rattle.tt_base.specs.Chain.{◌>>=◌}
 use Rattle.tt_fields.specs.Answer.{Fails, part_of, fault_of}
 use Rattle.tt_fields.specs.List.{items_of}
 use Rattle.tt_fields.specs.Kinds.{each_as}
+use Rattle.tt_fields.proofs.Chain.{fails_on}
 use Rattle.tt_tree.specs.Context.{context_of}
 use Rattle.tt_tree.specs.Read.{rooms_read}
 use Rattle.tt_tree.specs.Tables.{a_room, a_closed_time}
-use Rattle.tt_tree.proofs.Pushed.{fails_on, closed_room, room_is, rooms_push}
-use Rattle.tt_tree.proofs.rooms.RoomTableNextTableRooms.read_next.Goals as goal
+use Rattle.tt_tree.proofs.Pushed.{closed_room, room_is, rooms_push}
+use Rattle.tt_tree.proofs.rooms.RoomTableNextTableCampus.read_next.Goals as goal
 
 pub returns-in_err-unavailable-clause-reads : goal.returns-in_err-unavailable-clause-reads
 returns-in_err-unavailable-clause-reads c =
