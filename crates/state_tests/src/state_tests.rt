@@ -36,6 +36,17 @@ fn drops(state: &mut State, student: u32) -> bool {
     student < state.problem().student_count() && state.drop_student(student) == Ok(true)
 }
 
+// The first three classes of a student.
+fn first_classes(state: &State, student: u32) -> Option<[Option<u32>; 3]> {
+    if student >= state.problem().student_count() {
+        return None;
+    }
+    let mut classes = state.classes_of(student);
+    let first = classes.next();
+    let second = classes.next();
+    Some([first, second, classes.next()])
+}
+
 // Whether the sums are those of the first and the third class at their first times in two rooms, which
 // one student has.
 fn has_totals(state: &State) -> bool {
@@ -130,6 +141,7 @@ fn a_student_gets_a_list_and_drops_it(rt: HostRuntime) -> Result<(), Fail> {
     let mut state = State::start(rt.alloc(), problem(rt.alloc())?).expect(&rt, "memory");
     assert!(rt; refuses_a_list(&mut state));
     assert!(rt; sections(&mut state, 0, None));
+    assert!(rt; first_classes(&state, 0) == Some([Some(0), Some(2), None]));
     assert!(rt; sections(&mut state, 1, Some(SectionFault::Full { class: 2 })));
     assert!(rt; assigns(&mut state, 0, 1, Some(71)));
     assert!(rt; assigns(&mut state, 2, 1, Some(72)));
@@ -139,6 +151,7 @@ fn a_student_gets_a_list_and_drops_it(rt: HostRuntime) -> Result<(), Fail> {
     assert!(rt; trials_below(&mut state, 72, [0, 44, 45]) == Some([None, None, Some(44)]));
     assert!(rt; drops(&mut state, 0));
     assert!(rt; !drops(&mut state, 0));
+    assert!(rt; first_classes(&state, 0) == Some([None; 3]));
     drop(state);
     Ok(())
 }
