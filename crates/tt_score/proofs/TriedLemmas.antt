@@ -10,7 +10,8 @@ use Rattle.tt_roster.specs.Conflicts.{class_conflicts, student_conflicts}
 use Rattle.tt_roster.proofs.KeptLemmas.{room_is}
 use Rattle.tt_score.specs.declared.classes.Paid.{Paid}
 use Rattle.tt_score.specs.declared.score.Score.{Score}
-use Rattle.tt_score.specs.Amounts.{cost_sum, cost_sum_without}
+use Rattle.tt_score.specs.Amounts.{cost_sum}
+use Rattle.tt_score.specs.Apart.{cost_sum_without}
 use Rattle.tt_score.specs.Fits.{Fits}
 use Rattle.tt_score.specs.Placed.{over_placed}
 use Rattle.tt_score.specs.Totals.{totals_of}
