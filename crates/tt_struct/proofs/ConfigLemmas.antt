@@ -168,17 +168,6 @@ config_within : (p : Parts) (course : CoursePart) (class k : ℕ) → config_in 
 config_within p course class k is =
     option_and_then_some (span_with p.configs) (subpart_of p class) k (of_course p course class k is).0 (λ m of_m of_k. (position-Some (is_in m) p.configs k no_span of_k).0)
 
--- a class that there is none of is of no configuration
-pub no_class : (p : Parts) (course : CoursePart) (class : ℕ) → IsValid p → length p.classes ≤ class → config_in p course class ≡ None
-no_class p course class valid past = go (config_in p course class) refl
-  where
-    go : (o : Option ℕ) → config_in p course class ≡ o → o ≡ None
-    go None is = refl
-    go (Some k) is =
-        option_and_then_some (span_with p.configs) (subpart_of p class) k (of_course p course class k is).0 (λ m of_m of_k.
-        let sub = position-Some (is_in class) p.subparts m no_span of_m in
-        absurd (omega (arith, (bounds class (get_or p.subparts m no_span) sub.1).1, (span_within p.subparts (length p.classes) m no_span valid.subparts sub.0).within)))
-
 -- the configuration of the first class of the course is that of one of the classes, and there is none where no class is of the course
 first_at : (p : Parts) (course : CoursePart) (list : List ℕ) (k : ℕ) → first_config p course list ≡ Some k → (n : ℕ) × (n < length list) × (config_in p course (get_or list n 0) ≡ Some k)
 first_at p course [] k is = absurd (cc is)
