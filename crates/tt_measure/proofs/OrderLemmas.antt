@@ -84,8 +84,8 @@ filter-insert q x (y ∷ ys) sorted =
     ]
 
 -- a part of a list in order is the part, in order
-pub filter-in_order : (q : Spot → Bool) (xs : List Spot) → filter q (in_order xs) ≡ in_order (filter q xs)
-filter-in_order q [] = refl
-filter-in_order q (x ∷ xs) =
+pub filtered_in_order : (q : Spot → Bool) (xs : List Spot) → filter q (in_order xs) ≡ in_order (filter q xs)
+filtered_in_order q [] = refl
+filtered_in_order q (x ∷ xs) =
     filter-insert q x (in_order xs) (is_sorted-in_order xs)
-    ∙ rw (filter-in_order q xs) (elim (cases_Bool (q x)) [ inl t ↦ rw t refl | inr n ↦ rw n refl ])
+    ∙ rw (filtered_in_order q xs) (elim (cases_Bool (q x)) [ inl t ↦ rw t refl | inr n ↦ rw n refl ])

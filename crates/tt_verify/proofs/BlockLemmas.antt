@@ -8,7 +8,7 @@ use Rattle.std.proofs.lemmas.Bool.{cases_Bool, leb-true, leb-false, le-leb, and_
 use Rattle.std.proofs.lemmas.Bool.Decides.{nat_tests}
 use Rattle.tt_bits.specs.declared.times.Spot.{Spot}
 use Rattle.tt_measure.specs.Blocks.{in_order, insert_by_start}
-use Rattle.tt_measure.proofs.OrderLemmas.{filter-in_order}
+use Rattle.tt_measure.proofs.OrderLemmas.{filtered_in_order}
 use Rattle.tt_verify.proofs.SortLemmas.{rises_on, ties_on, ties_unique, all_on}
 
 abbrev start_of : Spot → ℕ
@@ -72,4 +72,4 @@ rises_from_non_decreasing (x ∷ xs) up =
 pub sorted_is_in_order : (xs ys : List Spot) → IsNonDecreasingBy (λ x. x.time.start) ys → IsStableByKey (λ (x : Spot). x.time.start) nat_cmp xs ys → ys ≡ in_order xs
 sorted_is_in_order xs ys up stable =
     ties_unique start_of ys (in_order xs) (rises_from_non_decreasing ys up) (in_order-rises xs)
-    (λ x. stable x ∙ sym (filter-in_order (ties_on start_of x) xs ∙ in_order-level x xs))
+    (λ x. stable x ∙ sym (filtered_in_order (ties_on start_of x) xs ∙ in_order-level x xs))
