@@ -1,8 +1,9 @@
+use crate::counting::Counting;
 use std::alloc::Global;
 use std::test::Fail;
 use test_help::{assigns, sections, state_of};
 use tt_enrol::{Enrolled, enrol, enrol_all};
-use tt_io::Silent;
+use tt_io::{Progress, Silent};
 use tt_state::State;
 
 /// A course with a subpart of two classes, and a course of a class with one seat that meets when the
@@ -54,6 +55,25 @@ fn students_get_the_least_enrolments(rt: HostRuntime) -> Result<(), Fail> {
             left: 1
         })
     );
+    drop(state);
+    Ok(())
+}
+
+// The watcher is told of each student, also of those who are enrolled already.
+#[test]
+fn an_enrolment_of_all_tells_each_student(rt: HostRuntime) -> Result<(), Fail> {
+    let mut state = state_of(rt.alloc(), TEXT.as_bytes())?;
+    assert!(rt; sections(&mut state, 0, [0, 2]));
+    let mut watcher = Counting::new();
+    let made = enrol_all(rt.alloc(), &mut state, &mut watcher);
+    assert!(rt;
+        made == Ok(Enrolled {
+            enrolled: 0,
+            left: 1
+        })
+    );
+    assert!(rt; watcher.times == 2);
+    assert!(rt; watcher.last == Some(Progress::Students { done: 2, of: 2 }));
     drop(state);
     Ok(())
 }

@@ -1,8 +1,9 @@
+use crate::counting::Counting;
 use std::alloc::Global;
 use std::test::Fail;
 use test_help::{assigns, sections, state_of};
 use tt_improve::{Improved, improve};
-use tt_io::Silent;
+use tt_io::{Progress, Silent};
 use tt_state::State;
 
 /// A class with two times, of which the second costs less.
@@ -87,6 +88,25 @@ fn a_class_gets_the_least_value(rt: HostRuntime) -> Result<(), Fail> {
     assert!(rt; totals(&state) == (1, 0, 0));
     assert!(rt; state.undo());
     assert!(rt; totals(&state) == (5, 0, 0));
+    drop(state);
+    Ok(())
+}
+
+// The watcher is told of each round, also of those that are left out.
+#[test]
+fn a_descent_tells_each_round(rt: HostRuntime) -> Result<(), Fail> {
+    let mut state = state_of(rt.alloc(), TWO_TIMES.as_bytes())?;
+    assert!(rt; assigns(&mut state, 0, 1, None));
+    let mut watcher = Counting::new();
+    let made = improve(rt.alloc(), &mut state, 3, 1, &mut watcher);
+    assert!(rt;
+        made == Ok(Improved {
+            rounds: 3,
+            changed: 1
+        })
+    );
+    assert!(rt; watcher.times == 3);
+    assert!(rt; watcher.last == Some(Progress::Rounds { made: 3, of: 3 }));
     drop(state);
     Ok(())
 }

@@ -3,6 +3,8 @@
 #![tactic(auto)]
 
 #[cfg(test)]
+mod counting;
+#[cfg(test)]
 mod enrol_tests;
 #[cfg(test)]
 mod improve_tests;

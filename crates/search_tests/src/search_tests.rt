@@ -1,11 +1,12 @@
 ghost use Rattle.std.specs.Prelude.{IfOk};
 ghost use Rattle.tt_solution.specs.Timetable.{IsTimetableOf};
 
+use crate::counting::Counting;
 use std::alloc::Global;
 use std::test::Fail;
 use test_help::{assigns, forces, small_problem, state_of};
 use tt_fields::FileFault;
-use tt_io::{Progress, Silent, Watcher};
+use tt_io::{Progress, Silent};
 use tt_problem::Problem;
 use tt_read::read;
 use tt_search::{recall, repair, search};
@@ -48,22 +49,6 @@ fn totals(state: &State) -> (u128, u32) {
     (totals.total, totals.unplaced)
 }
 
-// A watcher that counts what it is told, and keeps the last.
-#[derive(Drop)]
-struct Counting {
-    times: u32,
-    last: Option<Progress>,
-}
-
-impl Watcher for Counting {
-    fn tell(&mut self, progress: Progress) {
-        self.times = self.times.saturating_add(1);
-        self.last = Some(progress);
-    }
-
-    fn end(&mut self) {}
-}
-
 #[test]
 fn a_search_of_no_turn_changes_nothing(rt: HostRuntime) -> Result<(), Fail> {
     let mut state = State::start(rt.alloc(), small_problem(rt.alloc())?).expect(&rt, "memory");
@@ -89,10 +74,7 @@ fn a_search_counts_what_was_pushed_out(rt: HostRuntime) -> Result<(), Fail> {
 #[test]
 fn a_search_tells_each_turn(rt: HostRuntime) -> Result<(), Fail> {
     let mut state = state_of(rt.alloc(), ONE_ROOM.as_bytes())?;
-    let mut watcher = Counting {
-        times: 0,
-        last: None,
-    };
+    let mut watcher = Counting::new();
     assert!(rt; search(rt.alloc(), &mut state, 5, 1, &mut watcher) == Ok(5));
     let last = Progress::Turns {
         made: 5,

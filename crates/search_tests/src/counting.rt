@@ -1,0 +1,27 @@
+use tt_io::{Progress, Watcher};
+
+/// A watcher that counts what it is told, and keeps the last.
+#[derive(Drop)]
+pub struct Counting {
+    pub times: u32,
+    pub last: Option<Progress>,
+}
+
+impl Counting {
+    /// Nothing was told yet.
+    pub fn new() -> Counting {
+        Counting {
+            times: 0,
+            last: None,
+        }
+    }
+}
+
+impl Watcher for Counting {
+    fn tell(&mut self, progress: Progress) {
+        self.times = self.times.saturating_add(1);
+        self.last = Some(progress);
+    }
+
+    fn end(&mut self) {}
+}
