@@ -31,10 +31,11 @@ const KEPT: &str =
 const KEPT_AND_UNDONE: &str =
     "open 1 0 0 0\nok time 4 room 0 distribution 0 student 0 total 8 hard 0 unplaced 0 unsectioned 0 moved 0\nok time 0 room 0 distribution 0 student 0 total 0 hard 0 unplaced 1 unsectioned 0 moved 1\n";
 
-static FILES: [(&str, &str); 4] = [
+static FILES: [(&str, &str); 5] = [
     ("problem", ONE_CLASS),
     ("published", AT_ITS_TIME),
     ("script", "assign 1 1 -\nundo\n"),
+    ("quitting", "quit\n"),
     ("rooms", ONE_ROOM),
 ];
 
@@ -43,7 +44,7 @@ const NEVER: u64 = 99;
 
 // The words, the numbers of the call on the files and of the write that fail, the status, and what is
 // written. Each file is opened, read, and read to its end.
-static FAILING: [(&str, u64, u64, u8, &str); 33] = [
+static FAILING: [(&str, u64, u64, u8, &str); 35] = [
     ("run problem script published", 1, NEVER, 5, ""),
     ("run problem script published", 2, NEVER, 5, ""),
     ("run problem script published", 3, NEVER, 5, ""),
@@ -71,6 +72,8 @@ static FAILING: [(&str, u64, u64, u8, &str); 33] = [
     ("run problem script", 5, NEVER, 5, OPENED),
     ("run problem script", 6, NEVER, 5, PLACED_AND_UNDONE),
     ("run problem script", 7, NEVER, 0, PLACED_AND_UNDONE),
+    ("run problem quitting", 5, NEVER, 5, OPENED),
+    ("run problem quitting", 6, NEVER, 0, OPENED),
     ("run problem script", NEVER, 1, 6, ""),
     ("run problem script", NEVER, 2, 6, OPENED),
     ("run problem script", NEVER, 3, 6, PLACED),
@@ -139,7 +142,7 @@ fn ends_so(
 
 // The first call that fails ends the run, and what was written before it stays. The published file
 // is read before the opening line is written, and the script after. Each reply is written before the
-// script is read on.
+// script is read on, and after `quit` it isn't.
 #[test]
 fn failed_calls_end_the_run(rt: HostRuntime) -> Result<(), Fail> {
     for (line, read, write, status, output) in FAILING.iter() {

@@ -11,3 +11,5 @@ mod piece_tests;
 mod top_tests;
 #[cfg(test)]
 mod verify_run_tests;
+#[cfg(test)]
+mod watching_tests;
