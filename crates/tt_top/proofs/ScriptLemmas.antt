@@ -265,7 +265,7 @@ module _ (limit : ℕ) (d : Session) (script : List ℕ) (before : Option (List 
       let taken : taken_of script left' ≡ at.done ++ stops.part =
       ap (taken_of script) stops.left_is ∙ ap (λ t. taken_of t (Some stops.rest)) (at.parts ∙ ap (λ t. at.done ++ t) stops.parts ∙ sym (append_assoc at.done stops.part stops.rest)) ∙ taken_front (at.done ++ stops.part) stops.rest in
       let whole : whole_lines (taken_of script left') ≡ at.done = ap whole_lines taken ∙ whole_is at.done stops.part at.whole stops.no_end in
-      (rw same (sent_within at on), rw (whole, same) at.answered.written)
+      (rw same (sent_within at on), rw (whole, same) at.answered.written, ap (λ t. list_any (λ l. ends_script (line_of l)) (lines_of t)) whole ∙ at.answered.no_quit)
 
   -- what was answered of a script that goes on beyond the limit
   too_long_here : (now : Option (List ℕ)) (reader' : Reader) (left' : Option (List ℕ)) (b : ℕ) → now ≡ mid → AtLine d script before mid_d mid served.rest → StopsIn served.rest (b ∷ []) left' → Moves limit 1 reader reader' left left' → limit ≤ reader'.taken

@@ -19,7 +19,7 @@ use Rattle.tt_top.specs.declared.end.Input.TheVariants.{Problem, Published}
 use Rattle.tt_top.specs.declared.end.InputFault.{InputFault}
 use Rattle.tt_top.specs.Words.{FileWords, first_words}
 use Rattle.tt_top.specs.Opening.{FaultyFile, fault_line, opening_line, opened}
-use Rattle.tt_top.specs.Pieces.{whole_lines, is_long_script, answered_part, taken_of}
+use Rattle.tt_top.specs.Pieces.{whole_lines, has_quit, is_long_script, answered_part, taken_of}
 use Rattle.tt_top.specs.Wanting.{WantsAfter}
 use Rattle.tt_top.specs.PlainRun.{PlainRun, text_of, Phase, ends, read_phase}
 use Rattle.tt_top.specs.Run.{IsFront}
@@ -145,7 +145,7 @@ replies_within limit d script = replies_to d (lines_of (answered_part limit scri
 -- What serving a script leaves, where so many bytes are left of the open file.
 abbrev pub Serves : (limit : ℕ) → (before now : Option (List ℕ)) → Session → (script : List ℕ) → (left : Option (List ℕ)) → Result Bool End → Type 0
 Serves limit before now d s left (Ok refused) = (is_long_script limit s ≡ false) × (refused ≡ refuses d (lines_of s)) × Writes before now (concat (replies_to d (lines_of s)))
-Serves limit before now d s left (Err Files) = WritesFirst before now (replies_within limit d s) × Writes before now (concat (replies_up_to d (taken_of s left)))
+Serves limit before now d s left (Err Files) = WritesFirst before now (replies_within limit d s) × Writes before now (concat (replies_up_to d (taken_of s left))) × (has_quit (taken_of s left) ≡ false)
 Serves limit before now d s left (Err Sink) = WritesFront before now (concat (replies_within limit d s))
 Serves limit before now d s left (Err Memory) = WritesBefore before now d (lines_of (answered_part limit s))
 Serves limit before now d s left (Err TooLong) = (is_long_script limit s ≡ true) × Writes before now (concat (replies_within limit d s))

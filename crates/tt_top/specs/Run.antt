@@ -1,12 +1,12 @@
 -- Theorem. The clauses of the top call.
-use Rattle.std.specs.Prelude.{◌≡◌, ◌≢◌, ◌≤◌, ◌<◌, ℕ, Bool, List, [], ◌∷◌, ◌++◌, ◌⊎◌, IfSome, IsSome, take, length, if◌then◌else◌, None, Some, Option, option_and_then}
+use Rattle.std.specs.Prelude.{◌≡◌, ◌≢◌, ◌≤◌, ◌<◌, ℕ, Bool, false, List, [], ◌∷◌, ◌++◌, ◌⊎◌, IfSome, IsSome, take, length, if◌then◌else◌, None, Some, Option, option_and_then}
 use Rattle.std.specs.List.{concat}
 use Rattle.tt_io.specs.Causes.{Writes, one_more, AsksAll}
 use Rattle.tt_make.specs.Text.{make_text}
 use Rattle.tt_script.specs.Script.{lines_of}
 use Rattle.tt_top.specs.Words.{FileWords, Form, Files, Verify, Demo, Make, first_words, file_words, verify_words}
 use Rattle.tt_top.specs.Opening.{opened, opened_pieces}
-use Rattle.tt_top.specs.Pieces.{taken_of, whole_lines}
+use Rattle.tt_top.specs.Pieces.{has_quit, taken_of, whole_lines}
 use Rattle.tt_top.specs.PlainRun.{PlainRun, text_of, file_run, lines_run, verify_run, demo_script, demo_run, make_run, usage_run}
 use Rattle.tt_top.specs.Wanting.{served_phase, made_phase, IsWanting}
 
@@ -139,6 +139,8 @@ pub record IsFileRun (words : FileWords) (limit : ℕ) (o : Outside) (status : �
   -- where a call on the files failed, nothing is written, or the first line and the reply to each line that was taken whole
   pub failed : status ≡ 5 → IfSome (option_and_then o.holds words.script) (λ script. IfSome (lines_run limit o.holds words (lines_of (whole_lines (taken_of script o.now.left))))
       (λ r. Wrote o (λ text. (text ≡ []) ⊎ (text ≡ text_of r))))
+  -- where a read of the script failed, no whole line of what was taken is `quit`, so that nothing is read after it
+  pub quits : status ≡ 5 → AsksScript words names → IfSome (option_and_then o.holds words.script) (λ script. has_quit (taken_of script o.now.left) ≡ false)
   -- whatever the files tell, nothing is written, or a first line and whole replies
   pub untold : status ≢ 6 → Wrote o IsDeskText
 
