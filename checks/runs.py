@@ -7,9 +7,11 @@ import signal
 import subprocess
 import sys
 import tempfile
+from collections.abc import Callable, Iterable, Iterator, Sequence
 from concurrent.futures import ThreadPoolExecutor
 from dataclasses import dataclass
 from pathlib import Path
+from typing import Any
 
 HERE = Path(__file__).resolve().parent
 PROGRAM = HERE.parent / "crates/uttab/out/uttab"
@@ -29,7 +31,7 @@ class Case:
     """A worked case: its name, and the words that the program is given where it runs, in the folder of the cases."""
 
     name: str
-    words: tuple
+    words: tuple[str, ...]
 
 
 @dataclass(frozen=True)
@@ -40,21 +42,21 @@ class Done:
     status: int | None
     text: bytes
     told: bytes
-    counts: dict
+    counts: dict[str, int]
 
 
-def lines_of(path):
+def lines_of(path: Path) -> list[list[str]]:
     """The lines of a list that aren't empty and no comment, each as its words."""
     lines = (line.split() for line in path.read_text(encoding="utf-8").splitlines())
     return [words for words in lines if words and not words[0].startswith("#")]
 
 
-def place_of(name, word):
+def place_of(name: str, word: str) -> str:
     """The path of a file of a case. It is looked for in the case's folder, and then beside the list."""
     return f"{name}/{word}" if (DATA / name / word).is_file() else word
 
 
-def chosen_cases(only):
+def chosen_cases(only: Sequence[str] | None) -> list[Case]:
     """The cases of the list whose names have one of these words, or all of them where there is none."""
     words_of = {name: words for name, *words in lines_of(DATA / "cases.txt")}
     cases = []
@@ -69,7 +71,7 @@ def chosen_cases(only):
     return cases
 
 
-def program_at(path):
+def program_at(path: str | Path) -> str:
     """The whole path of a program."""
     whole = Path(path).resolve()
     if not (whole.is_file() and os.access(whole, os.X_OK)):
@@ -80,7 +82,7 @@ def program_at(path):
 class Program:
     """The built program, with a small library in front of the C library."""
 
-    def __init__(self, path, source, folder, seconds):
+    def __init__(self, path: str | Path, source: str, folder: str, seconds: int) -> None:
         self.path = program_at(path)
         self.library = f"{folder}/{Path(source).stem}.so"
         self.seconds = seconds
@@ -90,7 +92,7 @@ class Program:
         except (OSError, subprocess.CalledProcessError) as fault:
             raise Stop(f"{source} can't be compiled: {fault}") from fault
 
-    def run(self, case, **settings):
+    def run(self, case: Case, **settings: object) -> Done:
         """Runs a case. The settings are variables that the library reads."""
         reader, writer = os.pipe()
         environment = {"LD_PRELOAD": self.library, "CHECK_REPORT": str(writer), **{key: str(value) for key, value in settings.items()}}
@@ -107,7 +109,7 @@ class Program:
         return Done(done.returncode, done.stdout, done.stderr, counts)
 
 
-def fronts_of(case, text):
+def fronts_of(case: Case, text: bytes) -> set[int]:
     """The lengths of the fronts of a text that a run may leave that ends before its time: nothing, the first line, and so on
     by one whole reply each. A reply ends with the line of totals or of a refusal. What `verify` writes is one piece."""
     if case.words[0] == "verify":
@@ -121,16 +123,16 @@ def fronts_of(case, text):
 class Plain:
     """The run of a case in which nothing fails."""
 
-    def __init__(self, case, done):
+    def __init__(self, case: Case, done: Done) -> None:
         self.done = done
         self.fronts = fronts_of(case, done.text)
         # Memory may be wanting after all of the text only where that is empty, or the first line before a script.
         self.may_be_whole = not done.text or (case.words[0] == "run" and len(self.fronts) == 2)
 
-    def is_like(self, done):
+    def is_like(self, done: Done) -> bool:
         return (done.status, done.text) == (self.done.status, self.done.text)
 
-    def early_fault(self, done):
+    def early_fault(self, done: Done) -> str | None:
         """What is wrong, in words, with what a run wrote that ended before its time. None where nothing is."""
         if not self.done.text.startswith(done.text):
             return "what it wrote is no front of the text"
@@ -139,19 +141,19 @@ class Plain:
         return told_fault(done.status, done.told)
 
 
-def told_fault(status, told):
+def told_fault(status: int | None, told: bytes) -> str | None:
     """What is wrong, in words, with what a run that ended with this status told on the standard error. None where nothing is."""
     lines = b"uttab: [^\n]+\n" if status in TOLD else b"(uttab: [^\n]+\n)?"
     return None if re.fullmatch(lines, told) else f"told {told[:200]!r} on the standard error"
 
 
-def status_in_words(status):
+def status_in_words(status: int | None) -> str:
     if status is None:
         return "didn't end in time"
     return f"ended with {status}" if status >= 0 else f"was ended by {signal.Signals(-status).name}"
 
 
-def some_of(count, most):
+def some_of(count: int, most: int) -> Sequence[int]:
     """The numbers from 1 to a count, or so many of them at most: half of these the first, the others evenly over the rest,
     with the last."""
     if count <= most:
@@ -166,9 +168,9 @@ class Tally:
     """What was tried of one case: how many runs, and what is wrong in words for each that was wrong."""
 
     tried: int
-    wrong: list
+    wrong: list[str]
 
-    def write(self):
+    def write(self) -> None:
         for words in self.wrong[:SHOWN]:
             print(f"  wrong: {words}")
         if len(self.wrong) > SHOWN:
@@ -176,7 +178,7 @@ class Tally:
         sys.stdout.flush()
 
 
-def parser_of(name, text):
+def parser_of(name: str, text: str | None) -> argparse.ArgumentParser:
     parser = argparse.ArgumentParser(prog=name, description=text, formatter_class=argparse.RawDescriptionHelpFormatter,
                                      epilog="status: 0 nothing was wrong; 1 a run was wrong; 2 the check can't be made")
     parser.add_argument("program", metavar="PROGRAM", nargs="?", default=PROGRAM, help="the built program; else the one that ./uttab makes")
@@ -189,14 +191,18 @@ def parser_of(name, text):
     return parser
 
 
-def numbers(at, count, most):
+def numbers(at: int | None, count: int, most: int) -> Sequence[int]:
     """Which failures of so many are tried: one alone, or so many at most."""
     if at is not None:
         return [at] if at <= count else []
     return some_of(count, most)
 
 
-def carry_out(name, given, source, check_case):
+InTurn = Callable[[Callable[[Any], Done], Iterable[Any]], Iterator[Done]]  # makes runs side by side, and answers them in turn
+CheckCase = Callable[[Program, Case, argparse.Namespace, InTurn], Tally]
+
+
+def carry_out(name: str, given: argparse.Namespace, source: str, check_case: CheckCase) -> int:
     """Makes a check: compiles its library, and hands each case to `check_case`, which writes its line and answers its tally."""
     try:
         with tempfile.TemporaryDirectory() as folder, ThreadPoolExecutor(given.jobs) as pool:

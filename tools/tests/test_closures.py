@@ -1,52 +1,58 @@
 """Tests of `closures`."""
 
 import json
-import subprocess
-import unittest
+from typing import Any
 
-from common import PROGRAM, ToolTest
+import pytest
+from conftest import Tool, Write, needs_program, uttab
+
+Times = list[tuple[int, int]]
 
 
-def problem(rooms, classes, **changes):
+def problem(rooms: list[int], classes: dict[int, tuple[Times, list[int]]], **changes: Any) -> str:
     """A problem of one day and two weeks: classes by id, each with its times and rooms."""
     return json.dumps({
         "nrDays": 1, "nrWeeks": 2, "slotsPerDay": 288, "rooms": [{"id": room, "capacity": 10} for room in rooms],
         "optimization": {"time": 1, "room": 1, "distribution": 1, "student": 1},
-        "courses": [{"id": id, "configs": [{"id": id, "subparts": [{"id": id, "classes": [{
-            "id": id, "limit": 10, "rooms": [{"id": room, "penalty": 0} for room in own] or None, "room": bool(own),
+        "courses": [{"id": one, "configs": [{"id": one, "subparts": [{"id": one, "classes": [{
+            "id": one, "limit": 10, "rooms": [{"id": room, "penalty": 0} for room in own] or None, "room": bool(own),
             "times": [{"days": "1", "weeks": "11", "start": start, "length": length, "penalty": 0} for start, length in times],
-        }]}]}]} for id, (times, own) in classes.items()],
+        }]}]}]} for one, (times, own) in classes.items()],
     } | changes)
 
 
-def published(*classes):
-    return json.dumps({"classes": [{"id": id, "days": "1", "weeks": weeks, "start": start, "room": room}
-                                   for id, start, weeks, room in classes]})
+OURS = problem([1, 2], {1: ([(96, 12), (120, 6)], [1]), 2: ([(96, 10)], [2]), 3: ([(96, 10)], [])})
 
 
-class Closures(ToolTest):
-    def setUp(self):
-        super().setUp()
-        self.problem = self.write("problem.json", problem([1, 2], {1: ([(96, 12), (120, 6)], [1]), 2: ([(96, 10)], [2]), 3: ([(96, 10)], [])}))
+def published(*classes: tuple[int, int, int | None]) -> str:
+    return json.dumps({"classes": [{"id": one, "days": "1", "weeks": "11", "start": start, "room": room}
+                                   for one, start, room in classes]})
 
-    def closures(self, *classes, other, status=0):
-        return self.run_tool("closures", self.problem, self.write("published.json", published(*classes)),
-                             self.write("other.json", other), status=status)
 
-    def test_rooms_of_the_other_problem_are_closed(self):
-        other = problem([1, 7], {5: ([(100, 6), (126, 6)], [1])})
-        out, _ = self.closures((1, 120, "11", 1), (2, 96, "11", 2), (3, 96, "11", None), other=other)
-        self.assertEqual(out, "close 1 1 120 6 11\n")
+@pytest.fixture
+def files(write: Write) -> tuple[str, str]:
+    return write("problem.json", OURS), write("published.json", published((1, 120, 1), (2, 96, 2), (3, 96, None)))
 
-    def test_faults(self):
-        placed = (1, 96, "11", 1)
-        self.assertIn("has 3 weeks in place of 2", self.closures(placed, other=problem([1], {}, nrWeeks=3), status=3)[1])
-        self.assertIn("the problem has no class 9", self.closures((9, 96, "11", 1), other=problem([1], {}), status=3)[1])
 
-    @unittest.skipIf(PROGRAM is None, "the program isn't built")
-    def test_the_program_takes_them(self):
-        out, _ = self.closures((1, 96, "11", 1), other=problem([1], {5: ([(100, 6), (108, 6)], [1])}))
-        script = self.write("script.txt", out + "force 5 1 1\nforce 5 2 1\n")
-        done = subprocess.run([str(PROGRAM), "run", str(self.folder / "other.json"), script], capture_output=True, text=True, timeout=60)
-        self.assertEqual([line.split()[0:2] for line in done.stdout.splitlines()[1:]],
-                         [["ok", "time"], ["refused", "17"], ["ok", "time"]])
+def test_rooms_of_the_other_problem_are_closed(files: tuple[str, str], tool: Tool, write: Write) -> None:
+    other = write("other.json", problem([1, 7], {5: ([(100, 6), (126, 6)], [1])}))
+    assert tool("closures", *files, other)[0] == "close 1 1 120 6 11\n"
+
+
+def test_faults(files: tuple[str, str], tool: Tool, write: Write) -> None:
+    other = write("other.json", problem([1], {}, nrWeeks=3))
+    assert "has 3 weeks in place of 2" in tool("closures", *files, other, status=3)[1]
+    other = write("other.json", problem([1], {}))
+    unknown = write("unknown.json", published((9, 96, 1)))
+    assert "the problem has no class 9" in tool("closures", files[0], unknown, other, status=3)[1]
+    many = write("many.json", published(*[(1, 96, 1)]))
+    assert tool("closures", files[0], many, other)[0].count("\n") == 1
+
+
+@needs_program
+def test_the_program_takes_them(files: tuple[str, str], tool: Tool, write: Write) -> None:
+    other = write("other.json", problem([1], {5: ([(100, 6), (108, 6)], [1])}))
+    early = write("early.json", published((1, 96, 1)))
+    out, _ = tool("closures", files[0], early, other)
+    told = uttab("run", other, "-", text=out + "force 5 1 1\nforce 5 2 1\n").splitlines()[1:]
+    assert [line.split()[:2] for line in told] == [["ok", "time"], ["refused", "17"], ["ok", "time"]]

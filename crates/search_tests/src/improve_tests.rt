@@ -139,6 +139,18 @@ fn without_an_object_no_round_is_made(rt: HostRuntime) -> Result<(), Fail> {
     Ok(())
 }
 
+// A locked class is no object.
+#[test]
+fn a_descent_leaves_a_locked_class(rt: HostRuntime) -> Result<(), Fail> {
+    let mut state = state_of(rt.alloc(), TWO_TIMES.as_bytes())?;
+    assert!(rt; assigns(&mut state, 0, 1, None));
+    assert!(rt; state.lock(0) == Ok(None));
+    assert!(rt; makes_no_round(rt.alloc(), &mut state));
+    assert!(rt; totals(&state) == (5, 0, 0));
+    drop(state);
+    Ok(())
+}
+
 #[test]
 fn one_round_ends_a_conflict_whichever_object_is_drawn(rt: HostRuntime) -> Result<(), Fail> {
     for seed in 0..12 {

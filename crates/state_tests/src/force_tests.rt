@@ -40,7 +40,7 @@ fn forces_in_a_step(state: &mut State) -> bool {
         return false;
     }
     let moment = state.mark_now();
-    if state.blocked(1, value).is_some() || state.force_step(1, value).is_err() {
+    if state.find_obstacle(1, value).is_some() || state.force_step(1, value).is_err() {
         return false;
     }
     let with = [state.totals().time, count(state, value)];

@@ -8,6 +8,8 @@ mod clash_tests;
 #[cfg(test)]
 mod force_tests;
 #[cfg(test)]
+mod lock_tests;
+#[cfg(test)]
 mod plan_tests;
 #[cfg(test)]
 mod problem_tests;

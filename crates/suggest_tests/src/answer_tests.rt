@@ -4,6 +4,7 @@ use std::alloc::{AllocError, Global};
 use std::test::Fail;
 use test_help::{assigns, state_of};
 use tt_bits::Value;
+use tt_state::State;
 use tt_suggest::{Move, SuggestEnd, Suggested, suggest};
 use tt_text::Reply;
 
@@ -70,6 +71,22 @@ fn wide_text(alloc: Global) -> Result<Reply, AllocError> {
     Ok(out)
 }
 
+// The best way to place or move a class by so many placements.
+fn ask(
+    alloc: Global,
+    state: &mut State,
+    class: u32,
+    depth: u8,
+) -> Option<Result<Suggested, SuggestEnd>>
+    requires some { 1 ≤ depth }
+    requires few { depth ≤ 3 }
+{
+    if class >= state.problem().class_count() {
+        return None;
+    }
+    Some(suggest(alloc, state, None, class, depth))
+}
+
 // The best way to place the first of two classes by so many placements, once the second has its
 // first time in the room with the id.
 fn asked(
@@ -84,10 +101,10 @@ fn asked(
     let Ok(mut state) = state_of(alloc, text) else {
         return None;
     };
-    if !assigns(&mut state, 1, 1, room) || state.problem().class_count() != 2 {
+    if !assigns(&mut state, 1, 1, room) {
         return None;
     }
-    Some(suggest(alloc, &mut state, None, 0, depth))
+    ask(alloc, &mut state, 0, depth)
 }
 
 // Whether so many values were tried, and there is no suggestion.
@@ -121,6 +138,21 @@ fn a_class_is_placed_by_moving_another(rt: HostRuntime) -> Result<(), Fail> {
     assert!(rt; is_none(&alone, 1));
     let both = asked(rt.alloc(), ONE_ROOM.as_bytes(), Some(1), 2);
     assert!(rt; is_best(&both, 3, BOTH_MOVES.as_slice(), 1));
+    Ok(())
+}
+
+// No placement may push out a locked class, which moves itself where it is asked for.
+#[test]
+fn a_locked_class_is_moved_for_itself_alone(rt: HostRuntime) -> Result<(), Fail> {
+    let mut state = state_of(rt.alloc(), ONE_ROOM.as_bytes())?;
+    assert!(rt; assigns(&mut state, 1, 1, Some(1)));
+    assert!(rt; state.lock(1) == Ok(None));
+    let first = ask(rt.alloc(), &mut state, 0, 2);
+    assert!(rt; is_none(&first, 1));
+    let second = ask(rt.alloc(), &mut state, 1, 1);
+    assert!(rt; is_best(&second, 2, &BOTH_MOVES[1..], 1));
+    assert!(rt; state.is_locked(1));
+    drop(state);
     Ok(())
 }
 

@@ -99,15 +99,6 @@ module _ (s : Session) where
   pub published : is_ready s.desk.problem s.desk.present ≡ true → carried_out s Publish ≡ Ok (with_published s (timetable_of s.desk.problem s.desk.present.plan s.desk.present.lists) (published_text s.desk.problem s.desk.present.plan s.desk.present.lists ++ codes "\n"))
   published is = rw is refl
 
--- a timetable that is ready has no unplaced class
-pub none_unplaced : (t : Totals) → no_faults t ≡ true → t.unplaced ≡ 0
-unfolding no_faults
-none_unplaced t is = eqb-true _ _ (first_of _ _ (first_of _ _ is))
-  where
-    first_of : (a : Bool) (b : Bool) → (a && b) ≡ true → a ≡ true
-    first_of true b is = refl
-    first_of false b is = is
-
 -- whatever the answer is, the fact stands
 pub on_err : {T E P : Type 0} (r : Result T E) → P → OnErr r P
 on_err (Ok x) p = tt

@@ -1,5 +1,5 @@
 -- Theorem. What each command does on a plain desk, which keeps whole snapshots.
-use Rattle.std.specs.Prelude.{ℕ, ◌==◌, nat_le, List, [], ◌∷◌, ◌++◌, length, Option, None, Some, Result, Ok, Err, codes, decimal, ok_or, option_and_then, option_map, if◌then◌else◌}
+use Rattle.std.specs.Prelude.{ℕ, true, false, ◌==◌, nat_le, List, [], ◌∷◌, ◌++◌, length, Option, None, Some, Result, Ok, Err, codes, decimal, ok_or, option_and_then, option_map, if◌then◌else◌}
 use Rattle.std.specs.List.{flat_map, list_any}
 use Rattle.std.specs.Option.{option_map_or}
 use Rattle.std.specs.Result.{result_map_both}
@@ -16,9 +16,14 @@ use Rattle.tt_plan.specs.Named.{find_value}
 use Rattle.tt_struct.specs.Enrolments.{is_enrolment}
 use Rattle.tt_score.specs.declared.totals.Totals as totals
 use Rattle.tt_score.specs.Totals.{totals_of}
-use Rattle.tt_state.specs.Snapshots.{Snapshot, opening_snapshot, value_in, with_value, list_in, with_list, in_order, is_open_in, with_closed, with_reopened}
+use Rattle.tt_state.specs.Snapshots.{Snapshot, opening_snapshot, value_in, with_value, list_in, with_list, in_order, is_open_in, with_closed, with_reopened, is_locked_in, with_lock, with_unplaced, lockable, all_locked, locked_classes, none_locked}
 use Rattle.tt_state.specs.Seats.{first_without_seat}
-use Rattle.tt_state.specs.Values.{blocked_of, conflicts_of}
+use Rattle.tt_state.specs.Values.{conflicts_of, obstacle_of}
+use Rattle.tt_state.specs.Faults.{lock_fault_of}
+use Rattle.tt_state.specs.declared.obstacle.Obstacle.{Obstacle}
+use Rattle.tt_state.specs.declared.obstacle.Obstacle.TheVariants as obstacle
+use Rattle.tt_state.specs.declared.locks.LockFault.{LockFault}
+use Rattle.tt_state.specs.declared.locks.LockFault.TheVariants as lock_fault
 use Rattle.tt_state.specs.Forced.{forced}
 use Rattle.tt_state.specs.Sound.{is_ready}
 use Rattle.tt_state.specs.History.{Desk, stepped}
@@ -38,11 +43,16 @@ use Rattle.tt_explain.specs.Names.{value_text}
 use Rattle.tt_explain.specs.Explain.{explain_lines}
 use Rattle.tt_explain.specs.Why.{why_lines}
 use Rattle.tt_explain.specs.Stats.{stats_lines}
+use Rattle.tt_explain.specs.Values.{values_lines}
+use Rattle.tt_explain.specs.Student.{student_lines}
+use Rattle.tt_explain.specs.Meets.{meets_lines}
+use Rattle.tt_explain.specs.Costs.{costs_lines}
+use Rattle.tt_explain.specs.Violations.{violations_lines}
 use Rattle.tt_script.specs.declared.command.Command.{Command}
-use Rattle.tt_script.specs.declared.command.Command.TheVariants.{Assign, Unassign, Force, Section, Drop, Enrol, EnrolAll, Search, Repair, Improve, Recall, Close, Reopen, Undo, Publish, Totals, Explain, Why, Stats, Suggest, Quit}
+use Rattle.tt_script.specs.declared.command.Command.TheVariants.{Assign, Unassign, Force, Section, Drop, Enrol, EnrolAll, Search, Repair, Improve, Recall, Close, Reopen, Lock, LockAll, Unlock, UnlockAll, Undo, Publish, Draft, Totals, Violations, Costs, Explain, Why, Values, Meets, Student, Stats, Suggest, Quit}
 use Rattle.tt_text.specs.Fields.{field}
 use Rattle.tt_desk.specs.declared.refusal.Refusal.{Refusal}
-use Rattle.tt_desk.specs.declared.refusal.Refusal.TheVariants.{BadLine, NoSuchClass, NoSuchStudent, NoSuchTime, RoomNotListed, NoSuchRoom, NotPlaced, Blocked, NoEnrolment, NoSeat, NotSectioned, NothingToUndo, NotReady, NothingPublished, BadTime, NothingClosed, TooManyTries, TooManyClosures}
+use Rattle.tt_desk.specs.declared.refusal.Refusal.TheVariants.{BadLine, NoSuchClass, NoSuchStudent, NoSuchTime, RoomNotListed, NoSuchRoom, NotPlaced, Blocked, Held, NoEnrolment, NoSeat, NotSectioned, NothingToUndo, NotReady, NothingPublished, BadTime, NothingClosed, TooManyTries, TooManyClosures, Locked, NotLocked}
 use Rattle.tt_desk.specs.declared.refusal.Outcome.{Outcome}
 use Rattle.tt_desk.specs.declared.refusal.Outcome.TheVariants.{Skipped, Accepted, Refused, Ended}
 use Rattle.tt_script.specs.declared.script.Line.{Line}
@@ -110,6 +120,20 @@ known_value p class time room = result_map_both (λ v. v) value_refusal (find_va
 -- the value that a class has
 abbrev pub placed_value : Desk → ℕ → Result Value Refusal
 placed_value d class = ok_or (value_in d.present class) NotPlaced
+
+-- why a class isn't forced to a value
+abbrev pub obstacle_refusal : Parts → Obstacle → Refusal
+obstacle_refusal p (obstacle.Blocked block) = Blocked block
+obstacle_refusal p (obstacle.Held class) = Held (class_id p class)
+
+-- why a class isn't locked
+abbrev pub lock_refusal : LockFault → Refusal
+lock_refusal lock_fault.NotPlaced = NotPlaced
+lock_refusal lock_fault.Locked = Locked
+
+-- the class is locked
+abbrev pub may_unlock : Snapshot → ℕ → Result (Unit {0}) Refusal
+may_unlock s class = if is_locked_in s class then Ok tt else Err NotLocked
 
 -- the list is a valid enrolment of the student
 abbrev pub valid_list : Desk → ℕ → List ℕ → Result (Unit {0}) Refusal
@@ -184,6 +208,18 @@ with_all_enrolled s all = with_step s all.snapshot (field (codes "enrolled ") al
 abbrev pub with_improvement : Session → Improvement → Answer
 with_improvement s i = with_step s i.snapshot (field (codes "rounds ") i.rounds ++ field (codes " changed ") i.changed ++ codes "\n")
 
+-- one more step leads to where each placed class is locked
+abbrev pub with_all_locked : Session → Answer
+with_all_locked s = with_step s (all_locked s.desk.present) (field (codes "locked ") (length (lockable s.desk.present)) ++ codes "\n")
+
+-- one more step leads to where no class is locked
+abbrev pub with_none_locked : Session → Answer
+with_none_locked s = with_step s (none_locked s.desk.present) (field (codes "unlocked ") (length (locked_classes s.desk.present)) ++ codes "\n")
+
+-- the text that would be published, ready or not, and the end of its line
+abbrev pub draft_line : Desk → List ℕ
+draft_line d = published_text d.problem d.present.plan d.present.lists ++ codes "\n"
+
 -- `out D`: a class that is taken out
 abbrev pub taken_line : Parts → ℕ → List ℕ
 taken_line p class = field (codes "out ") (class_id p class) ++ codes "\n"
@@ -228,11 +264,11 @@ carried_out s (Assign class time room) = do
 carried_out s (Unassign class) = do
   c ← known_class s.desk.problem class
   v ← placed_value s.desk c
-  Ok (with_step s (with_value s.desk.present c None) [])
+  Ok (with_step s (with_unplaced s.desk.present c) [])
 carried_out s (Force class time room) = do
   c ← known_class s.desk.problem class
   v ← known_value s.desk.problem c time room
-  free ← none_or Blocked (blocked_of s.desk.problem s.desk.present.closures c v)
+  free ← none_or (obstacle_refusal s.desk.problem) (obstacle_of s.desk.problem s.desk.present c v)
   Ok (with_step s (forced s.desk.problem s.desk.present c v) (taken_lines s.desk.problem (conflicts_of s.desk.problem s.desk.present c v)))
 carried_out s (Section student classes) = do
   list ← known_classes s.desk.problem classes
@@ -266,13 +302,26 @@ carried_out s (Reopen room) = do
   r ← known_room s.desk.problem room
   some ← may_reopen s.desk.present r
   Ok (with_step s (with_reopened s.desk.present r) [])
+carried_out s (Lock class) = do
+  c ← known_class s.desk.problem class
+  free ← none_or lock_refusal (lock_fault_of s.desk.present c)
+  Ok (with_step s (with_lock s.desk.present c true) [])
+carried_out s LockAll = Ok (with_all_locked s)
+carried_out s (Unlock class) = do
+  c ← known_class s.desk.problem class
+  was ← may_unlock s.desk.present c
+  Ok (with_step s (with_lock s.desk.present c false) [])
+carried_out s UnlockAll = Ok (with_none_locked s)
 carried_out s Undo = do
   d ← undone s.desk.problem s.desk.earlier
   Ok (with_desk s d [])
 carried_out s Publish = do
   now ← ready s.desk
   Ok (with_published s (timetable_of s.desk.problem now.plan now.lists) (published_text s.desk.problem now.plan now.lists ++ codes "\n"))
+carried_out s Draft = Ok (same s (draft_line s.desk))
 carried_out s Totals = Ok (same s [])
+carried_out s Violations = Ok (same s (violations_lines s.desk.problem s.desk.present))
+carried_out s Costs = Ok (same s (costs_lines s.desk.problem s.desk.present))
 carried_out s (Explain class) = do
   c ← known_class s.desk.problem class
   Ok (same s (explain_lines s.desk.problem s.desk.present c))
@@ -280,6 +329,15 @@ carried_out s (Why class time room) = do
   c ← known_class s.desk.problem class
   v ← known_value s.desk.problem c time room
   Ok (same s (why_lines s.desk.problem s.desk.present c v))
+carried_out s (Values class) = do
+  c ← known_class s.desk.problem class
+  Ok (same s (values_lines s.desk.problem s.desk.present c))
+carried_out s (Meets class) = do
+  c ← known_class s.desk.problem class
+  Ok (same s (meets_lines s.desk.problem s.desk.present c))
+carried_out s (Student student) = do
+  i ← known_student s.desk.problem student
+  Ok (same s (student_lines s.desk.problem s.desk.present i))
 carried_out s (Stats class) = do
   c ← known_class s.desk.problem class
   Ok (same s (stats_lines s.desk.problem s.desk.present c))

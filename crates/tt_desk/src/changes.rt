@@ -1,7 +1,7 @@
 //! The commands by which the office changes one class or one student, and `undo`.
 
 ghost use Rattle.std.specs.Prelude.{◌≡◌, ◌<◌, [], All, Ok, Err, IfOk, IfSome, MatchOption, OnErr, length};
-ghost use Rattle.tt_desk.specs.Desk.{command_step, known_classes, value_refusal, written_time};
+ghost use Rattle.tt_desk.specs.Desk.{command_step, known_classes, obstacle_refusal, value_refusal, written_time};
 ghost use Rattle.tt_problem.specs.Valid.{IsTimeOf};
 ghost use Rattle.tt_desk.specs.Causes.{MayTake};
 
@@ -14,7 +14,7 @@ use tt_bits::{BitWord, Days, Time, Weeks};
 use tt_plan::{NoValue, find};
 use tt_problem::Problem;
 use tt_script::{Command, Ids};
-use tt_state::SectionFault;
+use tt_state::{Obstacle, SectionFault};
 use tt_text::Reply;
 
 /// Why no value of a class is named.
@@ -24,6 +24,18 @@ pub(crate) fn value_refusal(fault: NoValue) -> Refusal
     match fault {
         NoValue::Time => Refusal::NoSuchTime,
         NoValue::Room => Refusal::RoomNotListed,
+    }
+}
+
+// Why a class isn't forced to a value.
+fn obstacle_refusal(problem: &Problem, obstacle: Obstacle) -> Refusal
+    ensures { result ≡ obstacle_refusal problem.now obstacle }
+{
+    match obstacle {
+        Obstacle::Blocked { block } => Refusal::Blocked { reason: block },
+        Obstacle::Held { class } => Refusal::Held {
+            class: problem.class_id(class),
+        },
     }
 }
 
@@ -208,8 +220,9 @@ impl Session {
             Ok(value) => value,
             Err(fault) => return Ok(Outcome::Refused(value_refusal(fault))),
         };
-        if let Some(reason) = self.state.force(class, value)? {
-            return Ok(Outcome::Refused(Refusal::Blocked { reason }));
+        if let Some(obstacle) = self.state.force(class, value)? {
+            let refusal = obstacle_refusal(self.state.problem(), obstacle);
+            return Ok(Outcome::Refused(refusal));
         }
         if add_taken(reply, self.state.problem(), self.state.taken()).is_err() {
             return Err(Wanting::Reply);

@@ -21,6 +21,10 @@ pub enum Refusal {
     Blocked {
         reason: Block,
     },
+    /// The class with this id is locked and would have to go, the first such of the conflict set.
+    Held {
+        class: u32,
+    },
     /// The list is no valid enrolment of the student, or the student has none.
     NoEnrolment,
     /// The class with this id has no seat for the student, the first such in the order of the line.
@@ -48,6 +52,10 @@ pub enum Refusal {
     TooManyTries,
     /// There are 10,000 closures, lifted ones among them.
     TooManyClosures,
+    /// The class is locked already.
+    Locked,
+    /// The class isn't locked.
+    NotLocked,
 }
 
 /// What became of a line.

@@ -112,6 +112,7 @@ fn add_refusal(reply: &mut Reply, refusal: Refusal) -> Result<(), AllocError>
             reply.text("17 ")?;
             add_block(reply, reason)
         }
+        Refusal::Held { class } => reply.field("17 blocked locked ", u128::from(class)),
         Refusal::NoEnrolment => reply.text("18 no valid enrolment"),
         Refusal::NoSeat { class } => reply.field("19 no seat in class ", u128::from(class)),
         Refusal::NotSectioned => reply.text("20 not sectioned"),
@@ -126,6 +127,8 @@ fn add_refusal(reply: &mut Reply, refusal: Refusal) -> Result<(), AllocError>
         Refusal::NothingClosed => reply.text("25 nothing closed"),
         Refusal::TooManyTries => reply.text("26 too many tries"),
         Refusal::TooManyClosures => reply.text("27 too many closures"),
+        Refusal::Locked => reply.text("28 locked"),
+        Refusal::NotLocked => reply.text("29 not locked"),
     }
 }
 
@@ -234,6 +237,24 @@ pub(crate) fn put_enrolled(reply: &mut Reply, counts: Enrolled)
         .field("enrolled ", u128::from(counts.enrolled))
         .unwrap();
     reply.field(" left ", u128::from(counts.left)).unwrap();
+    reply.text("\n").unwrap();
+}
+
+/// How many classes became locked, in an empty reply.
+pub(crate) fn put_locked(reply: &mut Reply, count: u32)
+    requires { reply.old ≡ [] }
+    ensures { reply.new ≡ field (codes "locked ") count ++ codes "\n" }
+{
+    reply.field("locked ", u128::from(count)).unwrap();
+    reply.text("\n").unwrap();
+}
+
+/// From how many classes the lock was taken, in an empty reply.
+pub(crate) fn put_unlocked(reply: &mut Reply, count: u32)
+    requires { reply.old ≡ [] }
+    ensures { reply.new ≡ field (codes "unlocked ") count ++ codes "\n" }
+{
+    reply.field("unlocked ", u128::from(count)).unwrap();
     reply.text("\n").unwrap();
 }
 

@@ -1,6 +1,6 @@
 ghost use Rattle.std.specs.Prelude.{◌≡◌, ◌+◌, ◌<◌, ◌≤◌, [], None, Some, IfOk, IsSome, OnOk, OnErr, cond, false, length};
 ghost use Rattle.tt_state.specs.History.{IsWithinStep, desk_of, earlier, stepped};
-ghost use Rattle.tt_enrol.specs.Enrolled.{enrolled, lacks_classes, all_enrolled, with_student};
+ghost use Rattle.tt_enrol.specs.Enrolled.{enrolled, all_enrolled, with_student};
 ghost use Rattle.tt_enrol.specs.Ready.{HasRoom};
 ghost use Rattle.tt_enrol.specs.Steps.{with_counts};
 
@@ -15,22 +15,6 @@ use tt_state::State;
 pub struct Enrolled {
     pub enrolled: u32,
     pub left: u32,
-}
-
-/// Whether a student has a course and no class.
-#[tactic(auto, unfolding(crate::specs::Enrolled::lacks_classes))]
-fn lacks_classes(state: &State, student: u32) -> bool
-    requires { student < length state.now.problem.students }
-    ensures { result ≡ lacks_classes state.now.problem state.now.present student }
-{
-    if state.problem().student(student).courses.is_empty() {
-        return false;
-    }
-    state.soundness();
-    match state.score().roster().classes(student).next() {
-        None => true,
-        Some(_) => false,
-    }
 }
 
 /// Enrols a student, in the last step, where there is an enrolment; whether there
@@ -76,7 +60,7 @@ fn enrol_next(
     ensures step { IsWithinStep state.old state.new }
 {
     state.problem().validity();
-    if !lacks_classes(state, student) {
+    if !state.lacks_classes(student) {
         return Ok(so_far);
     }
     if enrol_one(state, buffers, student)? {

@@ -1,10 +1,10 @@
 -- A class that moves to a lower value.
-use Rattle.std.proofs.Common.{◌≡◌, ℕ, nat_le, ◌+◌, ◌<◌, ◌≤◌, Bool, true, false, cond, List, [], ◌∷◌, Option, Some, None, length, drop, refl, sym, ap, ◌∙◌, arith, nat_lt}
-use Rattle.std.specs.Prelude.{◌&&◌, ◌==◌, IfSome, slice_get, slice_set, option_and_then, if◌then◌else◌}
+use Rattle.std.proofs.Common.{◌≡◌, ◌≢◌, ℕ, nat_le, ◌+◌, ◌<◌, ◌≤◌, Bool, true, false, cond, List, [], ◌∷◌, Option, Some, None, length, drop, refl, sym, ap, ◌∙◌, arith, nat_lt}
+use Rattle.std.specs.Prelude.{◌&&◌, ◌==◌, not, is_some, IfSome, slice_get, slice_set, option_and_then, if◌then◌else◌}
 use Rattle.std.specs.Option.{is_none, option_map}
 use Rattle.std.specs.List.{filter}
 use Rattle.std.proofs.lemmas.Bool.{and_parts, eqb-true, le-ltb, ltb-true}
-use Rattle.std.proofs.lemmas.List.{drop_all, set-get_or}
+use Rattle.std.proofs.lemmas.List.{drop_all, get_or-set_other, set-get_or}
 use Rattle.std.proofs.lemmas.Bool.Decides.{nat_tests}
 use Rattle.tt_base.specs.Lists.{first_least}
 use Rattle.tt_base.proofs.ListLemmas.{drop_at}
@@ -18,12 +18,12 @@ use Rattle.tt_clash.specs.Blocked.{blocked_by}
 use Rattle.tt_clash.specs.ConflictSet.{conflict_set}
 use Rattle.tt_score.specs.Forcing.{among}
 use Rattle.tt_score.specs.Totals.{totals_of}
-use Rattle.tt_state.specs.Snapshots.{Snapshot, value_in, with_value}
+use Rattle.tt_state.specs.Snapshots.{Snapshot, StaysLocked, is_locked_in, may_lock, value_in, with_value}
 use Rattle.tt_state.specs.Values.{blocked_of, conflicts_of, total_with}
 use Rattle.tt_improve.specs.declared.classes.Best.{Best}
 use Rattle.tt_improve.specs.Below.{better, passed, nothing_below}
 use Rattle.tt_improve.specs.Classes.{is_free, total_of, least_value, at_lower, moved_class}
-use Rattle.tt_improve.specs.Standing.{IsLower, IsNoWorse, IsPlacedIn}
+use Rattle.tt_improve.specs.Standing.{IsLower, IsMovable, IsNoWorse}
 use Rattle.tt_improve.proofs.BelowLemmas.{least_below}
 use Rattle.tt_improve.proofs.FallLemmas.{spot_of_value, hard-falls}
 use Rattle.tt_improve.proofs.ObjectLemmas.{moved-class_objects}
@@ -95,8 +95,19 @@ empty_is : (xs : List ℕ) → length xs ≡ 0 → xs ≡ []
 empty_is [] e = refl
 empty_is (x ∷ xs) e = absurd (omega arith)
 
+-- a class that isn't locked moves, and the locked ones stay
+others_stay : (s : Snapshot) (class : ℕ) (v : Value) → may_lock s class ≡ true → (d : ℕ) → StaysLocked s (with_value s class (Some v)) d
+others_stay s class v free d locked = (get_or-set_other s.plan class d (Some v) None apart, locked)
+  where
+    never : (b : Bool) → not b ≡ true → b ≡ true → ⊥
+    never true open_one is = cc
+    never false open_one is = cc
+
+    apart : d ≢ class
+    apart same = never (is_locked_in s class) (and_parts (is_some (value_in s class)) (not (is_locked_in s class)) free).1 (rw same at locked)
+
 -- a lower value makes the snapshot no worse
-pub lower_no_worse : (p : Parts) (s : Snapshot) (class : ℕ) (v : Value) → IsValid p → length s.plan ≡ length p.classes → IsPlacedIn p s class → IsLower p s class v → IsNoWorse p s (with_value s class (Some v))
+pub lower_no_worse : (p : Parts) (s : Snapshot) (class : ℕ) (v : Value) → IsValid p → length s.plan ≡ length p.classes → IsMovable p s class → IsLower p s class v → IsNoWorse p s (with_value s class (Some v))
 unfolding blocked_of conflicts_of total_with
 lower_no_worse p s class v valid whole object lower =
     let spot = spot_of_value p class v lower.domain in
@@ -108,7 +119,8 @@ lower_no_worse p s class v valid whole object lower =
       hard = hard-falls p s.closures s.plan s.lists class v spot.0 valid (omega (arith, whole, object.within)) spot.1 open_value empty;
       statistics = refl;
       closures = refl;
-      objects = moved-class_objects p s class v object.placed;
+      objects = moved-class_objects p s class v object.free;
+      locked = others_stay s class v object.free;
     }
 
 -- what is found is lower

@@ -15,7 +15,7 @@ use Rattle.tt_improve.specs.Standing.{IsNoWorse}
 use Rattle.tt_improve.specs.UnderWay.{so_far}
 
 pub no_worse_same : (p : Parts) (s : Snapshot) → IsNoWorse p s s
-no_worse_same p s = record { total = omega arith; hard = omega arith; statistics = refl; closures = refl; objects = refl }
+no_worse_same p s = record { total = omega arith; hard = omega arith; statistics = refl; closures = refl; objects = refl; locked = λ class is. (refl, is) }
 
 pub no_worse_next : (p : Parts) (s t u : Snapshot) → IsNoWorse p s t → IsNoWorse p t u → IsNoWorse p s u
 no_worse_next p s t u one two = record {
@@ -24,6 +24,7 @@ no_worse_next p s t u one two = record {
   statistics = two.statistics ∙ one.statistics;
   closures = two.closures ∙ one.closures;
   objects = two.objects ∙ one.objects;
+  locked = λ class is. let first = one.locked class is in let next = two.locked class first.1 in (next.0 ∙ first.0, next.1);
 }
 
 -- a round more, with the object that is drawn

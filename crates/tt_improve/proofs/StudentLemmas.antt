@@ -251,6 +251,7 @@ module _ (p : Parts) (s : Snapshot) (student course : ℕ) (valid : IsValid p) (
         statistics = refl;
         closures = refl;
         objects = moved-student_objects p s student new within_lists object.some long;
+        locked = λ class is. (refl, is);
       }
 
 -- what a round on a course comes to

@@ -4,18 +4,18 @@ use Rattle.tt_base.specs.Lists.{is_listed}
 use Rattle.tt_bits.specs.declared.times.Value.{Value}
 use Rattle.tt_problem.specs.declared.parts.Parts.{Parts}
 use Rattle.tt_plan.specs.Domain.{IsOfDomain}
-use Rattle.tt_state.specs.Snapshots.{Snapshot, list_in}
+use Rattle.tt_state.specs.Snapshots.{Snapshot, StaysLocked, list_in, may_lock}
 use Rattle.tt_state.specs.Values.{total_with}
 use Rattle.tt_choice.specs.Situations.{courses_of}
 use Rattle.tt_improve.specs.declared.objects.Object.{Object}
 use Rattle.tt_improve.specs.declared.objects.Object.TheVariants.{Class, Course}
 use Rattle.tt_improve.specs.Classes.{is_free, total_of, totals_in}
-use Rattle.tt_improve.specs.Objects.{is_placed, objects_of}
+use Rattle.tt_improve.specs.Objects.{objects_of}
 
--- the class is one of the problem, and it is placed
-pub record IsPlacedIn (p : Parts) (s : Snapshot) (class : ℕ) : Type 0 where
+-- the class is one of the problem, it is placed, and it isn't locked
+pub record IsMovable (p : Parts) (s : Snapshot) (class : ℕ) : Type 0 where
   pub within : class < length p.classes
-  pub placed : is_placed s class ≡ true
+  pub free : may_lock s class ≡ true
 
 -- the student is one of the problem who has classes, and the course is one of the student's
 pub record IsSeatedIn (p : Parts) (s : Snapshot) (student course : ℕ) : Type 0 where
@@ -25,7 +25,7 @@ pub record IsSeatedIn (p : Parts) (s : Snapshot) (student course : ℕ) : Type 0
 
 -- the object is one of a snapshot
 abbrev pub IsObjectOf : Parts → Snapshot → Object → Type 0
-IsObjectOf p s (Class class) = IsPlacedIn p s class
+IsObjectOf p s (Class class) = IsMovable p s class
 IsObjectOf p s (Course student course) = IsSeatedIn p s student course
 
 -- the value is of the class's domain and free, and the total is lower with it
@@ -34,10 +34,11 @@ pub record IsLower (p : Parts) (s : Snapshot) (class : ℕ) (v : Value) : Type 0
   pub free : is_free p s class v ≡ true
   pub lower : total_with p s class v < total_of p s
 
--- the second snapshot is no worse than the first, and has the same statistics, closures and objects
+-- the second snapshot is no worse than the first, and has the same statistics, closures and objects; and each locked class is where it was
 pub record IsNoWorse (p : Parts) (s t : Snapshot) : Type 0 where
   pub total : total_of p t ≤ total_of p s
   pub hard : (totals_in p t).hard ≤ (totals_in p s).hard
   pub statistics : t.statistics ≡ s.statistics
   pub closures : t.closures ≡ s.closures
   pub objects : objects_of p t ≡ objects_of p s
+  pub locked : (class : ℕ) → StaysLocked s t class

@@ -6,7 +6,7 @@ ghost use Rattle.tt_state.specs.Snapshots.{value_in, with_value};
 ghost use Rattle.tt_state.specs.Values.{conflicts_without, total_with};
 ghost use Rattle.tt_improve.specs.Classes.{is_free, moved_class, total_of};
 ghost use Rattle.tt_improve.specs.Below.{better};
-ghost use Rattle.tt_improve.specs.Standing.{IsLower, IsNoWorse, IsPlacedIn};
+ghost use Rattle.tt_improve.specs.Standing.{IsLower, IsMovable, IsNoWorse};
 
 use std::alloc::AllocError;
 use tt_bits::Value;
@@ -83,7 +83,7 @@ fn lower_value(state: &mut State, class: u32) -> Option<Value>
 /// A round on a class, in the last step: it gets the best of its free values, where the total falls.
 /// Whether it does.
 pub(crate) fn move_class(state: &mut State, class: u32) -> Result<bool, AllocError>
-    requires class { IsPlacedIn state.old.problem state.old.present class }
+    requires class { IsMovable state.old.problem state.old.present class }
     requires step { 0 < length (earlier state.old) }
     ensures step { IsWithinStep (with_taken state.old []) (with_taken state.new []) }
     ensures moved { IfOk result (λ moved. moved_class state.old.problem state.old.present class ≡ cond moved (Some state.new.present) None) }

@@ -1,5 +1,6 @@
-ghost use Rattle.std.specs.Prelude.{◌≡◌, ◌+◌, ◌<◌, ◌≤◌, ◌^◌, ◌∷◌, [], None, Some, IfOk, OnOk, OnErr, cond, false, length};
+ghost use Rattle.std.specs.Prelude.{◌≡◌, ℕ, ◌+◌, ◌<◌, ◌≤◌, ◌^◌, ◌∷◌, [], None, Some, IfOk, OnOk, OnErr, cond, false, length};
 ghost use Rattle.tt_state.specs.History.{IsWithinStep, desk_of, earlier, stepped, with_taken};
+ghost use Rattle.tt_state.specs.Snapshots.{StaysLocked};
 ghost use Rattle.tt_choice.specs.Ready.{HasRoom};
 ghost use Rattle.tt_improve.specs.Classes.{totals_in};
 ghost use Rattle.tt_improve.specs.Idle.{KnowsIdle, moved_at, objects_in};
@@ -164,13 +165,13 @@ fn improve_in_step<W: Watcher>(
 }
 
 /// Improves the present snapshot by so many rounds, or until there is no object, as one step. In a
-/// round a random word draws a placed class or a course of a student who has classes. A class gets
-/// that of its values with which the total is least, among those that aren't blocked and push no class
-/// out, where the total falls. A student's classes of a course are replaced by the choice that adds
-/// the fewest conflicting pairs, among those with which the list is a valid enrolment and each class
-/// has a seat, where it adds fewer. So neither the total nor the hard conflicts rise, and the
-/// statistics and closures stay. Where memory is wanting, only the conflict set found last may differ.
-/// The watcher is told of each round.
+/// round a random word draws a placed class that isn't locked, or a course of a student who has
+/// classes. A class gets that of its values with which the total is least, among those that aren't
+/// blocked and push no class out, where the total falls. A student's classes of a course are replaced
+/// by the choice that adds the fewest conflicting pairs, among those with which the list is a valid
+/// enrolment and each class has a seat, where it adds fewer. So neither the total nor the hard
+/// conflicts rise, the statistics and closures stay, and each locked class stays where it is. Where
+/// memory is wanting, only the conflict set found last may differ. The watcher is told of each round.
 pub fn improve<W: Watcher>(
     alloc: Global,
     state: &mut State,
@@ -184,6 +185,7 @@ pub fn improve<W: Watcher>(
     ensures hard { OnOk result ((totals_in state.old.problem state.new.present).hard ≤ (totals_in state.old.problem state.old.present).hard) }
     ensures statistics { OnOk result (state.new.present.statistics ≡ state.old.present.statistics) }
     ensures closures { OnOk result (state.new.present.closures ≡ state.old.present.closures) }
+    ensures locked { OnOk result ((class : ℕ) → StaysLocked state.old.present state.new.present class) }
     ensures err { OnErr result (with_taken state.new [] ≡ with_taken state.old []) }
 {
     improve_in_step(alloc, state, rounds, seed, watcher)

@@ -3,9 +3,11 @@ use Rattle.std.specs.Prelude.{ℕ, ◌≤◌, ⊤, IsTrue, IsSome, List, [], ◌
 use Rattle.std.specs.Option.{option_zip}
 use Rattle.tt_text.specs.Decimal.{decimal_of, at_most}
 use Rattle.tt_script.specs.declared.command.Command.{Command}
-use Rattle.tt_script.specs.declared.command.Command.TheVariants.{Assign, Unassign, Force, Section, Drop, Enrol, EnrolAll, Search, Repair, Improve, Recall, Close, Reopen, Undo, Publish, Totals, Explain, Why, Stats, Suggest, Quit}
+use Rattle.tt_script.specs.declared.command.Command.TheVariants.{Assign, Unassign, Force, Section, Drop, Enrol, EnrolAll, Search, Repair, Improve, Recall, Close, Reopen, Lock, LockAll, Unlock, UnlockAll, Undo, Publish, Draft, Totals, Violations, Costs, Explain, Why, Values, Meets, Student, Stats, Suggest, Quit}
 use Rattle.tt_script.specs.declared.reading.Choice.{Choice}
 use Rattle.tt_script.specs.declared.reading.Turns.{Turns}
+use Rattle.tt_script.specs.declared.reading.Chosen.{Chosen}
+use Rattle.tt_script.specs.declared.reading.Chosen.TheVariants.{All, One}
 use Rattle.tt_script.specs.declared.reading.Closing.{Closing}
 use Rattle.tt_bits.specs.Words.{bit_word}
 
@@ -73,10 +75,15 @@ abbrev pub suggest_of : List (List ℕ) → Option Command
 suggest_of (class ∷ depth ∷ []) = option_map (λ s. Suggest s.0 s.1) (option_zip (id_of class) (depth_of depth))
 suggest_of words = None
 
--- `all`, or `S`: one id
-abbrev pub enrol_of : List (List ℕ) → Option Command
-enrol_of (word ∷ []) = if bytes_eq word (codes "all") then Some EnrolAll else option_map Enrol (id_of word)
-enrol_of words = None
+-- `all`, or one id
+abbrev pub chosen_of : List (List ℕ) → Option Chosen
+chosen_of (word ∷ []) = if bytes_eq word (codes "all") then Some All else option_map One (id_of word)
+chosen_of words = None
+
+-- the command for all, or the one for the class or student with this id
+abbrev pub for_chosen : Command → (ℕ → Command) → Chosen → Command
+for_chosen all one All = all
+for_chosen all one (One id) = one id
 
 -- `S C1 C2 ..`: a student, and then any number of classes
 abbrev pub section_of : List (List ℕ) → Option Command
@@ -90,18 +97,31 @@ alone command (word ∷ words) = None
 
 -- ---- the table of commands
 
--- the command that goes back, publishes, asks or ends, by its first word and those after it
-abbrev pub other_command : List ℕ → List (List ℕ) → Option Command
-other_command word words =
-    if bytes_eq word (codes "undo") then alone Undo words
-    else if bytes_eq word (codes "publish") then alone Publish words
-    else if bytes_eq word (codes "totals") then alone Totals words
-    else if bytes_eq word (codes "explain") then option_map Explain (lone_id words)
+-- the command that asks of a class or a student, by its first word and those after it
+abbrev pub question_of : List ℕ → List (List ℕ) → Option Command
+question_of word words =
+    if bytes_eq word (codes "explain") then option_map Explain (lone_id words)
     else if bytes_eq word (codes "why") then option_map (λ v. Why v.class v.time v.room) (choice_of words)
+    else if bytes_eq word (codes "values") then option_map Values (lone_id words)
+    else if bytes_eq word (codes "meets") then option_map Meets (lone_id words)
+    else if bytes_eq word (codes "student") then option_map Student (lone_id words)
     else if bytes_eq word (codes "stats") then option_map Stats (lone_id words)
     else if bytes_eq word (codes "suggest") then suggest_of words
-    else if bytes_eq word (codes "quit") then alone Quit words
     else None
+
+-- the command that locks, goes back, publishes, asks or ends, by its first word and those after it
+abbrev pub other_command : List ℕ → List (List ℕ) → Option Command
+other_command word words =
+    if bytes_eq word (codes "lock") then option_map (for_chosen LockAll Lock) (chosen_of words)
+    else if bytes_eq word (codes "unlock") then option_map (for_chosen UnlockAll Unlock) (chosen_of words)
+    else if bytes_eq word (codes "undo") then alone Undo words
+    else if bytes_eq word (codes "publish") then alone Publish words
+    else if bytes_eq word (codes "draft") then alone Draft words
+    else if bytes_eq word (codes "totals") then alone Totals words
+    else if bytes_eq word (codes "violations") then alone Violations words
+    else if bytes_eq word (codes "costs") then alone Costs words
+    else if bytes_eq word (codes "quit") then alone Quit words
+    else question_of word words
 
 -- the command that the words of a line are, if they are in one of these forms
 abbrev pub command_of : List (List ℕ) → Option Command
@@ -112,7 +132,7 @@ command_of (word ∷ words) =
     else if bytes_eq word (codes "force") then option_map (λ v. Force v.class v.time v.room) (choice_of words)
     else if bytes_eq word (codes "section") then section_of words
     else if bytes_eq word (codes "drop") then option_map Drop (lone_id words)
-    else if bytes_eq word (codes "enrol") then enrol_of words
+    else if bytes_eq word (codes "enrol") then option_map (for_chosen EnrolAll Enrol) (chosen_of words)
     else if bytes_eq word (codes "search") then option_map (λ t. Search t.count t.seed) (turns_of words)
     else if bytes_eq word (codes "repair") then option_map (λ t. Repair t.count t.seed) (turns_of words)
     else if bytes_eq word (codes "improve") then option_map (λ t. Improve t.count t.seed) (turns_of words)

@@ -67,12 +67,30 @@ pub enum Command {
     Reopen {
         room: u32,
     },
+    /// Keep the class where it is, so that nothing but a command on the class itself moves it.
+    Lock {
+        class: u32,
+    },
+    /// Keep each placed class where it is.
+    LockAll,
+    /// Let the class be moved again.
+    Unlock {
+        class: u32,
+    },
+    /// Let each class be moved again.
+    UnlockAll,
     /// Go back by one step.
     Undo,
     /// Publish the timetable.
     Publish,
+    /// Say what there is of the timetable, ready or not.
+    Draft,
     /// Say the totals.
     Totals,
+    /// Say all that is wrong with the timetable.
+    Violations,
+    /// Say what the total is made of.
+    Costs,
     /// Say what a class costs.
     Explain {
         class: u32,
@@ -82,6 +100,18 @@ pub enum Command {
         class: u32,
         time: u32,
         room: Option<u32>,
+    },
+    /// Say what each value of the class would cost.
+    Values {
+        class: u32,
+    },
+    /// Say with which other classes the class conflicts, and for how many students.
+    Meets {
+        class: u32,
+    },
+    /// Say which classes the student has, and which of them conflict.
+    Student {
+        student: u32,
     },
     /// Say how often the class took out others.
     Stats {

@@ -1,5 +1,5 @@
 ghost use Rattle.std.specs.Prelude.{◌≡◌, ◌↔◌, ◌∷◌, [], Some, None, IfOk, IfSome, IsSome, is_some, codes, bytes_eq, false, option_map};
-ghost use Rattle.tt_script.specs.Forms.{HasDepth, IsDepth, IsSectionLine, id_of, ids_of, room_or_none, count_of, seed_of, slot_of, choice_of, turns_of, closing_of, lone_id, depth_of, suggest_of, enrol_of, section_of, alone, other_command, command_of};
+ghost use Rattle.tt_script.specs.Forms.{HasDepth, IsDepth, IsSectionLine, id_of, ids_of, room_or_none, count_of, seed_of, slot_of, choice_of, turns_of, closing_of, lone_id, depth_of, suggest_of, chosen_of, for_chosen, section_of, alone, question_of, other_command, command_of};
 ghost use Rattle.tt_text.specs.Line.{words_of};
 
 use crate::command::{Command, Ids, LineFault};
@@ -23,6 +23,13 @@ pub struct Choice {
 pub struct Turns {
     count: u32,
     seed: u64,
+}
+
+/// The word `all`, or that of one class or student.
+#[derive(Clone, Copy)]
+pub enum Chosen {
+    All,
+    One { id: u32 },
 }
 
 /// The words `ROOM DAYS START LENGTH WEEKS`: a room, and when it is closed.
@@ -198,18 +205,18 @@ fn read_suggest(mut words: Words<'_>) -> Option<Command>
     })
 }
 
-// The command of an `enrol` line, by the words after its first one: for all students, or for one.
-fn read_enrol(mut words: Words<'_>) -> Option<Command>
-    ensures { result ≡ enrol_of words.entry }
+// Whether the words still to come are the word `all` or one id, and which.
+fn only_chosen(mut words: Words<'_>) -> Option<Chosen>
+    ensures { result ≡ chosen_of words.entry }
 {
     let (Some(word), None) = (words.next(), words.next()) else {
         return None;
     };
     if word == b"all".as_slice() {
-        return Some(Command::EnrolAll);
+        return Some(Chosen::All);
     }
-    let student = read_id(word)?;
-    Some(Command::Enrol { student })
+    let id = read_id(word)?;
+    Some(Chosen::One { id })
 }
 
 // The command, if no word is still to come.
@@ -222,32 +229,67 @@ fn only_word(command: Command, mut words: Words<'_>) -> Option<Command>
     }
 }
 
-// The command that goes back, publishes, asks or ends, by its first word and those after it.
-fn read_other(word: &[u8], words: Words<'_>) -> Option<Command>
-    ensures command { result ≡ other_command word.now words.entry }
+// The command that asks of a class or a student, by its first word and those after it.
+fn read_question(word: &[u8], words: Words<'_>) -> Option<Command>
+    ensures command { result ≡ question_of word.now words.entry }
     ensures depth { IfSome result HasDepth }
 {
-    if word == b"undo".as_slice() {
-        only_word(Command::Undo, words)
-    } else if word == b"publish".as_slice() {
-        only_word(Command::Publish, words)
-    } else if word == b"totals".as_slice() {
-        only_word(Command::Totals, words)
-    } else if word == b"explain".as_slice() {
+    if word == b"explain".as_slice() {
         let class = only_id(words)?;
         Some(Command::Explain { class })
     } else if word == b"why".as_slice() {
         let Choice { class, time, room } = only_choice(words)?;
         Some(Command::Why { class, time, room })
+    } else if word == b"values".as_slice() {
+        let class = only_id(words)?;
+        Some(Command::Values { class })
+    } else if word == b"meets".as_slice() {
+        let class = only_id(words)?;
+        Some(Command::Meets { class })
+    } else if word == b"student".as_slice() {
+        let student = only_id(words)?;
+        Some(Command::Student { student })
     } else if word == b"stats".as_slice() {
         let class = only_id(words)?;
         Some(Command::Stats { class })
     } else if word == b"suggest".as_slice() {
         read_suggest(words)
+    } else {
+        None
+    }
+}
+
+// The command that locks, goes back, publishes, asks or ends, by its first word and those after it.
+fn read_other(word: &[u8], words: Words<'_>) -> Option<Command>
+    ensures command { result ≡ other_command word.now words.entry }
+    ensures depth { IfSome result HasDepth }
+{
+    if word == b"lock".as_slice() {
+        match only_chosen(words)? {
+            Chosen::All => Some(Command::LockAll),
+            Chosen::One { id: class } => Some(Command::Lock { class }),
+        }
+    } else if word == b"unlock".as_slice() {
+        match only_chosen(words)? {
+            Chosen::All => Some(Command::UnlockAll),
+            Chosen::One { id: class } => Some(Command::Unlock { class }),
+        }
+    } else if word == b"undo".as_slice() {
+        only_word(Command::Undo, words)
+    } else if word == b"publish".as_slice() {
+        only_word(Command::Publish, words)
+    } else if word == b"draft".as_slice() {
+        only_word(Command::Draft, words)
+    } else if word == b"totals".as_slice() {
+        only_word(Command::Totals, words)
+    } else if word == b"violations".as_slice() {
+        only_word(Command::Violations, words)
+    } else if word == b"costs".as_slice() {
+        only_word(Command::Costs, words)
     } else if word == b"quit".as_slice() {
         only_word(Command::Quit, words)
     } else {
-        None
+        read_question(word, words)
     }
 }
 
@@ -270,7 +312,10 @@ fn read_short(word: &[u8], words: Words<'_>) -> Option<Command>
         let student = only_id(words)?;
         Some(Command::Drop { student })
     } else if word == b"enrol".as_slice() {
-        read_enrol(words)
+        match only_chosen(words)? {
+            Chosen::All => Some(Command::EnrolAll),
+            Chosen::One { id: student } => Some(Command::Enrol { student }),
+        }
     } else if word == b"search".as_slice() {
         let Turns { count: turns, seed } = only_turns(words)?;
         Some(Command::Search { turns, seed })

@@ -4,24 +4,21 @@ use Rattle.std.specs.Prelude.{◌/◌, ◌&&◌, ◌||◌, nat_eq, slice_get, sl
 use Rattle.std.specs.List.{filter, list_any, range_with_len}
 use Rattle.std.specs.Option.{is_none}
 use Rattle.std.proofs.lemmas.Bool.Decides.{eqb_tells}
-use Rattle.tt_bits.specs.declared.times.Value.{Value}
 use Rattle.tt_draw.specs.Words.{drawn}
 use Rattle.tt_flags.specs.Places.{is_set, set_places}
 use Rattle.tt_problem.specs.declared.parts.Parts.{Parts}
 use Rattle.tt_state.specs.Snapshots.{Snapshot}
-use Rattle.tt_state.specs.Values.{conflicts_of}
-use Rattle.tt_state.specs.Forced.{forced}
-use Rattle.tt_state.proofs.FitsLemmas.{forced_closures}
 use Rattle.tt_search.specs.declared.drawing.Candidates.{Candidates}
 use Rattle.tt_search.specs.Turns.{candidates, is_candidate, has_open_value}
 use Rattle.tt_search.specs.Drawing.{AreHopeful, AreCandidates}
-use Rattle.tt_search.proofs.LateLemmas.{forced_keeps, never_late, set_anew}
+use Rattle.tt_search.specs.Late.{KeepsOthers}
+use Rattle.tt_search.proofs.LateLemmas.{never_late, set_anew}
 
--- once a class is forced, it and those taken out for it are late
-pub candidates_forced : (p : Parts) (s : Snapshot) (class : ℕ) (v : Value) (c : Candidates) → AreCandidates p s c [] → AreCandidates p (forced p s class v) c (class ∷ conflicts_of p s class v)
-candidates_forced p s class v c now = record {
-  kept = rw (forced_closures p s class v) now.kept;
-  right = λ k within none. rw (forced_closures p s class v) (now.right k within refl ∙ ap (λ value. is_none value && has_open_value p s.closures k) (sym (forced_keeps p s class v k none)));
+-- once the values of some classes may have changed, these are late
+pub candidates_changed : (p : Parts) (s t : Snapshot) (c : Candidates) (late : List ℕ) → KeepsOthers s t late → AreCandidates p s c [] → AreCandidates p t c late
+candidates_changed p s t c late others now = record {
+  kept = rw others.closures now.kept;
+  right = λ k within none. rw others.closures (now.right k within refl ∙ ap (λ value. is_none value && has_open_value p s.closures k) (sym (others.values k none)));
 }
 
 -- a class that is none of the problem is passed over

@@ -1,6 +1,6 @@
 -- Flags by class, as a class is forced to a value and as classes are looked at again.
-use Rattle.std.proofs.Common.{◌≡◌, ◌≢◌, ℕ, ◌<◌, ◌≤◌, Bool, true, false, Option, Some, None, List, [], ◌∷◌, length, refl, ◌∙◌, ◌⊎◌, inl, inr, arith}
-use Rattle.std.specs.Prelude.{◌||◌, nat_eq, slice_index_or, slice_set}
+use Rattle.std.proofs.Common.{◌≡◌, ◌≢◌, ℕ, ◌<◌, ◌≤◌, Bool, true, false, Option, Some, None, Result, Ok, Err, List, [], ◌∷◌, length, refl, ◌∙◌, ◌⊎◌, inl, inr, arith}
+use Rattle.std.specs.Prelude.{OnOk, ◌||◌, nat_eq, slice_index_or, slice_set}
 use Rattle.std.specs.List.{list_any}
 use Rattle.std.proofs.lemmas.Bool.{eqb-false}
 use Rattle.std.proofs.lemmas.Bool.Decides.{eqb_tells}
@@ -10,7 +10,8 @@ use Rattle.tt_problem.specs.declared.parts.Parts.{Parts}
 use Rattle.tt_state.specs.Snapshots.{Snapshot, value_in}
 use Rattle.tt_state.specs.Values.{conflicts_of}
 use Rattle.tt_state.specs.Forced.{all_out, forced, out_of, taken_out}
-use Rattle.tt_search.specs.Late.{AreRightBut}
+use Rattle.tt_state.proofs.FitsLemmas.{forced_closures}
+use Rattle.tt_search.specs.Late.{AreRightBut, KeepsOthers}
 
 not_either : (a b : Bool) → (a || b) ≡ false → (a ≡ false) × (b ≡ false)
 not_either true b neither = absurd (cc)
@@ -31,12 +32,24 @@ all_out_keeps class v s (other ∷ others) c none =
     ∙ out_keeps class v s other (value_in s other) c (other_than c other both.0)
 
 -- a class that isn't forced or taken out keeps its value
-pub forced_keeps : (p : Parts) (s : Snapshot) (class : ℕ) (v : Value) (c : ℕ) → list_any (nat_eq c) (class ∷ conflicts_of p s class v) ≡ false → value_in (forced p s class v) c ≡ value_in s c
+forced_keeps : (p : Parts) (s : Snapshot) (class : ℕ) (v : Value) (c : ℕ) → list_any (nat_eq c) (class ∷ conflicts_of p s class v) ≡ false → value_in (forced p s class v) c ≡ value_in s c
 unfolding forced
 forced_keeps p s class v c none =
     let both = not_either (nat_eq c class) (list_any (nat_eq c) (conflicts_of p s class v)) none in
     get_or-set_other (all_out class v s (conflicts_of p s class v)).plan class c (Some v) None (other_than c class both.0)
     ∙ all_out_keeps class v s (conflicts_of p s class v) c both.1
+
+pub forced_others : (p : Parts) (s : Snapshot) (class : ℕ) (v : Value) → KeepsOthers s (forced p s class v) (class ∷ conflicts_of p s class v)
+forced_others p s class v = record { closures = forced_closures p s class v; values = forced_keeps p s class v }
+
+-- where nothing changes, all keep theirs
+pub same_others : (s : Snapshot) (late : List ℕ) → KeepsOthers s s late
+same_others s late = record { closures = refl; values = λ class none. refl }
+
+-- what follows from two facts that hold where there is no error
+pub on_ok_both : {X E A B C : Type 0} (r : Result X E) → (A → B → C) → OnOk r A → OnOk r B → OnOk r C
+on_ok_both (Ok x) f a b = f a b
+on_ok_both (Err e) f a b = tt
 
 neither_by : (c class : ℕ) (late : List ℕ) → ((nat_eq c class ≡ true) × (c ≡ class)) ⊎ ((nat_eq c class ≡ false) × (c ≢ class)) → c ≢ class → list_any (nat_eq c) late ≡ false → list_any (nat_eq c) (class ∷ late) ≡ false
 neither_by c class late (inl same) differ none = absurd (differ same.1)

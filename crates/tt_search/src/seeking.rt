@@ -3,13 +3,14 @@ ghost use Rattle.std.specs.Option.{option_copied, ForSome};
 ghost use Rattle.tt_solution.specs.Published.{moved_in};
 ghost use Rattle.tt_solution.specs.Timetable.{IsTimetableOf, Timetable};
 ghost use Rattle.tt_state.specs.History.{IsWithinStep, desk_of, earlier, moved_to, stepped, trail, with_taken};
-ghost use Rattle.tt_state.specs.Values.{conflicts_of};
+ghost use Rattle.tt_state.specs.Snapshots.{StaysLocked};
 ghost use Rattle.tt_base.specs.Lists.{comes_before};
 ghost use Rattle.tt_search.specs.Least.{IsFirstLeast};
 ghost use Rattle.tt_search.specs.Searched.{rank_of, search_end, way_of, turns_made, searched, repaired};
 ghost use Rattle.tt_search.specs.Drawing.{AreCandidates};
 ghost use Rattle.tt_search.specs.MovedNow.{AreMoved};
-ghost use Rattle.tt_search.specs.Numbers.{IsOpenValue, after_move, rank_numbers};
+ghost use Rattle.tt_search.specs.Late.{KeepsOthers};
+ghost use Rattle.tt_search.specs.Numbers.{MayMake, after_move, rank_numbers};
 ghost use Rattle.tt_search.specs.UnderWay.{IsUnderWay};
 
 use crate::drawing::Candidates;
@@ -60,16 +61,20 @@ fn better(best: Best, now: Best) -> Best
     }
 }
 
-/// Forces the class of a move to its value, in the last step.
+/// Forces the class of a move to its value, in the last step. Where it has none, a moment is added in
+/// which nothing changes.
 fn make(state: &mut State, next: Move) -> Result<(), AllocError>
-    requires open { IsOpenValue state.old.problem state.old.present.closures next.class next.value }
+    requires may { MayMake state.old.problem state.old.present next }
     requires step { 0 < length (earlier state.old) }
     ensures desk { OnOk result (desk_of state.new ≡ moved_to (desk_of state.old) (after_move state.old.problem state.old.present next)) }
     ensures trail { OnOk result (trail state.new ≡ trail state.old ++ state.new.present ∷ []) }
-    ensures taken { OnOk result (state.new.taken ≡ conflicts_of state.old.problem state.old.present next.class next.value) }
+    ensures others { OnOk result (KeepsOthers state.old.present state.new.present (next.class ∷ state.new.taken)) }
     ensures step { IsWithinStep (with_taken state.old []) (with_taken state.new []) }
 {
-    state.force_step(next.class, next.value)
+    match next.value {
+        Some(value) => state.force_step(next.class, value),
+        None => state.stay_step(),
+    }
 }
 
 /// Makes turns in the last step, until so many are made or there is no candidate. The watcher is told
@@ -153,10 +158,11 @@ fn seek<W: Watcher>(
 /// Makes turns from the present snapshot until so many are made or there is no candidate, and ends
 /// at the first snapshot on the way that is least by unplaced classes, hard conflicts and total, all
 /// as one step. In a turn a random word draws one of the unplaced classes that have a value which
-/// isn't blocked, and the class is forced to its best: the least by the weight of the classes it
-/// pushes out and their counters, the total with it, and the place in its domain. The answer is the
-/// number of turns. Where memory is wanting, only the conflict set found last may differ. The watcher
-/// is told of each turn.
+/// isn't blocked, and the class is forced to its best: among those that push out no locked class, the
+/// least by the weight of the classes it pushes out and their counters, the total with it, and the
+/// place in its domain. Where it has none, the turn changes nothing. So each locked class stays where it
+/// is. The answer is the number of turns. Where memory is wanting, only the conflict set found last may
+/// differ. The watcher is told of each turn.
 #[tactic(auto, using(crate::proofs::FirstLemmas::ends_at_first))]
 pub fn search<W: Watcher>(
     alloc: Global,
@@ -168,8 +174,10 @@ pub fn search<W: Watcher>(
     ensures desk { OnOk result (desk_of state.new ≡ stepped (desk_of state.old) state.new.present) }
     ensures end { IfOk result (λ made. searched state.old.problem turns seed state.old.present ≡ (state.new.present, made)) }
     ensures first { OnOk result ((place : ℕ) × IsFirstLeast (rank_of state.old.problem None) (way_of state.old.problem None turns seed state.old.present) place state.new.present) }
+    ensures locked { OnOk result ((class : ℕ) → StaysLocked state.old.present state.new.present class) }
     ensures err { OnErr result (with_taken state.new [] ≡ with_taken state.old []) }
 {
+    state.soundness();
     seek(alloc, state, None, turns, seed, watcher)
 }
 
@@ -191,7 +199,9 @@ pub fn repair<W: Watcher>(
     ensures desk { OnOk result (desk_of state.new ≡ stepped (desk_of state.old) state.new.present) }
     ensures end { IfOk result (λ made. repaired state.old.problem published.now turns seed state.old.present ≡ (state.new.present, made)) }
     ensures first { OnOk result ((place : ℕ) × IsFirstLeast (rank_of state.old.problem (Some published.now)) (way_of state.old.problem (Some published.now) turns seed state.old.present) place state.new.present) }
+    ensures locked { OnOk result ((class : ℕ) → StaysLocked state.old.present state.new.present class) }
     ensures err { OnErr result (with_taken state.new [] ≡ with_taken state.old []) }
 {
+    state.soundness();
     seek(alloc, state, Some(published), turns, seed, watcher)
 }

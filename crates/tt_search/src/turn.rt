@@ -1,26 +1,28 @@
 ghost use Rattle.std.specs.Prelude.{◌≡◌, ◌+◌, ◌*◌, ◌/◌, ◌≤◌, ◌<◌, ◌^◌, ◌∷◌, [], false, None, Some, IfNone, IfSome, IsTrue, length, if◌then◌else◌};
 ghost use Rattle.tt_state.specs.History.{with_taken};
+ghost use Rattle.std.specs.List.{filter};
 ghost use Rattle.std.specs.Option.{option_copied, option_map, ForSome};
 ghost use Rattle.tt_base.specs.Lists.{comes_before, least_after};
 ghost use Rattle.tt_solution.specs.Timetable.{IsTimetableOf};
-ghost use Rattle.tt_state.specs.Values.{conflicts_of, conflicts_without, total_with};
-ghost use Rattle.tt_search.specs.Turns.{toll_of, weight_of, chosen_value, turn_of, price_of};
+ghost use Rattle.tt_state.specs.Values.{blocked_of, conflicts_of, conflicts_without, total_with};
+ghost use Rattle.tt_state.specs.Weights.{weight_of};
+ghost use Rattle.tt_search.specs.Turns.{chosen_value, is_available, price_of, turn_of};
 ghost use Rattle.tt_search.specs.Drawing.{AreCandidates};
 ghost use Rattle.tt_plan.specs.Domain.{IsOfDomain};
-ghost use Rattle.tt_search.specs.Numbers.{IsOpenValue, IsPriced, after_move, offered, price_numbers};
+ghost use Rattle.tt_search.specs.Numbers.{IsAvailable, IsOffer, IsPriced, MayMake, after_move, offered, price_numbers};
 
 use crate::drawing::{Candidates, is_open};
 use crate::price::{Price, is_stray};
-use tt_bits::{Key, Value};
+use tt_bits::Value;
 use tt_plan::{domain_size, value_at};
 use tt_solution::Published;
 use tt_state::State;
 
-/// A class and the value that a turn forces it to.
+/// The class of a turn, and the value that it is forced to, if it has an available one.
 #[derive(Clone, Copy, Debug, PartialEq, Eq)]
 pub(crate) struct Move {
     pub class: u32,
-    pub value: Value,
+    pub value: Option<Value>,
 }
 
 /// A value with its price.
@@ -30,42 +32,12 @@ pub(crate) struct Offer {
     pub value: Value,
 }
 
-/// 1, and how often the class at the value has pushed out the other from the value that it has.
-fn toll(state: &State, class: u32, value: Value, other: u32) -> u128
-    ensures toll { result ≡ toll_of state.now.present class value other }
-    ensures small { result ≤ 2 ^ 64 }
-{
-    let Some(other_value) = state.score().value(other) else {
-        return 1;
-    };
-    let key = Key {
-        class,
-        value,
-        other,
-        other_value,
-    };
-    1 + u128::from(state.statistics().count(key))
-}
-
-/// The tolls of the whole conflict set, which was found last.
-#[tactic(auto, unfolding(crate::specs::Turns::weight_of))]
-fn weight_of(state: &State, class: u32, value: Value) -> u128
-    requires { state.now.taken ≡ conflicts_of state.now.problem state.now.present class value }
-    ensures { result ≡ weight_of state.now.problem state.now.present class value }
-{
-    state.problem().validity();
-    let mut weight = 0;
-    for other in state.taken() {
-        weight += toll(state, class, value, *other);
-    }
-    weight
-}
-
 /// Finds the conflict set of a class at a value that isn't blocked, unless it has more classes than a
 /// weight, and so weighs more. Whether it was found.
-#[tactic(auto, unfolding(crate::specs::Turns::weight_of), using(crate::proofs::ChoiceLemmas::few_weigh))]
+#[tactic(auto, unfolding(tt_state::specs::Weights::weight_of), using(crate::proofs::ChoiceLemmas::few_weigh))]
 fn find_lighter(state: &mut State, class: u32, value: Value, weight: u128) -> bool
-    requires { IsOpenValue state.old.problem state.old.present.closures class value }
+    requires value { IsOfDomain state.old.problem class value }
+    requires open { blocked_of state.old.problem state.old.present.closures class value ≡ None }
     ensures found { IsTrue result → state.new ≡ with_taken state.old (conflicts_of state.old.problem state.old.present class value) }
     ensures heavier { result ≡ false → weight < weight_of state.old.problem state.old.present class value }
     ensures problem { state.new.problem ≡ state.old.problem }
@@ -108,10 +80,83 @@ fn total_within(
     Some(state.trial(class, value))
 }
 
-/// The best offer once a value that isn't blocked was looked at. `others` are the student conflicts
-/// without the class. The conflict set is given up once it weighs more, and the total is asked for
-/// only where it may tell.
-#[tactic(auto, unfolding(crate::specs::Turns::price_of), using(crate::proofs::ChoiceLemmas::stays, crate::proofs::ChoiceLemmas::takes, crate::proofs::ChoiceLemmas::stays_lighter))]
+/// The offer of a value that isn't blocked, and none where the value is held.
+#[tactic(auto, unfolding(crate::specs::Turns::price_of))]
+fn first_offer(
+    state: &mut State,
+    published: Option<&Published>,
+    class: u32,
+    value: Value,
+) -> Option<Offer>
+    requires belongs { ForSome (option_copied published) (IsTimetableOf state.old.problem) }
+    requires value { IsOfDomain state.old.problem class value }
+    requires open { blocked_of state.old.problem state.old.present.closures class value ≡ None }
+    ensures problem { state.new.problem ≡ state.old.problem }
+    ensures present { state.new.present ≡ state.old.present }
+    ensures entries { state.new.entries ≡ state.old.entries }
+    ensures priced { IsPriced (price_of state.old.problem (option_copied published.entry) state.old.present class) (IsAvailable state.old.problem state.old.present class) result }
+    ensures better { offered result ≡ least_after (price_of state.old.problem (option_copied published.entry) state.old.present class) None (filter (is_available state.old.problem state.old.present class) (value ∷ [])) }
+{
+    state.find_conflicts(class, value);
+    if state.first_locked().is_some() {
+        return None;
+    }
+    let strays = is_stray(state.problem(), published, class, value);
+    let weight = state.weight(class, value);
+    let total = state.trial(class, value);
+    let price = Price {
+        weight,
+        strays,
+        total,
+    };
+    Some(Offer { price, value })
+}
+
+/// The better one of an offer and that of a value that isn't blocked, which is none where the value is
+/// held. `others` are the student conflicts without the class. The conflict set is given up once it
+/// weighs more, and the total is asked for only where it may tell.
+#[tactic(auto, unfolding(crate::specs::Turns::price_of), using(crate::proofs::ChoiceLemmas::stays))]
+fn better_offer(
+    state: &mut State,
+    published: Option<&Published>,
+    class: u32,
+    value: Value,
+    others: u64,
+    least: Offer,
+) -> Offer
+    requires belongs { ForSome (option_copied published) (IsTimetableOf state.old.problem) }
+    requires value { IsOfDomain state.old.problem class value }
+    requires open { blocked_of state.old.problem state.old.present.closures class value ≡ None }
+    requires others { others ≡ conflicts_without state.old.problem state.old.present class }
+    requires priced { IsOffer (price_of state.old.problem (option_copied published) state.old.present class) (IsAvailable state.old.problem state.old.present class) least }
+    ensures problem { state.new.problem ≡ state.old.problem }
+    ensures present { state.new.present ≡ state.old.present }
+    ensures entries { state.new.entries ≡ state.old.entries }
+    ensures priced { IsOffer (price_of state.old.problem (option_copied published.entry) state.old.present class) (IsAvailable state.old.problem state.old.present class) result }
+    ensures better { Some result.value ≡ least_after (price_of state.old.problem (option_copied published.entry) state.old.present class) (Some least.value) (filter (is_available state.old.problem state.old.present class) (value ∷ [])) }
+{
+    if !find_lighter(state, class, value, least.price.weight) || state.first_locked().is_some() {
+        return least;
+    }
+    let strays = is_stray(state.problem(), published, class, value);
+    let weight = state.weight(class, value);
+    let Some(total) = total_within(state, class, value, others, weight, strays, least.price) else {
+        return least;
+    };
+    let price = Price {
+        weight,
+        strays,
+        total,
+    };
+    if price.is_below(&least.price) {
+        Offer { price, value }
+    } else {
+        least
+    }
+}
+
+/// The best offer once a value was looked at, which is passed over where something stands in its way.
+/// `others` are the student conflicts without the class.
 fn look_at(
     state: &mut State,
     published: Option<&Published>,
@@ -121,52 +166,25 @@ fn look_at(
     best: Option<Offer>,
 ) -> Option<Offer>
     requires belongs { ForSome (option_copied published) (IsTimetableOf state.old.problem) }
-    requires value { IsOpenValue state.old.problem state.old.present.closures class value }
+    requires value { IsOfDomain state.old.problem class value }
     requires others { others ≡ conflicts_without state.old.problem state.old.present class }
-    requires priced { IsPriced (price_of state.old.problem (option_copied published) state.old.present class) (IsOpenValue state.old.problem state.old.present.closures class) best }
+    requires priced { IsPriced (price_of state.old.problem (option_copied published) state.old.present class) (IsAvailable state.old.problem state.old.present class) best }
     ensures problem { state.new.problem ≡ state.old.problem }
     ensures present { state.new.present ≡ state.old.present }
     ensures entries { state.new.entries ≡ state.old.entries }
-    ensures priced { IsPriced (price_of state.old.problem (option_copied published.entry) state.old.present class) (IsOpenValue state.old.problem state.old.present.closures class) result }
-    ensures better { offered result ≡ least_after (price_of state.old.problem (option_copied published.entry) state.old.present class) (offered best) (value ∷ []) }
+    ensures priced { IsPriced (price_of state.old.problem (option_copied published.entry) state.old.present class) (IsAvailable state.old.problem state.old.present class) result }
+    ensures better { offered result ≡ least_after (price_of state.old.problem (option_copied published.entry) state.old.present class) (offered best) (filter (is_available state.old.problem state.old.present class) (value ∷ [])) }
 {
-    let strays = is_stray(state.problem(), published, class, value);
+    if !is_open(state, class, value) {
+        return best;
+    }
     match best {
-        None => {
-            state.find_conflicts(class, value);
-            let weight = weight_of(state, class, value);
-            let total = state.trial(class, value);
-            let price = Price {
-                weight,
-                strays,
-                total,
-            };
-            Some(Offer { price, value })
-        }
-        Some(least) => {
-            if !find_lighter(state, class, value, least.price.weight) {
-                return Some(least);
-            }
-            let weight = weight_of(state, class, value);
-            let Some(total) = total_within(state, class, value, others, weight, strays, least.price)
-            else {
-                return Some(least);
-            };
-            let price = Price {
-                weight,
-                strays,
-                total,
-            };
-            if price.is_below(&least.price) {
-                Some(Offer { price, value })
-            } else {
-                Some(least)
-            }
-        }
+        None => first_offer(state, published, class, value),
+        Some(least) => Some(better_offer(state, published, class, value, others, least)),
     }
 }
 
-/// The value chosen for a class, the first of its open values with the least price.
+/// The value chosen for a class, the first of its available values with the least price.
 #[tactic(auto, unfolding(crate::specs::Turns::chosen_value))]
 fn choice(state: &mut State, published: Option<&Published>, class: u32) -> Option<Value>
     requires belongs { ForSome (option_copied published) (IsTimetableOf state.old.problem) }
@@ -175,20 +193,19 @@ fn choice(state: &mut State, published: Option<&Published>, class: u32) -> Optio
     ensures present { state.new.present ≡ state.old.present }
     ensures entries { state.new.entries ≡ state.old.entries }
     ensures choice { result ≡ chosen_value state.old.problem (option_copied published.entry) state.old.present class }
-    ensures open { IfSome result (IsOpenValue state.old.problem state.old.present.closures class) }
+    ensures available { IfSome result (IsAvailable state.old.problem state.old.present class) }
 {
     let others = state.conflicts_without(class);
     let mut best: Option<Offer> = None;
     for k in 0..domain_size(state.problem(), class) {
         let value = value_at(state.problem(), class, k);
-        if is_open(state, class, value) {
-            best = look_at(state, published, class, value, others, best);
-        }
+        best = look_at(state, published, class, value, others, best);
     }
     best.map(|offer| offer.value)
 }
 
-/// The class and the value of the turn with a random word, and none where there is no candidate.
+/// The class of the turn with a random word and the value that it is forced to, if it has an available
+/// one. None where there is no candidate.
 #[tactic(auto, unfolding(crate::specs::Turns::turn_of))]
 pub(crate) fn next_move(
     state: &mut State,
@@ -202,9 +219,9 @@ pub(crate) fn next_move(
     ensures present { state.new.present ≡ state.old.present }
     ensures entries { state.new.entries ≡ state.old.entries }
     ensures turn { turn_of state.old.problem (option_copied published.entry) word state.old.present ≡ option_map (after_move state.old.problem state.old.present) result }
-    ensures open { IfSome result (λ m. IsOpenValue state.old.problem state.old.present.closures m.class m.value) }
+    ensures may { IfSome result (MayMake state.old.problem state.old.present) }
 {
     let class = candidates.drawn(word)?;
-    let value = choice(state, published, class)?;
+    let value = choice(state, published, class);
     Some(Move { class, value })
 }

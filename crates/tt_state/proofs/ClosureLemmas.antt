@@ -50,6 +50,7 @@ closed_one p s es room t on within time few =
             few = omega (arith, length-append s.closures (c ∷ []));
             each = All-push (IsClosureOf p) s.closures c on.sound.closures.each (record { room = within; time = time });
           };
+          locks = on.sound.locks;
         };
         back = (on.step, (omega (arith, length-append s.closures (c ∷ [])), subst (λ x. LeadBack p x es) (sym back) on.back));
         counted = on.counted;
@@ -95,6 +96,7 @@ lifted_one p s es i c on is open_one =
             few = omega (arith, ap (λ (l : List Closure). length l) now, length-set cs i (marked c true), on.sound.closures.few);
             each = subst (All (IsClosureOf p)) (sym now) (All-set (IsClosureOf p) cs i (marked c true) (record { room = of.room; time = of.time }) on.sound.closures.each);
           };
+          locks = on.sound.locks;
         };
         back = (on.step, (record { within = omega (arith, lt, ap (λ (l : List Closure). length l) now, length-set cs i (marked c true)); lifted = rw now (lifted_there cs i c is) }, subst (λ x. LeadBack p x es) (sym back) on.back));
         counted = on.counted;

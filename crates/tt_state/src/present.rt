@@ -1,8 +1,9 @@
-//! What a state is at present: its score and its statistics, which contracts see as a snapshot.
+//! What a state is at present: its score, its statistics and its locks, which contracts see as a
+//! snapshot.
 
 ghost use Rattle.std.specs.Prelude.{◌≡◌, ◌<◌, None, length};
 ghost use Rattle.tt_score.specs.Fits.{Fits};
-ghost use Rattle.tt_state.specs.Snapshots.{with_value};
+ghost use Rattle.tt_state.specs.Snapshots.{is_locked_in, with_lock, with_value};
 ghost use Rattle.tt_state.specs.History.{undone, with_seat, without_seat};
 ghost use Rattle.tt_state.specs.Kept.{MayLeave, MaySeat, MayUndo, snapshot_of};
 ghost use Rattle.tt_state.specs.Values.{MayHave};
@@ -13,11 +14,12 @@ use tt_journal::Entry;
 use tt_problem::Problem;
 use tt_score::Score;
 
-/// The score of the present plan, lists and closures, and the statistics.
+/// The score of the present plan, lists and closures, the statistics, and which classes are locked.
 #[derive(Drop)]
 pub struct Present {
     pub score: Score,
     pub statistics: Cbs,
+    pub locks: Vec<bool>,
 }
 
 impl Present {
@@ -44,6 +46,25 @@ impl Present {
         if let Some(value) = to {
             self.score.place(problem, class, value);
         }
+    }
+
+    /// Whether a class is locked.
+    pub fn is_locked(&self, class: u32) -> bool
+        ensures { result ≡ is_locked_in (snapshot_of self.now) class }
+    {
+        match self.locks.get(class as usize) {
+            None => false,
+            Some(locked) => *locked,
+        }
+    }
+
+    /// Locks a class, or takes its lock off.
+    pub fn set_lock(&mut self, class: u32, lock: bool)
+        requires { class < length (snapshot_of self.old).locks }
+        ensures score { self.new.score ≡ self.old.score }
+        ensures now { snapshot_of self.new ≡ with_lock (snapshot_of self.old) class lock }
+    {
+        self.locks[class as usize] = lock;
     }
 
     /// Gives a student a class more.
@@ -82,6 +103,8 @@ impl Present {
             Entry::Bumped { key } => self.statistics.drop_one(key),
             Entry::Closed => self.score.open_last(problem),
             Entry::Lifted { at } => self.score.unlift(problem, at),
+            Entry::Locked { class } => self.set_lock(class, false),
+            Entry::Unlocked { class } => self.set_lock(class, true),
         }
     }
 }

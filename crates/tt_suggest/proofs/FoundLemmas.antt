@@ -1,6 +1,6 @@
 -- What is found by one value of a class.
 use Rattle.std.proofs.Common.{◌≡◌, ◌∙◌, ℕ, ◌+◌, ◌<◌, ◌≤◌, Bool, true, false, Option, None, Some, Result, Ok, Err, List, [], ◌∷◌, ◌++◌, length, map, refl, ap, sym, arith}
-use Rattle.std.specs.Prelude.{◌&&◌, not, is_none, nat_le, IsSomeAnd, OnOk}
+use Rattle.std.specs.Prelude.{All, ◌&&◌, not, is_none, nat_le, IsSomeAnd, OnOk}
 use Rattle.std.specs.declared.cmp.Ordering.TheVariants.{Greater}
 use Rattle.std.specs.Cmp.{nat_cmp_is}
 use Rattle.std.specs.List.{list_any}
@@ -11,8 +11,10 @@ use Rattle.tt_bits.specs.declared.times.Value.{Value}
 use Rattle.tt_problem.specs.declared.parts.Parts.{Parts}
 use Rattle.tt_solution.specs.Published.{moved_in}
 use Rattle.tt_solution.specs.Timetable.{Timetable}
-use Rattle.tt_state.specs.Snapshots.{Snapshot, with_value}
-use Rattle.tt_state.specs.Values.{blocked_of, conflicts_of, total_with}
+use Rattle.tt_state.specs.declared.obstacle.Obstacle.{Obstacle}
+use Rattle.tt_state.specs.Snapshots.{Snapshot, is_locked_in, with_value}
+use Rattle.tt_state.specs.Values.{conflicts_of, obstacle_of, total_with}
+use Rattle.tt_state.proofs.ObstacleLemmas.{none_held}
 use Rattle.tt_suggest.specs.declared.branch.Branch.{Branch}
 use Rattle.tt_suggest.specs.declared.suggestion.Rank.{Rank}
 use Rattle.tt_suggest.specs.declared.suggestion.Suggested.{Suggested}
@@ -100,22 +102,35 @@ leaf_above p published s b v now some alone none few above =
     let rank : Rank = record { total = total_with p s b.class v; moved = moved_in p published (with_value s b.class (Some v)).plan } in
     leaf_found p published s b v rank now now some alone none refl refl few (found_stays now.best (leaf_of b v rank) above)
 
-third : (a b c d : Bool) → (a && b && (c && d)) ≡ true → c ≡ true
-third true true true d is = refl
-third true true false d is = absurd (cc)
-third true false c d is = absurd (cc)
-third false b c d is = absurd (cc)
+first_and_third : (a b c d : Bool) → (a && b && (c && d)) ≡ true → (a ≡ true) × (c ≡ true)
+first_and_third true true true d is = (refl, refl)
+first_and_third true true false d is = absurd (cc)
+first_and_third true false c d is = absurd (cc)
+first_and_third false b c d is = absurd (cc)
 
--- no more classes wait at a child than may be placed
-pub child_spare : (p : Parts) (s : Snapshot) (b : Branch) (v : Value) → gives p s b v ≡ true → length b.others.items + length (conflicts_of p s b.class v) ≤ b.spare
+-- what is known of a value that gives a child
+gives_both : (p : Parts) (s : Snapshot) (b : Branch) (v : Value) → gives p s b v ≡ true
+    → (is_none (obstacle_of p s b.class v) ≡ true) × (nat_le (length b.others.items + length (conflicts_of p s b.class v)) b.spare ≡ true)
 unfolding gives_child
-child_spare p s b v some =
-    leb-true _ _ (third
-    (is_none (blocked_of p s.closures b.class v))
+gives_both p s b v some =
+    first_and_third
+    (is_none (obstacle_of p s b.class v))
     (not (stays_at_root s b.path.items b.class v))
     (nat_le (length b.others.items + length (conflicts_of p s b.class v)) b.spare)
     (not (list_any (is_on b.path.items) (conflicts_of p s b.class v)))
-    some)
+    some
+
+-- no more classes wait at a child than may be placed
+pub child_spare : (p : Parts) (s : Snapshot) (b : Branch) (v : Value) → gives p s b v ≡ true → length b.others.items + length (conflicts_of p s b.class v) ≤ b.spare
+child_spare p s b v some = leb-true _ _ (gives_both p s b v some).1
+
+-- and none of the classes that are pushed out is locked
+pub child_free : (p : Parts) (s : Snapshot) (b : Branch) (v : Value) → gives p s b v ≡ true → All (λ other. is_locked_in s other ≡ false) (conflicts_of p s b.class v)
+child_free p s b v some = none_held p s b.class v (none_is (obstacle_of p s b.class v) (gives_both p s b v some).0)
+  where
+    none_is : (o : Option Obstacle) → is_none o ≡ true → o ≡ None
+    none_is None is = refl
+    none_is (Some obstacle) is = absurd (cc)
 
 -- what follows where an answer is Ok
 pub on_ok : {A B X E : Type 0} (r : Result X E) → (A → B) → OnOk r A → OnOk r B

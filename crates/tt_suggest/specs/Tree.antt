@@ -1,11 +1,11 @@
 -- Theorem. The tree of placements: a class gets a value, then a class that it pushed out gets one, and so on.
-use Rattle.std.specs.Prelude.{ℕ, zero, suc, ◌+◌, nat_le, Bool, false, not, ◌&&◌, ◌==◌, List, [], ◌∷◌, ◌++◌, Option, Some, None, is_none, length, map, fold}
+use Rattle.std.specs.Prelude.{ℕ, zero, suc, ◌+◌, nat_le, Bool, not, ◌&&◌, ◌==◌, List, [], ◌∷◌, ◌++◌, Option, Some, None, is_none, length, map, fold}
 use Rattle.std.specs.List.{filter, flat_map, list_any, sum_by}
 use Rattle.tt_bits.specs.declared.times.Value.{Value}
 use Rattle.tt_problem.specs.declared.parts.Parts.{Parts}
 use Rattle.tt_plan.specs.Domain.{domain_of}
 use Rattle.tt_state.specs.Snapshots.{Snapshot, value_in, with_value}
-use Rattle.tt_state.specs.Values.{blocked_of, conflicts_of}
+use Rattle.tt_state.specs.Values.{conflicts_of, is_value, obstacle_of}
 use Rattle.tt_suggest.specs.declared.suggestion.Move.{Move}
 
 -- a node: the snapshot, the placements that led to it, and the classes that wait for a value
@@ -26,11 +26,6 @@ emptied s classes = fold (λ now class. with_value now class None) s classes
 abbrev pub placed_in : Parts → Snapshot → (class : ℕ) → Value → Snapshot
 placed_in p s class v = with_value (emptied s (conflicts_of p s class v)) class (Some v)
 
--- the value is the one that a class has
-abbrev pub is_value : Option Value → Value → Bool
-is_value None v = false
-is_value (Some now) v = (now.time == v.time) && (now.room == v.room)
-
 -- the class was placed on the way
 abbrev pub is_on : List Move → (class : ℕ) → Bool
 is_on path class = list_any (λ m. m.class == class) path
@@ -43,11 +38,11 @@ stays_at_root s path class v = length path == 0 && is_value (value_in s class) v
 abbrev pub may_follow : (spare : ℕ) → List Move → (others conflicts : List ℕ) → Bool
 may_follow spare path others conflicts = nat_le (length others + length conflicts) spare && not (list_any (is_on path) conflicts)
 
--- A class at a value gives a child of a node, where `spare` placements may follow it: the value isn't blocked; at the root it isn't
+-- A class at a value gives a child of a node, where `spare` placements may follow it: nothing stands in its way; at the root it isn't
 -- the one that the class has; no more classes wait then than may be placed; and no class is pushed out that was placed on the way.
 unfoldable pub gives_child : Parts → (spare : ℕ) → Node → (class : ℕ) → (others : List ℕ) → Value → Bool
 gives_child p spare node class others v =
-    is_none (blocked_of p node.snapshot.closures class v)
+    is_none (obstacle_of p node.snapshot class v)
     && not (stays_at_root node.snapshot node.path class v)
     && may_follow spare node.path others (conflicts_of p node.snapshot class v)
 

@@ -2,8 +2,8 @@ ghost use Rattle.std.specs.Prelude.{◌≡◌, ◌+◌, ◌==◌, ◌∷◌, ◌
 ghost use Rattle.std.specs.List.{list_any};
 ghost use Rattle.tt_plan.specs.Domain.{IsOfDomain};
 ghost use Rattle.tt_state.specs.History.{with_taken};
-ghost use Rattle.tt_state.specs.Values.{blocked_of, conflicts_of};
-ghost use Rattle.tt_suggest.specs.Tree.{gives_child, is_on, is_value, may_follow, stays_at_root};
+ghost use Rattle.tt_state.specs.Values.{blocked_of, conflicts_of, is_value};
+ghost use Rattle.tt_suggest.specs.Tree.{gives_child, is_on, may_follow, stays_at_root};
 ghost use Rattle.tt_suggest.specs.Walks.{node_of};
 
 use crate::suggestion::Move;
@@ -94,7 +94,7 @@ impl Branch {
     }
 
     /// Whether the class at a value gives a child. Where it does, its conflict set was found last.
-    #[tactic(auto, unfolding(crate::specs::Tree::gives_child))]
+    #[tactic(auto, unfolding(crate::specs::Tree::gives_child), using(tt_state::proofs::ObstacleLemmas::blocked_not_clear, crate::proofs::FollowLemmas::barren, crate::proofs::FollowLemmas::gives_unless_held))]
     pub(crate) fn gives_child(&self, state: &mut State, value: Value) -> bool
         requires { IsOfDomain state.old.problem self.now.class value }
         ensures gives { result ≡ gives_child state.old.problem self.now.spare (node_of state.old.present self.now) self.now.class self.now.others.items value }
@@ -107,7 +107,10 @@ impl Branch {
         if self.stays_at_root(state, value) {
             return false;
         }
-        self.may_follow(state, value)
+        if !self.may_follow(state, value) {
+            return false;
+        }
+        state.first_locked().is_none()
     }
 
     /// The placements that led here, with that of the class at a value.

@@ -1,10 +1,10 @@
-ghost use Rattle.std.specs.Prelude.{◌≡◌, ◌+◌, ◌<◌, ◌≤◌, All, IfOk, OnOk, None, length};
+ghost use Rattle.std.specs.Prelude.{◌≡◌, ◌+◌, ◌<◌, ◌≤◌, All, IfOk, OnOk, None, false, length};
 ghost use Rattle.std.specs.Option.{option_copied, ForSome};
 ghost use Rattle.tt_plan.specs.Domain.{IsOfDomain};
 ghost use Rattle.tt_solution.specs.Published.{moved_in};
 ghost use Rattle.tt_solution.specs.Timetable.{IsTimetableOf};
 ghost use Rattle.tt_state.specs.History.{earlier};
-ghost use Rattle.tt_state.specs.Snapshots.{with_value};
+ghost use Rattle.tt_state.specs.Snapshots.{is_locked_in, with_value};
 ghost use Rattle.tt_state.specs.Values.{MayHave, conflicts_of};
 ghost use Rattle.tt_suggest.specs.Tree.{child_by, emptied, placed_in};
 ghost use Rattle.tt_suggest.specs.Walks.{node_of, IsBranchOf, HasGoneOn};
@@ -16,8 +16,8 @@ use tt_bits::Value;
 use tt_solution::Published;
 use tt_state::State;
 
-/// Gives a class a value or none, in the last step. The answer is how many published classes are
-/// moved then.
+/// Gives a class a value, or none where it isn't locked, in the last step. The answer is how many
+/// published classes are moved then.
 fn place(
     state: &mut State,
     published: Option<&Published>,
@@ -27,6 +27,7 @@ fn place(
 ) -> Result<u32, AllocError>
     requires belongs { ForSome (option_copied published) (IsTimetableOf state.old.problem) }
     requires may { MayHave state.old.problem class value }
+    requires free { value ≡ None → is_locked_in state.old.present class ≡ false }
     requires moved { moved ≡ moved_in state.old.problem (option_copied published) state.old.present.plan }
     requires step { 0 < length (earlier state.old) }
     ensures moved { IfOk result (λ moved. moved ≡ moved_in state.old.problem (option_copied published.entry) state.new.present.plan) }
@@ -38,8 +39,8 @@ fn place(
     Ok(moved)
 }
 
-/// Takes their values from some classes, in the last step. The answer is how many published classes
-/// are moved then.
+/// Takes their values from some classes that aren't locked, in the last step. The answer is how many
+/// published classes are moved then.
 fn empty(
     state: &mut State,
     published: Option<&Published>,
@@ -48,6 +49,7 @@ fn empty(
 ) -> Result<u32, AllocError>
     requires belongs { ForSome (option_copied published) (IsTimetableOf state.old.problem) }
     requires classes { All (λ class. class < length state.old.problem.classes) classes.now }
+    requires free { All (λ class. is_locked_in state.old.present class ≡ false) classes.now }
     requires moved { moved ≡ moved_in state.old.problem (option_copied published) state.old.present.plan }
     requires step { 0 < length (earlier state.old) }
     ensures moved { IfOk result (λ moved. moved ≡ moved_in state.old.problem (option_copied published.entry) state.new.present.plan) }
@@ -61,7 +63,7 @@ fn empty(
     Ok(moved)
 }
 
-/// Takes some classes out and gives another a value, in the last step. The answer is how many
+/// Takes some classes out, none of which is locked, and gives another a value, in the last step. The answer is how many
 /// published classes are moved then.
 fn exchange(
     state: &mut State,
@@ -75,6 +77,7 @@ fn exchange(
     requires value { IsOfDomain state.old.problem class value }
     requires conflicts { conflicts.now ≡ conflicts_of state.old.problem state.old.present class value }
     requires classes { All (λ class. class < length state.old.problem.classes) conflicts.now }
+    requires free { All (λ class. is_locked_in state.old.present class ≡ false) conflicts.now }
     requires moved { moved ≡ moved_in state.old.problem (option_copied published) state.old.present.plan }
     requires step { 0 < length (earlier state.old) }
     ensures moved { IfOk result (λ moved. moved ≡ moved_in state.old.problem (option_copied published.entry) state.new.present.plan) }
@@ -97,6 +100,7 @@ pub(crate) fn go_on(
     requires value { IsOfDomain state.old.problem branch.now.class value }
     requires branch { IsBranchOf state.old.problem (option_copied published) state.old.present branch.now }
     requires taken { state.old.taken ≡ conflicts_of state.old.problem state.old.present branch.now.class value }
+    requires free { All (λ class. is_locked_in state.old.present class ≡ false) state.old.taken }
     requires some { 0 < length branch.now.others.items + length state.old.taken }
     requires few { length branch.now.others.items + length state.old.taken ≤ branch.now.spare }
     requires step { 0 < length (earlier state.old) }

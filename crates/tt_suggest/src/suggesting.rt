@@ -251,7 +251,8 @@ fn suggest_step(
 /// The best way to place or move a class by at most `depth` placements, 1 to 3, and how many values
 /// were tried to find it. A class that gets a value pushes out its conflict set, and each class
 /// that was pushed out gets a value in turn; no class that was placed on the way is pushed out again.
-/// The first value is none that is blocked, nor the one that the class has. The best is the first
+/// A value is none that is blocked, nor one that pushes out a locked class, and the first isn't the one
+/// that the class has. The best is the first
 /// that has the least total, and then the fewest moved classes. `SuggestEnd::TooMany` where there
 /// are more than 1,000,000 values to try. With any answer the snapshot and the history are as before;
 /// the conflict set found last may differ.

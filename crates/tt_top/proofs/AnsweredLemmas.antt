@@ -7,7 +7,7 @@ use Rattle.std.proofs.lemmas.List.Folds.{concat-append, list_any-append}
 use Rattle.std.proofs.Math.Seq.{take-append_seam}
 use Rattle.tt_io.specs.Causes.{Writes}
 use Rattle.tt_io.proofs.WrittenLemmas.{Writes-append, nothing_written}
-use Rattle.tt_script.specs.declared.command.Command.TheVariants.{Assign, Unassign, Force, Section, Drop, Enrol, EnrolAll, Search, Repair, Improve, Recall, Close, Reopen, Undo, Publish, Totals, Explain, Why, Stats, Suggest, Quit}
+use Rattle.tt_script.specs.declared.command.Command.TheVariants.{Assign, Unassign, Force, Section, Drop, Enrol, EnrolAll, Search, Repair, Improve, Recall, Close, Reopen, Lock, LockAll, Unlock, UnlockAll, Undo, Publish, Draft, Totals, Violations, Costs, Explain, Why, Values, Meets, Student, Stats, Suggest, Quit}
 use Rattle.tt_script.specs.declared.script.Line.{Line}
 use Rattle.tt_script.specs.declared.script.Line.TheVariants.{Empty, Bad, Good}
 use Rattle.tt_script.specs.Script.{line_of}
@@ -46,11 +46,21 @@ quit_step d (Good (Improve rounds seed)) = answered_on d (carried_out d (Improve
 quit_step d (Good Recall) = answered_on d (carried_out d Recall)
 quit_step d (Good (Close room days start slots weeks)) = answered_on d (carried_out d (Close room days start slots weeks))
 quit_step d (Good (Reopen room)) = answered_on d (carried_out d (Reopen room))
+quit_step d (Good (Lock class)) = answered_on d (carried_out d (Lock class))
+quit_step d (Good LockAll) = answered_on d (carried_out d LockAll)
+quit_step d (Good (Unlock class)) = answered_on d (carried_out d (Unlock class))
+quit_step d (Good UnlockAll) = answered_on d (carried_out d UnlockAll)
 quit_step d (Good Undo) = answered_on d (carried_out d Undo)
 quit_step d (Good Publish) = answered_on d (carried_out d Publish)
+quit_step d (Good Draft) = answered_on d (carried_out d Draft)
 quit_step d (Good Totals) = answered_on d (carried_out d Totals)
+quit_step d (Good Violations) = answered_on d (carried_out d Violations)
+quit_step d (Good Costs) = answered_on d (carried_out d Costs)
 quit_step d (Good (Explain class)) = answered_on d (carried_out d (Explain class))
 quit_step d (Good (Why class time room)) = answered_on d (carried_out d (Why class time room))
+quit_step d (Good (Values class)) = answered_on d (carried_out d (Values class))
+quit_step d (Good (Meets class)) = answered_on d (carried_out d (Meets class))
+quit_step d (Good (Student student)) = answered_on d (carried_out d (Student student))
 quit_step d (Good (Stats class)) = answered_on d (carried_out d (Stats class))
 quit_step d (Good (Suggest class depth)) = answered_on d (carried_out d (Suggest class depth))
 quit_step d (Good Quit) = refl

@@ -8,6 +8,7 @@ use Rattle.std.proofs.lemmas.List.Concat.{length-flat_map}
 use Rattle.std.proofs.lemmas.List.FromFn.{fill_by_all, length-map-range_with_len}
 use Rattle.std.proofs.lemmas.List.Sums.{sum_by-cons}
 use Rattle.tt_base.specs.Among.{pairs_among}
+use Rattle.tt_bits.specs.declared.times.Closure.{Closure}
 use Rattle.tt_bits.specs.declared.times.Spot.{Spot}
 use Rattle.tt_bits.specs.declared.times.Value.{Value}
 use Rattle.tt_bits.specs.declared.pairs.PairKind.{PairKind}
@@ -22,11 +23,13 @@ use Rattle.tt_pair.specs.ViolatedPairs.{is_violated, violated_pairs}
 use Rattle.tt_plan.specs.Domain.{spot_at_value, spots_of}
 use Rattle.tt_score.specs.Amounts.{hard_of, hard_sum, held_by, kind_hard, one_if_any, rule_amount, rule_hard}
 use Rattle.tt_score.specs.Placed.{closed_count, over_placed, paid_at}
+use Rattle.tt_score.specs.Totals.{totals_of}
 use Rattle.tt_score.proofs.PlanLemmas.{spot_in}
 use Rattle.tt_verify.specs.declared.violation.Violation.{Violation}
 use Rattle.tt_verify.specs.declared.violation.Violation.TheVariants as what
 use Rattle.tt_solution.specs.Published.{published_plan, published_value}
 use Rattle.tt_solution.specs.Timetable.{Timetable}
+use Rattle.tt_verify.specs.Hard.{AreAsManyAsHard}
 use Rattle.tt_verify.specs.Verified.{totals_in}
 use Rattle.tt_verify.specs.Pairs.{are_related, related_pairs}
 use Rattle.tt_verify.specs.Violations.{all_rule_faults, amount_faults, clashes_of, closed_fault, closed_faults, hard_violations, kind_faults, pair_faults, rule_faults, rule_faults_at}
@@ -47,29 +50,29 @@ sum_by-alike : (f g : ℕ → ℕ) (xs : List ℕ) → ((x : ℕ) → f x ≡ g 
 sum_by-alike f g [] alike = refl
 sum_by-alike f g (x ∷ xs) alike = omega (arith, sum_by-cons f x xs, sum_by-cons g x xs, alike x, sum_by-alike f g xs alike)
 
-closed_here : (p : Parts) (class : ℕ) (s : Option Spot) → length (cond (option_map_or (is_closed p []) s false) (what.Closed class ∷ []) []) ≡ option_map_or (λ x. cond (is_closed p [] x) 1 0) s 0
-closed_here p class None = refl
-closed_here p class (Some x) = by (is_closed p [] x)
+closed_here : (p : Parts) (closures : List Closure) (class : ℕ) (s : Option Spot) → length (cond (option_map_or (is_closed p closures) s false) (what.Closed class ∷ []) []) ≡ option_map_or (λ x. cond (is_closed p closures x) 1 0) s 0
+closed_here p closures class None = refl
+closed_here p closures class (Some x) = by (is_closed p closures x)
   where
     by : (b : Bool) → length (cond b (what.Closed class ∷ []) []) ≡ cond b 1 0
     by true = refl
     by false = refl
 
-closed_at : (p : Parts) (plan : List (Option Value)) (class : ℕ) → length (closed_fault p (spots_of p plan) class) ≡ paid_at (closed_count p []) plan class
+closed_at : (p : Parts) (closures : List Closure) (plan : List (Option Value)) (class : ℕ) → length (closed_fault p closures (spots_of p plan) class) ≡ paid_at (closed_count p closures) plan class
 unfolding closed_fault closed_count
-closed_at p plan class =
-    ap (λ s. length (cond (option_map_or (is_closed p []) s false) (what.Closed class ∷ []) [])) (spot_in p plan class) ∙ by (get_or plan class None)
+closed_at p closures plan class =
+    ap (λ s. length (cond (option_map_or (is_closed p closures) s false) (what.Closed class ∷ []) [])) (spot_in p plan class) ∙ by (get_or plan class None)
   where
-    by : (o : Option Value) → length (cond (option_map_or (is_closed p []) (option_and_then (spot_at_value p class) o) false) (what.Closed class ∷ []) []) ≡ option_map_or (closed_count p [] class) o 0
+    by : (o : Option Value) → length (cond (option_map_or (is_closed p closures) (option_and_then (spot_at_value p class) o) false) (what.Closed class ∷ []) []) ≡ option_map_or (closed_count p closures class) o 0
     by None = refl
-    by (Some v) = closed_here p class (spot_at_value p class v)
+    by (Some v) = closed_here p closures class (spot_at_value p class v)
 
-length-closed_faults : (p : Parts) (plan : List (Option Value)) → length plan ≡ length p.classes → length (closed_faults p (spots_of p plan)) ≡ over_placed (closed_count p []) plan
+length-closed_faults : (p : Parts) (closures : List Closure) (plan : List (Option Value)) → length plan ≡ length p.classes → length (closed_faults p closures (spots_of p plan)) ≡ over_placed (closed_count p closures) plan
 unfolding over_placed
-length-closed_faults p plan whole =
-    length-flat_map (closed_fault p (spots_of p plan)) (range_with_len 0 (length p.classes))
-    ∙ sum_by-alike (λ class. length (closed_fault p (spots_of p plan) class)) (paid_at (closed_count p []) plan) (range_with_len 0 (length p.classes)) (closed_at p plan)
-    ∙ ap (λ n. sum_by (paid_at (closed_count p []) plan) (range_with_len 0 n)) (sym whole)
+length-closed_faults p closures plan whole =
+    length-flat_map (closed_fault p closures (spots_of p plan)) (range_with_len 0 (length p.classes))
+    ∙ sum_by-alike (λ class. length (closed_fault p closures (spots_of p plan) class)) (paid_at (closed_count p closures) plan) (range_with_len 0 (length p.classes)) (closed_at p closures plan)
+    ∙ ap (λ n. sum_by (paid_at (closed_count p closures) plan) (range_with_len 0 n)) (sym whole)
 
 length-amount_faults : (place amount : ℕ) → length (amount_faults place amount) ≡ one_if_any amount
 unfolding amount_faults
@@ -125,25 +128,29 @@ length-all_rule_faults p spots =
     ∙ rules_from p spots 0 p.rules (λ i. let e : 0 + i ≡ i = omega arith in rw e refl)
 
 -- the hard violations of a plan are as many as the hard conflicts that the totals count
-pub length-hard_violations : (p : Parts) (plan : List (Option Value)) → length plan ≡ length p.classes
-    → length (hard_violations p (spots_of p plan)) ≡ clash_pairs (spots_of p plan) + over_placed (closed_count p []) plan + hard_sum p (spots_of p plan)
+length-hard_violations : (p : Parts) (closures : List Closure) (plan : List (Option Value)) → length plan ≡ length p.classes
+    → length (hard_violations p closures (spots_of p plan)) ≡ clash_pairs (spots_of p plan) + over_placed (closed_count p closures) plan + hard_sum p (spots_of p plan)
 unfolding hard_violations
-length-hard_violations p plan whole =
+length-hard_violations p closures plan whole =
     let spots = spots_of p plan in
     omega (
       arith,
-      length-append (clashes_of spots ++ closed_faults p spots) (all_rule_faults p spots),
-      length-append (clashes_of spots) (closed_faults p spots),
+      length-append (clashes_of spots ++ closed_faults p closures spots) (all_rule_faults p spots),
+      length-append (clashes_of spots) (closed_faults p closures spots),
       length-clashes_of spots,
-      length-closed_faults p plan whole,
+      length-closed_faults p closures plan whole,
       length-all_rule_faults p spots,
     )
 
+pub as_many_as_hard : (p : Parts) (closures : List Closure) (spots : List (Option Spot)) → AreAsManyAsHard p closures spots
+as_many_as_hard p closures spots plan lists whole at =
+    ap (λ (s : List (Option Spot)). length (hard_violations p closures s)) at ∙ length-hard_violations p closures plan whole
+
 -- what is found after the listing's own faults is what the totals count as hard
-pub hard_found : (p : Parts) (t : Timetable) (plan : List (Option Value)) (spots : List (Option Spot)) (before after : List Violation) → plan ≡ published_plan p t → spots ≡ spots_of p plan
-    → after ≡ before ++ hard_violations p spots → length after - length before ≡ (totals_in p t).hard
-hard_found p t plan spots before after planned at grown =
+pub hard_found : (p : Parts) (t : Timetable) (plan : List (Option Value)) (closures : List Closure) (spots : List (Option Spot)) (before after : List Violation) → plan ≡ published_plan p t → closures ≡ [] → spots ≡ spots_of p plan
+    → after ≡ before ++ hard_violations p closures spots → AreAsManyAsHard p closures spots → length after - length before ≡ (totals_in p t).hard
+hard_found p t plan closures spots before after planned none at grown hard =
     let whole : length (published_plan p t) ≡ length p.classes = length-map-range_with_len (published_value p t) 0 (length p.classes) in
-    let here : spots ≡ spots_of p (published_plan p t) = at ∙ ap (spots_of p) planned in
-    let long = ap length (grown ∙ ap (λ s. before ++ hard_violations p s) here) in
-    omega (arith, long, length-append before (hard_violations p (spots_of p (published_plan p t))), length-hard_violations p (published_plan p t) whole)
+    let counted : length (hard_violations p closures spots) ≡ (totals_in p t).hard =
+    hard (published_plan p t) t.lists whole (at ∙ ap (spots_of p) planned) ∙ ap (λ (cs : List Closure). (totals_of p cs (published_plan p t) t.lists).hard) none in
+    omega (arith, ap length grown, length-append before (hard_violations p closures spots), counted)

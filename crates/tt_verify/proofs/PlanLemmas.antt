@@ -1,6 +1,6 @@
 -- The plan that is published, its spots, and the lists of the students.
-use Rattle.std.proofs.Common.{◌≡◌, ◌∙◌, ◌⊎◌, inl, inr, ℕ, zero, suc, ◌+◌, ◌<◌, ◌≤◌, Bool, true, false, Option, Some, None, List, [], ◌∷◌, ◌++◌, length, get_or, drop, refl, sym, ap, arith, append_assoc, map}
-use Rattle.std.specs.Prelude.{◌||◌, All, IfSome, option_and_then}
+use Rattle.std.proofs.Common.{◌≡◌, ◌∙◌, ◌⊎◌, inl, inr, ℕ, zero, suc, ◌+◌, ◌<◌, ◌≤◌, Option, Some, None, List, [], ◌∷◌, ◌++◌, length, get_or, drop, refl, sym, ap, arith, append_assoc, map}
+use Rattle.std.specs.Prelude.{All, IfSome, option_and_then}
 use Rattle.std.specs.List.{AllByRecursion}
 use Rattle.std.proofs.lemmas.List.Elements.{All-from_recursion}
 use Rattle.std.proofs.lemmas.Bool.{cases_lt}
@@ -19,11 +19,6 @@ use Rattle.tt_score.specs.Plans.{IsPlanOf}
 use Rattle.tt_score.proofs.PlanLemmas.{spot_in, length-spots_from}
 use Rattle.tt_solution.specs.Published.{published_plan, published_value}
 use Rattle.tt_solution.specs.Timetable.{Timetable}
-
--- a room that the file doesn't close is open, as there are no closures
-pub by_file : (a b : Bool) → a ≡ b → a ≡ (b || false)
-by_file a true is = is
-by_file a false is = is
 
 -- the spots of the classes before place i are these, and fit the problem
 pub record AreSpotsTo (p : Parts) (plan : List (Option Value)) (i : ℕ) (done : List (Option Spot)) : Type 0 where

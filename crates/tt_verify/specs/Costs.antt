@@ -1,4 +1,4 @@
--- Proof. Costs of rules as the code has them.
+-- Contract. Costs of rules by their places.
 use Rattle.std.specs.Prelude.{ℕ, List, Option, slice_get}
 use Rattle.std.specs.Option.{option_map_or}
 use Rattle.tt_bits.specs.declared.times.Spot.{Spot}

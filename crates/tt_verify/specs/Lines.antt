@@ -39,6 +39,10 @@ sum_line s hard =
     ++ field (codes " hard ") hard
     ++ codes "\n"
 
+-- the line on how many violations there are
+abbrev pub number_line : ℕ → List ℕ
+number_line count = field (codes "violations ") count ++ codes "\n"
+
 -- the last line, by the number of violations
 unfoldable pub verdict_line : ℕ → List ℕ
-verdict_line count = if count == 0 then codes "valid\n" else field (codes "violations ") count ++ codes "\n"
+verdict_line count = if count == 0 then codes "valid\n" else number_line count

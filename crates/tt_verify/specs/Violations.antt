@@ -3,6 +3,7 @@ use Rattle.std.specs.Prelude.{ℕ, ◌==◌, false, not, is_none, nat_lt, List, 
 use Rattle.std.specs.List.{flat_map, range_with_len}
 use Rattle.std.specs.Option.{option_map_or}
 use Rattle.tt_base.specs.Lists.{is_listed}
+use Rattle.tt_bits.specs.declared.times.Closure.{Closure}
 use Rattle.tt_bits.specs.declared.times.Spot.{Spot}
 use Rattle.tt_bits.specs.declared.times.Value.{Value}
 use Rattle.tt_bits.specs.Spots.{spot_at}
@@ -71,13 +72,13 @@ limit_faults p lists = flat_map (limit_fault_at p lists) (range_with_len 0 (leng
 abbrev pub clashes_of : List (Option Spot) → List Violation
 clashes_of spots = map (λ c. what.Clash c.0 c.1) (related_pairs (are_related clash spots) (range_with_len 0 (length spots)))
 
--- a placed class that overlaps an unavailable time of its room
-unfoldable pub closed_fault : Parts → List (Option Spot) → (class : ℕ) → List Violation
-closed_fault p spots class = if option_map_or (is_closed p []) (spot_at spots class) false then what.Closed class ∷ [] else []
+-- a placed class whose room is closed at an overlapping time, by the file or by a closure that isn't lifted
+unfoldable pub closed_fault : Parts → List Closure → List (Option Spot) → (class : ℕ) → List Violation
+closed_fault p closures spots class = if option_map_or (is_closed p closures) (spot_at spots class) false then what.Closed class ∷ [] else []
 
 -- those among all classes
-abbrev pub closed_faults : Parts → List (Option Spot) → List Violation
-closed_faults p spots = flat_map (closed_fault p spots) (range_with_len 0 (length p.classes))
+abbrev pub closed_faults : Parts → List Closure → List (Option Spot) → List Violation
+closed_faults p closures spots = flat_map (closed_fault p closures spots) (range_with_len 0 (length p.classes))
 
 -- ---- required rules
 
@@ -109,17 +110,17 @@ all_rule_faults p spots = flat_map (rule_faults_at p spots) (range_with_len 0 (l
 
 -- ---- all
 
--- what is counted as hard: clashes, closed rooms and required rules
-unfoldable pub hard_violations : Parts → List (Option Spot) → List Violation
-hard_violations p spots = clashes_of spots ++ closed_faults p spots ++ all_rule_faults p spots
+-- what is counted as hard, with these closures: clashes, closed rooms and required rules
+unfoldable pub hard_violations : Parts → List Closure → List (Option Spot) → List Violation
+hard_violations p closures spots = clashes_of spots ++ closed_faults p closures spots ++ all_rule_faults p spots
 
 -- what is wrong with the listed classes and with the lists of the students
 unfoldable pub listing_faults : Parts → Timetable → List (Option Value) → List Violation
 listing_faults p t plan = class_faults p t plan ++ list_faults p t.lists ++ limit_faults p t.lists
 
--- both, where the classes have the values of a plan
+-- both, where the classes have the values of a plan; there are no closures beside the file's
 unfoldable pub violations_with : Parts → Timetable → List (Option Value) → List Violation
-violations_with p t plan = listing_faults p t plan ++ hard_violations p (spots_of p plan)
+violations_with p t plan = listing_faults p t plan ++ hard_violations p [] (spots_of p plan)
 
 -- all that is wrong with a timetable
 abbrev pub violations_of : Parts → Timetable → List Violation

@@ -1,6 +1,7 @@
 ghost use Rattle.std.specs.Prelude.{◌≡◌, ◌++◌, IfOk, OnOk, length, vec_len};
 ghost use Rattle.tt_score.specs.Members.{AreSpotsOf};
 ghost use Rattle.tt_solution.specs.Timetable.{IsTimetableOf};
+ghost use Rattle.tt_verify.specs.Hard.{AreAsManyAsHard};
 ghost use Rattle.tt_verify.specs.Lines.{lines_of, sum_line, verdict_line};
 ghost use Rattle.tt_verify.specs.Verified.{sums_of, totals_in, verified_text};
 ghost use Rattle.tt_verify.specs.Violations.{hard_violations, listing_faults, violations_of};
@@ -15,6 +16,7 @@ use crate::sums::{Sums, sums_of};
 use crate::violation::Violation;
 use std::alloc::{AllocError, Global};
 use tt_bits::{Spot, Value};
+use tt_clash::Closures;
 use tt_problem::Problem;
 use tt_solution::Published;
 use tt_text::Reply;
@@ -38,21 +40,25 @@ fn add_listing_faults(
     add_limit_faults(problem, &counts, found)
 }
 
-/// Adds what is counted as hard: clashes, closed rooms and required rules.
+/// Adds what is counted as hard, with the closures of a session: clashes, closed rooms and required
+/// rules. There is as much of it as the totals of the classes' plan count, whatever the students'
+/// lists are.
 #[tactic(auto, using(std::proofs::Common::append_assoc), unfolding(crate::specs::Violations::hard_violations))]
-fn add_hard_violations(
+pub fn add_hard_violations(
     alloc: Global,
     problem: &Problem,
+    closures: &Closures,
     spots: &[Option<Spot>],
     found: &mut Vec<Violation>,
 ) -> Result<(), AllocError>
     requires whole { length spots.now ≡ length problem.now.classes }
     requires fit { AreSpotsOf problem.now spots.now }
-    ensures { OnOk result (found.new.items ≡ found.old.items ++ hard_violations problem.now spots.now) }
+    ensures found { OnOk result (found.new.items ≡ found.old.items ++ hard_violations problem.now closures.now spots.now) }
+    ensures hard { OnOk result (AreAsManyAsHard problem.now closures.now spots.now) }
 {
     problem.validity();
     add_clashes(alloc, spots, found)?;
-    add_closed_faults(problem, spots, found)?;
+    add_closed_faults(problem, closures, spots, found)?;
     add_all_rule_faults(alloc, problem, spots, found)
 }
 
@@ -82,7 +88,8 @@ fn findings_on(
     let mut violations = Vec::new(alloc);
     add_listing_faults(alloc, problem, published, &plan, &mut violations)?;
     let before = violations.len();
-    add_hard_violations(alloc, problem, &spots, &mut violations)?;
+    let closures = Closures::new(alloc);
+    add_hard_violations(alloc, problem, &closures, &spots, &mut violations)?;
     let hard = (violations.len() - before) as u64;
     let sums = sums_of(alloc, problem, published, &plan, &spots)?;
     Ok(Findings {

@@ -1,4 +1,4 @@
-ghost use Rattle.std.specs.Prelude.{◌≡◌, ◌++◌, ◌<◌, [], IfSome, OnOk, length};
+ghost use Rattle.std.specs.Prelude.{◌≡◌, ◌++◌, ◌<◌, IfSome, OnOk, length};
 ghost use Rattle.std.specs.List.{list_any};
 ghost use Rattle.tt_bits.specs.Times.{overlaps};
 ghost use Rattle.tt_clash.specs.Blocked.{is_closed};
@@ -10,6 +10,7 @@ ghost use Rattle.tt_verify.specs.Violations.{class_fault, class_faults, closed_f
 use crate::violation::Violation;
 use std::alloc::AllocError;
 use tt_bits::{Spot, Time, Value};
+use tt_clash::Closures;
 use tt_problem::Problem;
 use tt_solution::Published;
 
@@ -93,51 +94,56 @@ fn overlaps_some(times: &[Time], time: Time) -> bool
     times.iter().any(|other| time.overlaps(other))
 }
 
-/// Whether the room of a spot is unavailable at an overlapping time.
-#[tactic(auto, using(crate::proofs::PlanLemmas::by_file), unfolding(tt_clash::specs::Blocked::is_closed))]
-fn is_closed(problem: &Problem, spot: &Spot) -> bool
+/// Whether the room of a spot is closed at an overlapping time, by the file or by a closure.
+#[tactic(auto, unfolding(tt_clash::specs::Blocked::is_closed))]
+fn is_closed(problem: &Problem, closures: &Closures, spot: &Spot) -> bool
     requires { IfSome spot.now.room (λ room. room < length problem.now.rooms) }
-    ensures { result ≡ is_closed problem.now [] spot.now }
+    ensures { result ≡ is_closed problem.now closures.now spot.now }
 {
     match spot.room {
-        Some(room) => overlaps_some(problem.room(room).closed.as_slice(), spot.time),
+        Some(room) => {
+            overlaps_some(problem.room(room).closed.as_slice(), spot.time)
+                || closures.has_closed(room, spot.time)
+        }
         None => false,
     }
 }
 
-/// Adds a class that is placed and whose room is unavailable then.
+/// Adds a class that is placed and whose room is closed then.
 #[tactic(auto, unfolding(crate::specs::Violations::closed_fault))]
 fn add_closed_fault(
     problem: &Problem,
+    closures: &Closures,
     spots: &[Option<Spot>],
     class: u32,
     found: &mut Vec<Violation>,
 ) -> Result<(), AllocError>
     requires class { class < length spots.now }
     requires fit { AreSpotsOf problem.now spots.now }
-    ensures { OnOk result (found.new.items ≡ found.old.items ++ closed_fault problem.now spots.now class) }
+    ensures { OnOk result (found.new.items ≡ found.old.items ++ closed_fault problem.now closures.now spots.now class) }
 {
     if let Some(spot) = &spots[class as usize]
-        && is_closed(problem, spot)
+        && is_closed(problem, closures, spot)
     {
         found.push(Violation::Closed { class })?;
     }
     Ok(())
 }
 
-/// Adds each class that is placed and whose room is unavailable then.
+/// Adds each class that is placed and whose room is closed then.
 #[tactic(auto, using(crate::proofs::WalkLemmas::pieces_more, std::proofs::Common::append_assoc))]
 pub fn add_closed_faults(
     problem: &Problem,
+    closures: &Closures,
     spots: &[Option<Spot>],
     found: &mut Vec<Violation>,
 ) -> Result<(), AllocError>
     requires whole { length spots.now ≡ length problem.now.classes }
     requires fit { AreSpotsOf problem.now spots.now }
-    ensures { OnOk result (found.new.items ≡ found.old.items ++ closed_faults problem.now spots.now) }
+    ensures { OnOk result (found.new.items ≡ found.old.items ++ closed_faults problem.now closures.now spots.now) }
 {
     for class in 0..problem.class_count() {
-        add_closed_fault(problem, spots, class, found)?;
+        add_closed_fault(problem, closures, spots, class, found)?;
     }
     Ok(())
 }

@@ -1,6 +1,5 @@
 ghost use Rattle.std.specs.Prelude.{◌≡◌, ◌++◌, OnOk, codes};
-ghost use Rattle.tt_verify.specs.Lines.{class_text, line_of, lines_of, sum_line, verdict_line};
-ghost use Rattle.tt_text.specs.Fields.{field};
+ghost use Rattle.tt_verify.specs.Lines.{class_text, number_line, line_of, lines_of, sum_line, verdict_line};
 
 use crate::sums::Sums;
 use crate::violation::Violation;
@@ -110,8 +109,8 @@ pub fn add_sum_line(out: &mut Reply, sums: &Sums, hard: u64) -> Result<(), Alloc
 
 /// Appends the line on how many violations there are.
 #[tactic(auto, using(std::proofs::Common::append_assoc))]
-fn add_violations(out: &mut Reply, violations: u64) -> Result<(), AllocError>
-    ensures { OnOk result (out.new ≡ out.old ++ (field (codes "violations ") violations ++ codes "\n")) }
+pub fn add_count(out: &mut Reply, violations: u64) -> Result<(), AllocError>
+    ensures { OnOk result (out.new ≡ out.old ++ number_line violations) }
 {
     out.field("violations ", u128::from(violations))?;
     out.text("\n")
@@ -125,6 +124,6 @@ pub fn add_verdict(out: &mut Reply, violations: u64) -> Result<(), AllocError>
     if violations == 0 {
         out.text("valid\n")
     } else {
-        add_violations(out, violations)
+        add_count(out, violations)
     }
 }

@@ -1,15 +1,16 @@
 use Rattle.std.proofs.Common.{length, ◌≡◌, ◌<◌, ◌≤◌, ◌-◌, ◌+◌, ◌∷◌, ◌++◌, [], Some, None, refl, sym, ap, ◌∙◌, arith}
 use Rattle.std.specs.Option.{option_copied}
 use Rattle.rand_core.specs.Steps.{stream_of, steps_u32}
+use Rattle.rand_core.specs.Stream.{next_u32}
 use Rattle.rand_pcg.specs.Pcg.{pcg32}
 use Rattle.tt_state.specs.History.{IsWithinStep, earlier, trail, with_taken}
 use Rattle.tt_search.specs.Turns.{turn_of}
 use Rattle.tt_draw.specs.Words.{random_words}
 use Rattle.tt_draw.proofs.WordLemmas.{words_from}
-use Rattle.tt_search.specs.Searched.{onward, rank_of, search_end}
+use Rattle.tt_search.specs.Searched.{after_turns, rank_of, search_end}
 use Rattle.tt_search.specs.MovedNow.{AreMoved}
-use Rattle.tt_search.proofs.DrawingLemmas.{candidates_forced}
-use Rattle.tt_search.proofs.MovedLemmas.{moved_is, moved_forced}
+use Rattle.tt_search.proofs.DrawingLemmas.{candidates_changed}
+use Rattle.tt_search.proofs.MovedLemmas.{moved_is, moved_changed}
 use Rattle.tt_state.proofs.StepLemmas.{within_next, within_same, within_still}
 use Rattle.tt_search.proofs.WayLemmas.{made_turn, mark_of_added, no_turn, no_turn_left, start_way, walk_on}
 use Rattle.tt_search.proofs.seeking.walk.Goals as goal
@@ -25,14 +26,14 @@ loop-made-init g c =
       step = within_same (with_taken start []);
       candidates = c.requires.candidates;
       moved = c.requires.moved;
-      way = rw (whole, words) (start_way (rank_of start.problem aim) start.present (trail start) (onward start.problem aim c.args.turns (random_words c.args.seed) start.present) c.moment-best.result c.requires.trail (c.moment-best.ensures.rank aim (moved_is start.problem aim start.present c.args.moved.now c.requires.belongs c.requires.moved)) c.moment-best.ensures.mark);
+      way = rw (whole, words) (start_way (rank_of start.problem aim) start.present (trail start) (after_turns start.problem aim c.args.turns (random_words c.args.seed) start.present) c.moment-best.result c.requires.trail (c.moment-best.ensures.rank aim (moved_is start.problem aim start.present c.args.moved.now c.requires.belongs c.requires.moved)) c.moment-best.ensures.mark);
     }
 
 pub next_move-requires-clause-candidates : goal.next_move-requires-clause-candidates
 next_move-requires-clause-candidates g c = c.loop-made.invariant.candidates
 
-pub make-requires-clause-open : goal.make-requires-clause-open
-make-requires-clause-open g c = rw (c.next_move.ensures.problem, c.next_move.ensures.present) c.in-Some.ensures.open
+pub make-requires-clause-may : goal.make-requires-clause-may
+make-requires-clause-may g c = rw (c.next_move.ensures.problem, c.next_move.ensures.present) c.in-Some.ensures.may
 
 pub make-requires-clause-step : goal.make-requires-clause-step
 make-requires-clause-step g c =
@@ -56,7 +57,7 @@ loop-made-preserved g c =
     let turn : turn_of start.problem aim c.next_u32.result before.present ≡ Some after.present =
     rw (← c.loop-made.invariant.step.problem) (c.in-Some.ensures.turn ∙ ap Some (sym (rw (same_problem, same_present) at present))) in
     let below : c.loop-made.made < c.args.turns = omega arith in
-    let onward_is = made_turn start.problem aim c.args.turns c.loop-made.made (stream_of (steps_u32 pcg32) c.loop-made.words) (stream_of (steps_u32 pcg32) c.next_u32.new.self) c.next_u32.result before.present after.present below c.next_u32.ensures turn in
+    let onward_is = made_turn next_u32 (turn_of start.problem aim) c.args.turns c.loop-made.made (stream_of (steps_u32 pcg32) c.loop-made.words) (stream_of (steps_u32 pcg32) c.next_u32.new.self) c.next_u32.result before.present after.present below c.next_u32.ensures turn in
     let same_trail : trail moved ≡ trail before = rw (same_present, same_entries) refl in
     let trail_is : trail after ≡ trail before ++ after.present ∷ [] = rw (← same_trail) c.in_ok-make.ensures.trail in
     let mark : c.moment.result.mark ≡ length (trail before) = mark_of_added (trail before) (trail after) after.present c.moment.result.mark trail_is c.moment.ensures.mark in
@@ -75,9 +76,8 @@ follow-requires g c =
     let before = c.loop-made.state in
     let after = c.make.new.state in
     let problem : after.problem ≡ before.problem = c.in_ok-make.ensures.step.problem ∙ c.next_move.ensures.problem in
-    let present = rw (c.next_move.ensures.problem, c.next_move.ensures.present) at (ap (λ d. d.present) c.in_ok-make.ensures.desk) in
-    let taken = rw (c.next_move.ensures.problem, c.next_move.ensures.present) at c.in_ok-make.ensures.taken in
-    record { late = rw (problem, present, taken) (candidates_forced before.problem before.present c.in-Some.next.class c.in-Some.next.value c.loop-made.candidates c.loop-made.invariant.candidates) }
+    let others = rw c.next_move.ensures.present at c.in_ok-make.ensures.others in
+    record { late = rw problem (candidates_changed before.problem before.present after.present c.loop-made.candidates _ others c.loop-made.invariant.candidates) }
 
 pub follow-requires-in-loop-made-clause-late : goal.follow-requires-in-loop-made-clause-late
 follow-requires-in-loop-made-clause-late g c =
@@ -85,11 +85,9 @@ follow-requires-in-loop-made-clause-late g c =
     let aim = option_copied c.args.published in
     let before = c.loop-made.state in
     let after = c.make.new.state in
-    let same = c.loop-made.invariant.step.problem in
-    let problem : after.problem ≡ start.problem = c.in_ok-make.ensures.step.problem ∙ c.next_move.ensures.problem ∙ same in
-    let present = rw (c.next_move.ensures.problem, c.next_move.ensures.present, same) at (ap (λ d. d.present) c.in_ok-make.ensures.desk) in
-    let taken = rw (c.next_move.ensures.problem, c.next_move.ensures.present, same) at c.in_ok-make.ensures.taken in
-    rw (problem, present, taken) (moved_forced start.problem aim before.present c.in-Some.next.class c.in-Some.next.value c.loop-made.moved c.loop-made.invariant.moved)
+    let problem : after.problem ≡ start.problem = c.in_ok-make.ensures.step.problem ∙ c.next_move.ensures.problem ∙ c.loop-made.invariant.step.problem in
+    let others = rw c.next_move.ensures.present at c.in_ok-make.ensures.others in
+    rw problem (moved_changed start.problem aim before.present after.present c.loop-made.moved _ others c.loop-made.invariant.moved)
 
 pub returns-in_default-clause-step : goal.returns-in_default-clause-step
 returns-in_default-clause-step g c =
@@ -107,7 +105,7 @@ returns-in_default-clause-way g c =
     let before = c.loop-made.state in
     let moved = c.next_move.new.state in
     let turn : turn_of start.problem aim c.next_u32.result before.present ≡ None = rw (← c.loop-made.invariant.step.problem) c.in_default.ensures.turn in
-    let onward_is = no_turn start.problem aim (c.args.turns - c.loop-made.made) (stream_of (steps_u32 pcg32) c.loop-made.words) (stream_of (steps_u32 pcg32) c.next_u32.new.self) c.next_u32.result before.present c.next_u32.ensures turn in
+    let onward_is = no_turn next_u32 (turn_of start.problem aim) (c.args.turns - c.loop-made.made) (stream_of (steps_u32 pcg32) c.loop-made.words) (stream_of (steps_u32 pcg32) c.next_u32.new.self) c.next_u32.result before.present c.next_u32.ensures turn in
     let same_trail : trail moved ≡ trail before = rw (c.next_move.ensures.present, c.next_move.ensures.entries) refl in
     rw same_trail (rw onward_is at c.loop-made.invariant.way)
 
@@ -116,7 +114,7 @@ returns-clause-way g c =
     let start = c.args.state.now in
     let aim = option_copied c.args.published in
     let all : c.args.turns ≤ c.loop-made.made = omega arith in
-    let onward_is = no_turn_left start.problem aim c.args.turns c.loop-made.made (stream_of (steps_u32 pcg32) c.loop-made.words) c.loop-made.state.present all in
+    let onward_is = no_turn_left next_u32 (turn_of start.problem aim) c.args.turns c.loop-made.made (stream_of (steps_u32 pcg32) c.loop-made.words) c.loop-made.state.present all in
     let way = rw onward_is at c.loop-made.invariant.way in
     let made : c.args.turns ≡ c.loop-made.made = omega arith in
     record { now = way.now; at = way.at; ranked = way.ranked; ends = way.ends; counts = ap (λ n. n + 0) made ∙ way.counts }

@@ -3,7 +3,7 @@ use Rattle.std.specs.Option.{option_copied}
 use Rattle.rand_core.specs.Steps.{stream_of, steps_u32}
 use Rattle.rand_pcg.specs.Pcg.{pcg32}
 use Rattle.tt_state.specs.History.{IsWithinStep, trail, with_taken}
-use Rattle.tt_search.specs.Searched.{onward, turns_made, rank_of, search_end}
+use Rattle.tt_search.specs.Searched.{after_turns, turns_made, rank_of, search_end}
 use Rattle.tt_search.specs.Drawing.{AreCandidates}
 use Rattle.tt_search.specs.MovedNow.{AreMoved}
 use Rattle.tt_search.specs.UnderWay.{IsUnderWay}
@@ -17,5 +17,5 @@ invariant-loop-made g l =
       step : IsWithinStep (with_taken start []) (with_taken l.state []);
       candidates : AreCandidates l.state.problem l.state.present l.candidates [];
       moved : AreMoved start.problem aim l.state.present.plan l.moved [];
-      way : IsUnderWay (rank_of start.problem aim) (trail l.state) (onward start.problem aim (l.turns - l.made) (stream_of (steps_u32 pcg32) l.words) l.state.present) l.best l.made (search_end start.problem aim l.turns l.seed start.present) (turns_made start.problem aim l.turns l.seed start.present);
+      way : IsUnderWay (rank_of start.problem aim) (trail l.state) (after_turns start.problem aim (l.turns - l.made) (stream_of (steps_u32 pcg32) l.words) l.state.present) l.best l.made (search_end start.problem aim l.turns l.seed start.present) (turns_made start.problem aim l.turns l.seed start.present);
     }

@@ -11,5 +11,6 @@ invariant-loop-class l =
     record {
       on : HasGoneOn start l.state;
       moved : l.moved ≡ moved_in start.problem (option_copied l.published) l.state.present.plan;
+      locks : l.state.present.locks ≡ start.present.locks;
       present : l.state.present ≡ emptied start.present (take l.class-index l.classes);
     }

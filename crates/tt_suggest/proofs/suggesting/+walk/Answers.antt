@@ -4,7 +4,7 @@ use Rattle.tt_state.specs.History.{Held}
 use Rattle.tt_state.specs.Values.{conflicts_of}
 use Rattle.tt_suggest.specs.declared.suggestion.SuggestEnd.TheVariants.{TooMany}
 use Rattle.tt_suggest.proofs.BackLemmas.{back_next, back_same}
-use Rattle.tt_suggest.proofs.FoundLemmas.{barren_found, child_found, child_spare, child_too_many, gives, leaf_above, leaf_found, on_ok}
+use Rattle.tt_suggest.proofs.FoundLemmas.{barren_found, child_found, child_free, child_spare, child_too_many, gives, leaf_above, leaf_found, on_ok}
 use Rattle.tt_suggest.proofs.TreeLemmas.{branch_tries, way_end, way_next, way_start, way_too_many}
 use Rattle.tt_suggest.proofs.WaitingLemmas.{both_empty, some_wait}
 use Rattle.tt_suggest.proofs.suggesting.+walk.Goals as goal
@@ -106,3 +106,8 @@ pub descend-go_on-requires-clause-few : goal.descend-go_on-requires-clause-few
 descend-go_on-requires-clause-few t c =
     let start = c.args.state.now in
     omega (arith, ap length c.requires.taken, child_spare start.problem start.present c.args.branch.now c.args.value c.requires.gives)
+
+pub descend-go_on-requires-clause-free : goal.descend-go_on-requires-clause-free
+descend-go_on-requires-clause-free t c =
+    let start = c.args.state.now in
+    rw c.requires.taken (child_free start.problem start.present c.args.branch.now c.args.value c.requires.gives)

@@ -9,7 +9,7 @@ pub returns-in-Some-clause-now : goal.returns-in-Some-clause-now
 returns-in-Some-clause-now c =
     let s = snapshot_of c.args.self.now in
     let class = c.args.class in
-    same_snapshot _ (with_value (snapshot_of c.clear.new.self) class (Some c.in-Some.value)) c.place.ensures.plan c.place.ensures.lists refl c.place.ensures.closures
+    same_snapshot _ (with_value (snapshot_of c.clear.new.self) class (Some c.in-Some.value)) c.place.ensures.plan c.place.ensures.lists refl c.place.ensures.closures refl
     ∙ ap (λ x. with_value x class (Some c.in-Some.value)) c.clear.ensures.now
     ∙ value_twice s class None (Some c.in-Some.value)
     ∙ ap (with_value s class) (sym c.in-Some.is)

@@ -14,7 +14,7 @@ use Rattle.tt_state.proofs.state.State.close_room.Goals as goal
 
 -- what is present after the room was closed
 abbrev after : After-note → Present
-after c = record { score = c.close.new.self; statistics = c.self.inside.present.statistics }
+after c = record { score = c.close.new.self; statistics = c.self.inside.present.statistics; locks = c.self.inside.present.locks }
 
 -- what the closure leads to
 leads : (c : After-note) → LeadsTo c.self.inside.problem (snapshot_of c.self.inside.present) (begun Step c.self.inside.past.list) (snapshot_of (after c)) c.note.new.self.list
@@ -28,7 +28,7 @@ leads c =
     let noted = c.note.ensures.list ∙ ap (λ l. Closed ∷ l) (c.begin.ensures.entries ∙ ap (begun Step) c.reserve.ensures.list) in
     leads_by i.problem s (with_closed s c.args.room c.args.time) (snapshot_of (after c)) es (Closed ∷ es) c.note.new.self.list
     (closed_one i.problem s es c.args.room c.args.time (on_beginning Step i.problem i.present i.past.list c.self.invariant.0 tt) within time few)
-    (same_snapshot (snapshot_of (after c)) (with_closed s c.args.room c.args.time) c.close.ensures.plan c.close.ensures.lists refl c.in_ok-close.ensures.closures) noted
+    (same_snapshot (snapshot_of (after c)) (with_closed s c.args.room c.args.time) c.close.ensures.plan c.close.ensures.lists refl c.in_ok-close.ensures.closures refl) noted
 
 pub invariant_of-self-2 : goal.invariant_of-self-2
 invariant_of-self-2 c = (state_after c.self.inside.problem _ _ _ c.note.new.self.list c.close.ensures.fits (leads c), c.self.invariant.1)

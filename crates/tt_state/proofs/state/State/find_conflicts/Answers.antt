@@ -10,7 +10,7 @@ invariant_of-self c =
     let s = c.self.inside in
     let of = c.self.invariant in
     let e = c.conflicts.ensures in
-    (asked_state s.problem s.present _ s.past.list of.0 e.fits e.plan e.lists refl e.closures, e.classes ∙ of.1)
+    (asked_state s.problem s.present _ s.past.list of.0 e.fits e.plan e.lists refl e.closures refl, e.classes ∙ of.1)
 
 pub returns-clause-within : goal.returns-clause-within
 unfolding conflicts_of

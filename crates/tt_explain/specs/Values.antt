@@ -1,0 +1,44 @@
+-- Theorem. What `values` writes of a class.
+use Rattle.std.specs.Prelude.{ℕ, List, ◌++◌, Option, Some, None, codes, count_by, is_some, length}
+use Rattle.std.specs.List.{flat_map}
+use Rattle.tt_bits.specs.declared.times.Value.{Value}
+use Rattle.tt_problem.specs.declared.parts.Parts.{Parts}
+use Rattle.tt_plan.specs.Domain.{domain_of}
+use Rattle.tt_state.specs.declared.obstacle.Obstacle.{Obstacle}
+use Rattle.tt_state.specs.Snapshots.{Snapshot, value_in}
+use Rattle.tt_state.specs.Values.{conflicts_of, obstacle_of, total_with}
+use Rattle.tt_state.specs.Weights.{weight_of}
+use Rattle.tt_text.specs.Fields.{field}
+use Rattle.tt_explain.specs.declared.pricing.ValueCosts.{ValueCosts}
+use Rattle.tt_explain.specs.Names.{value_text}
+use Rattle.tt_explain.specs.Why.{obstacle_text}
+
+-- what a class at a value would cost: how many classes it pushes out, what these weigh, and the total with it there and all
+-- else as it is
+unfoldable pub value_costs : Parts → Snapshot → (class : ℕ) → Value → ValueCosts
+value_costs p s class v = record { out = length (conflicts_of p s class v); weight = weight_of p s class v; total = total_with p s class v }
+
+-- `out N weight W trial E`
+unfoldable pub costs_text : ValueCosts → List ℕ
+costs_text c = field (codes "out ") c.out ++ field (codes " weight ") c.weight ++ field (codes " trial ") c.total
+
+-- what stands in the way of a value; where nothing does, what the class would cost there
+unfoldable pub price_by : Parts → Snapshot → (class : ℕ) → Value → Option Obstacle → List ℕ
+price_by p s class v (Some found) = obstacle_text p found
+price_by p s class v None = costs_text (value_costs p s class v)
+
+-- `value T R` and that
+unfoldable pub priced_line : Parts → Snapshot → (class : ℕ) → Value → List ℕ
+priced_line p s class v = codes "value " ++ value_text p class v ++ codes " " ++ price_by p s class v (obstacle_of p s class v) ++ codes "\n"
+
+-- a line for each of these values
+unfoldable pub priced_lines : Parts → Snapshot → (class : ℕ) → List Value → List ℕ
+priced_lines p s class values = flat_map (priced_line p s class) values
+
+-- a line for each value of a class, in the order of its domain
+unfoldable pub values_lines : Parts → Snapshot → (class : ℕ) → List ℕ
+values_lines p s class = priced_lines p s class (domain_of p class)
+
+-- how many classes of the conflict set have a value, of which `why` has a line `out` each
+unfoldable pub lines_out : Parts → Snapshot → (class : ℕ) → Value → ℕ
+lines_out p s class v = count_by (λ other. is_some (value_in s other)) (conflicts_of p s class v)

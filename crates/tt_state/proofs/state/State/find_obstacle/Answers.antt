@@ -1,0 +1,37 @@
+use Rattle.std.proofs.Common.{◌≡◌, ◌∙◌, ℕ, Option, Some, None, refl, ap, sym}
+use Rattle.std.specs.List.{find}
+use Rattle.std.specs.Option.{option_map}
+use Rattle.tt_state.specs.declared.obstacle.Obstacle.TheVariants as obstacle
+use Rattle.tt_state.specs.Snapshots.{is_locked_in}
+use Rattle.tt_clash.specs.declared.Block.{Block}
+use Rattle.tt_bits.specs.declared.times.Value.{Value}
+use Rattle.tt_state.specs.Values.{blocked_of, conflicts_of, obstacle_of}
+use Rattle.tt_state.specs.History.{Held, with_taken}
+use Rattle.tt_state.proofs.ObstacleLemmas.{obstacle_blocked, obstacle_open}
+use Rattle.tt_state.proofs.state.State.find_obstacle.Goals as goal
+
+pub returns-in-Some-clause-obstacle : goal.returns-in-Some-clause-obstacle
+returns-in-Some-clause-obstacle c =
+    let h = c.args.self.now in
+    sym (obstacle_blocked h.problem h.present c.args.class c.args.value c.in-Some.block (sym c.blocked.ensures ∙ c.in-Some.is))
+
+none_given : (o : Option Block) → ((x : Block) → o ≡ Some x → ⊥) → o ≡ None
+none_given None not = refl
+none_given (Some x) not = absurd (not x refl)
+
+-- where the value isn't blocked, the first class of the conflict set that is locked stands in its way
+obstacle_is : (h new : Held) (class : ℕ) (v : Value) (first : Option ℕ) → blocked_of h.problem h.present.closures class v ≡ None → new ≡ with_taken h (conflicts_of h.problem h.present class v) → first ≡ find (is_locked_in new.present) new.taken
+    → option_map (λ other. obstacle.Held other) first ≡ obstacle_of h.problem h.present class v
+obstacle_is h new class v first open_one found is =
+    ap (option_map (λ other. obstacle.Held other)) (is ∙ ap (λ (n : Held). find (is_locked_in n.present) n.taken) found) ∙ sym (obstacle_open h.problem h.present class v open_one)
+
+pub returns-in-None-clause-obstacle : goal.returns-in-None-clause-obstacle
+returns-in-None-clause-obstacle c =
+    let open_one = sym c.blocked.ensures ∙ none_given c.blocked.result c.in_default.not-Some in
+    ap (option_map (λ other. obstacle.Held other)) (sym c.in-None.is) ∙ obstacle_is c.args.self.now c.find_conflicts.new.self c.args.class c.args.value c.first_locked.result open_one c.find_conflicts.ensures.found c.first_locked.ensures.first
+
+pub returns-in-Some-first_locked-clause-obstacle : goal.returns-in-Some-first_locked-clause-obstacle
+returns-in-Some-first_locked-clause-obstacle c =
+    let open_one = sym c.blocked.ensures ∙ none_given c.blocked.result c.in_default.not-Some in
+    ap (option_map (λ other. obstacle.Held other)) (sym c.in-Some-first_locked.is)
+    ∙ obstacle_is c.args.self.now c.find_conflicts.new.self c.args.class c.args.value c.first_locked.result open_one c.find_conflicts.ensures.found c.first_locked.ensures.first

@@ -1,0 +1,170 @@
+"""Tests of a desk's server: whom it lets in, and what it does with requests that aren't the page's own."""
+
+import json
+import random
+import signal
+import socket
+import subprocess
+import sys
+from collections.abc import Iterator
+from pathlib import Path
+
+import pytest
+from conftest import PROGRAM, TOP, needs_program
+from desk_help import Desk, commands, replayed, until
+
+pytestmark = needs_program
+
+
+@pytest.fixture
+def desk(tmp_path: Path) -> Iterator[Desk]:
+    desk = Desk(tmp_path / "log.txt")
+    yield desk
+    desk.end()
+
+
+def test_strangers_get_nothing(desk: Desk) -> None:
+    own, kind = f"http://{desk.host}", {"Content_Type": "application/json"}
+    port = desk.host.split(":")[1]
+    for method, place, secret, headers in (
+        ("GET", "", "x" * 32, {}), ("GET", "", "", {}), ("GET", "", desk.secret[:-1], {}), ("GET", "", desk.secret + "x", {}),
+        ("GET", "", "%c3%a9", {}),
+        ("GET", "problem", None, {"Host": "evil.example"}), ("GET", "problem", None, {"Host": f"evil.example:{port}"}),
+        ("GET", "", None, {"Host": "127.0.0.1"}), ("GET", "problem", None, {"Origin": "http://evil.example"}),
+        ("GET", "problem", None, {"Sec_Fetch_Site": "cross-site"}), ("GET", "events", None, {"Sec_Fetch_Site": "same-site"}),
+        ("GET", "", None, {"Sec_Fetch_Dest": "iframe"}), ("GET", "timetable.html", None, {"Sec_Fetch_Site": "cross-site"}),
+        ("POST", "undo", None, kind), ("POST", "undo", None, kind | {"Origin": "http://evil.example"}),
+        ("POST", "undo", None, kind | {"Origin": "null"}), ("POST", "undo", None, kind | {"Origin": own, "Sec_Fetch_Site": "cross-site"}),
+        ("POST", "undo", None, kind | {"Origin": own.replace("http", "https")}), ("POST", "undo", None, kind | {"Origin": "http://127.0.0.1:1"}),
+    ):
+        body = '{"count": 1}' if method == "POST" else None
+        assert desk.request(method, place, body, secret, **headers)[0] == 403, (method, place, headers)
+    assert desk.request("POST", "undo", "{}", Origin=own)[0] == 400
+    assert desk.request("POST", "nothing", "{}", Origin=own, **kind)[0] == 404
+    for place in ("../command.py", "..%2fcommand.py", "desk.html/", "log.py", "/etc/passwd", "desk.js/.."):
+        assert desk.request("GET", place)[0] == 404, place
+    assert desk.request("GET", "", Sec_Fetch_Site="cross-site", Sec_Fetch_Dest="document")[0] == 200
+    assert desk.request("GET", "problem", Sec_Fetch_Site="same-origin")[0] == 200
+
+
+def test_it_listens_on_this_machine_alone(desk: Desk) -> None:
+    port = int(desk.host.split(":")[1])
+    listening = [line.split()[1] for line in Path("/proc/net/tcp").read_text().splitlines()[1:] if line.split()[3] == "0A"]
+    assert f"0100007F:{port:04X}" in listening
+    assert not [one for one in listening if one.endswith(f":{port:04X}") and not one.startswith("0100007F")]
+
+
+def test_the_page_may_load_nothing_from_elsewhere(desk: Desk) -> None:
+    with socket.create_connection(("127.0.0.1", int(desk.host.split(":")[1]))) as link:
+        link.sendall(f"GET /{desk.secret}/ HTTP/1.1\r\nHost: {desk.host}\r\nConnection: close\r\n\r\n".encode())
+        answer = b"".join(iter(lambda: link.recv(65536), b"")).decode()
+    head = answer.partition("\r\n\r\n")[0].lower()
+    for words in ("default-src 'none'", "script-src 'self'", "frame-ancestors 'none'", "referrer-policy: no-referrer", "nosniff", "no-store"):
+        assert words in head, words
+    assert "unsafe-inline" not in head and "unsafe-eval" not in head
+
+
+def bad_requests(desk: Desk, count: int) -> Iterator[bytes]:
+    """Requests that aren't in order, made of pieces of one that is."""
+    rng = random.Random(7)
+    body = json.dumps({"lines": ["totals"]}).encode()
+    good = (f"POST /{desk.secret}/ask HTTP/1.1\r\nHost: {desk.host}\r\nOrigin: http://{desk.host}\r\nContent-Type: application/json\r\n"
+            f"Content-Length: {len(body)}\r\nConnection: close\r\n\r\n").encode() + body
+    odd = [b"", b"\r\n\r\n", b"\x00" * 40, b"GET / HTTP/9.9\r\n\r\n", b"GET " + b"/" * 70_000 + b" HTTP/1.1\r\n\r\n", b"A" * 9000,
+           b"GET / HTTP/1.1\r\n" + b"X: y\r\n" * 200 + b"\r\n", b"\x16\x03\x01\x02\x00\x01\x00", b"PRI * HTTP/2.0\r\n\r\nSM\r\n\r\n"]
+    bodies = ["", "{", "[]", "null", "3", '{"lines": 3}', '{"lines": [3]}', '{"lines": [null]}', '{"lines": ["totals\\nquit"]}', '{"lines": {"a": 1}}',
+              '{"lines": [], "locked": ["1"]}', '{"lines": [], "locked": [-1]}', '{"lines": [], "locked": [true]}', '{"lines": [], "most": 3}',
+              "[" * 5000, '{"count": 1e99}', '{"kind": "class"}', '{"kind": ["x"], "id": 1, "by": 1}', '{"id": 99999}', '{"word": 3}', "\u2028"]
+    places = ["ask", "do", "undo", "start", "stop", "facts", "find", "beside", "list", "moved", "attending", "publish", "nothing"]
+    for turn in range(count):
+        if turn % 4 == 0:
+            at = rng.randrange(len(good))
+            yield good[:at] + rng.randbytes(rng.randrange(4)) + good[at + rng.randrange(1, 6):]
+        elif turn % 4 == 1:
+            yield odd[rng.randrange(len(odd))]
+        else:
+            text = bodies[rng.randrange(len(bodies))].encode()
+            place = places[rng.randrange(len(places))]
+            if place in ("stop", "publish", "moved") and text[:1] == b"{":
+                text = b"["
+            length = len(text) if turn % 4 == 2 else rng.choice([0, 1, -1, 10**9, 2**70])
+            yield (f"POST /{desk.secret}/{place} HTTP/1.1\r\nHost: {desk.host}\r\nOrigin: http://{desk.host}\r\nContent-Type: application/json\r\n"
+                   f"Content-Length: {length}\r\nConnection: close\r\n\r\n").encode() + text
+
+
+def test_thousands_of_bad_requests_change_nothing(desk: Desk) -> None:
+    desk.post("do", lines=["assign 701 5 1"])
+    before = (desk.totals(), desk.log.read_text(), desk.state()["stepCount"])
+    port = int(desk.host.split(":")[1])
+    for request in bad_requests(desk, 3000):
+        try:
+            with socket.create_connection(("127.0.0.1", port), timeout=60) as link:
+                link.sendall(request)
+                link.shutdown(socket.SHUT_WR)
+                while link.recv(65536):
+                    pass
+        except OSError:
+            pass  # It was cut off, which is an answer.
+    assert (desk.totals(), desk.log.read_text(), desk.state()["stepCount"]) == before
+    assert "failed" not in desk.told.read_text()
+
+
+def test_too_many_connections_dont_end_it(desk: Desk) -> None:
+    port = int(desk.host.split(":")[1])
+    links = [socket.create_connection(("127.0.0.1", port)) for _ in range(100)]
+    for link in links:
+        link.close()
+    assert until(lambda: desk.totals(), "an answer").startswith("ok ")
+
+
+def test_long_replies_are_cut_and_counted(desk: Desk) -> None:
+    answer = desk.post("ask", lines=["violations", "totals"], most={"violations": 10})
+    replies, left = answer["replies"], answer["left"]
+    assert isinstance(replies, list) and isinstance(left, list)
+    assert (len(replies[0]), left[0], left[1]) == (22, {"class": 53, "student": 190}, {})
+    assert replies[0][-2] == "violations 263"
+
+
+def test_a_search_is_stopped(tmp_path: Path) -> None:
+    """A made problem, whose search finds no end."""
+    problem = tmp_path / "made.json"
+    problem.write_bytes(subprocess.run([str(PROGRAM), "make", "7", "400"], capture_output=True, check=True).stdout)
+    desk = Desk(tmp_path / "made.txt", problem)
+    try:
+        desk.post("do", lines=["enrol all"])
+        for at_once in (False, True):
+            desk.post("start", word="search", seconds=600, seed=1)
+            until(lambda: desk.state()["search"]["turns"] > 0, "some turns")  # type: ignore[index]
+            assert desk.totals().startswith("ok ")
+            assert "error" in desk.post("do", lines=["drop 1"])
+            desk.post("stop", atOnce=at_once)
+            until(lambda: desk.state()["search"] is None, "the end of the search")
+            assert desk.totals() == replayed(problem, desk.log)
+    finally:
+        desk.end()
+
+
+def test_a_desk_that_is_killed_loses_nothing(tmp_path: Path) -> None:
+    """Killed at whatever moment: what was answered is in the log."""
+    desk = Desk(tmp_path / "log.txt")
+    desk.post("do", lines=["enrol all"])
+    answered = ["enrol all"]
+    for turn in range(4):
+        for step in range(turn + 1):
+            line = f"assign 701 {turn + step + 1} 1"
+            desk.post("do", lines=[line])
+            answered.append(line)
+        desk.end(signal.SIGKILL)
+        desk.begin()
+        assert commands(desk.log) == answered
+        assert desk.totals() == replayed(desk.problem, desk.log)
+    desk.end()
+
+
+@pytest.mark.parametrize(("words", "status", "told"), [
+    (["absent.json"], 3, "No such file"), (["-"], 2, "the problem and the published timetable are files"), ([], 2, "usage"),
+    ([str(TOP / "examples/a_faculty/problem.json"), "--program", "/absent"], 2, "/absent: No such file")])
+def test_what_cant_be_begun_is_told(words: list[str], status: int, told: str, tmp_path: Path) -> None:
+    done = subprocess.run([sys.executable, "-B", "-m", "uttab_tools", "desk", *words, "--log", str(tmp_path / "log.txt")], cwd=TOP / "tools",
+                          capture_output=True, text=True, timeout=60, check=False)
+    assert (done.returncode, told in done.stderr) == (status, True), done.stderr

@@ -1,0 +1,1 @@
+"""Commands around the desk: what an office has beside `uttab`."""

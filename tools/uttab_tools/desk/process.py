@@ -1,0 +1,106 @@
+"""A running `uttab run PROBLEM -`, which is asked line by line."""
+
+import os
+import subprocess
+import threading
+from collections.abc import Sequence
+
+# The lines of a reply: its own lines, and last that of totals or of a refusal.
+Reply = list[str]
+
+# What is written at once is less than a pipe holds, so that neither side waits for the other.
+MOST_AT_ONCE = 60_000
+
+
+class Ended(Exception):
+    """The program ended. The text is what it said."""
+
+
+def accepted(reply: Reply) -> bool:
+    return reply[-1].startswith("ok ")
+
+
+class Process:
+    """The program. `opening` is its first line, `said` what it says of a long command, `sent` how much it has read."""
+
+    def __init__(self, words: Sequence[str]) -> None:
+        # At a terminal the program tells how far a long command is, so its standard error is one.
+        ours, theirs = os.openpty()
+        try:
+            self.running = subprocess.Popen(
+                words, stdin=subprocess.PIPE, stdout=subprocess.PIPE, stderr=theirs, bufsize=2**18, start_new_session=True)
+        except OSError:
+            os.close(ours)
+            raise
+        finally:
+            os.close(theirs)
+        assert self.running.stdin is not None and self.running.stdout is not None
+        self.input, self.output = self.running.stdin, self.running.stdout
+        self.said, self.sent = "", 0
+        self.listener = threading.Thread(target=self._listen, args=(ours,), daemon=True)
+        self.listener.start()
+        self.opening = self._line()
+
+    def _listen(self, terminal: int) -> None:
+        text = b""
+        try:
+            while piece := os.read(terminal, 4096):
+                text = (text + piece)[-4096:]
+                parts = [part.strip() for part in text.decode(errors="replace").replace("\x1b[K", "").split("\r")]
+                self.said = next((part for part in reversed(parts) if part), "")
+        except OSError:
+            pass
+        os.close(terminal)
+
+    def _line(self) -> str:
+        line = self.output.readline()
+        if not line.endswith(b"\n"):
+            status = self.running.wait()
+            self.listener.join(1)
+            raise Ended(f"uttab ended with status {status}. {self.said}".strip())
+        return line[:-1].decode(errors="replace")
+
+    def ask(self, lines: Sequence[str]) -> list[Reply]:
+        """The reply to each line. Several lines are written at once."""
+        replies: list[Reply] = []
+        while len(replies) < len(lines):
+            some: list[str] = []
+            size = 0
+            for line in lines[len(replies):]:
+                size += len(line) + 1
+                if some and size > MOST_AT_ONCE:
+                    break
+                some.append(line)
+            self._write(some)
+            replies += [self._reply() for _ in some]
+        return replies
+
+    def _write(self, lines: Sequence[str]) -> None:
+        text = "".join(line + "\n" for line in lines).encode("ascii")
+        self.sent += len(text)
+        try:
+            self.input.write(text)
+            self.input.flush()
+        except OSError:
+            pass  # It has ended, as the next line shows.
+
+    def _reply(self) -> Reply:
+        lines = [self._line()]
+        while not lines[-1].startswith(("ok ", "refused ")):
+            lines.append(self._line())
+        return lines
+
+    def kill(self) -> None:
+        self.running.kill()
+
+    def end(self) -> None:
+        self.kill()
+        self.running.wait()
+        for pipe in (self.input, self.output):
+            try:
+                pipe.close()
+            except OSError:
+                pass
+        self.listener.join(1)
+
+

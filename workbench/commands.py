@@ -1,0 +1,125 @@
+"""The words of ./dev, and what each does."""
+
+import argparse
+import os
+import subprocess
+import sys
+from collections.abc import Callable
+
+import cases
+import theorem
+import uses
+from repository import CRATES, TOP, Stop, folder_of
+
+Words = argparse.ArgumentParser
+
+
+def rt(crate: str, *words: str) -> int:
+    """Runs the kit's command in the folder of a crate."""
+    try:
+        return subprocess.run(["rt", *words], cwd=folder_of(crate), check=False).returncode
+    except FileNotFoundError:
+        raise Stop("the Rattle kit's command rt is not on the path") from None
+
+
+def try_crate(given: argparse.Namespace) -> int:
+    """runs the crate's tests, unproved
+
+    A program without tests, as `uttab`, is tried by ./uttab try. The tests of what is public stand in crates of their
+    own: ./dev uses CRATE lists them among the crates above."""
+    if "#[test]" not in "".join(path.read_text(encoding="utf-8") for path in (CRATES / given.crate).rglob("src/**/*.rt")):
+        above = [name for name in uses.above(given.crate) if name.endswith("_tests")]
+        raise Stop(f"{given.crate} has no test of its own; above it stand {', '.join(above) or 'no crates of tests'}")
+    return rt(given.crate, "try", "--test")
+
+
+def check_crate(given: argparse.Namespace) -> int:
+    """proves the crate over what is built below it
+
+    What changed since the last check is proved; crates below are built first where they changed."""
+    return rt(given.crate, "check")
+
+
+def edits(given: argparse.Namespace) -> int:
+    """tries the crate's must-fail edits
+
+    The prover must refuse each. It begins with what ./dev check kept, and tries again only what changed."""
+    folder_of(given.crate)
+    if not any((CRATES / given.crate).glob("must-fail/*.edit")):
+        raise Stop(f"{given.crate} has no must-fail edit; docs/PLANTS.md says why where that is meant")
+    return rt(given.crate, "must-fail", given.crate)
+
+
+def case(given: argparse.Namespace) -> int:
+    """carries out a worked case, and compares what it writes with worked_cases/stdout
+
+    The program is the one that UTTAB names, else the proved one, else the one that ./uttab try compiled."""
+    return cases.one_case(given.name)
+
+
+def all_cases(given: argparse.Namespace) -> int:
+    """carries out all worked cases, and shows what they write otherwise than worked_cases/stdout
+
+    With --write what they write is written there; the difference is shown all the same, to be read line by line."""
+    return cases.all_cases(given.write)
+
+
+def reached(given: argparse.Namespace) -> int:
+    """counts the definitions that the theorem reaches, and compares the marks of their files
+
+    It reads the sources alone. The status is 1 where a file is marked Theorem and isn't reached, or is reached and isn't
+    marked."""
+    return theorem.theorem(given.files, given.words)
+
+
+def used(given: argparse.Namespace) -> int:
+    """compares crates.txt with what the sources use; with CRATE lists the crates above it
+
+    Those above a crate are proved anew when it changes."""
+    return uses.uses(given.crate)
+
+
+def gate(_: argparse.Namespace) -> int:
+    """runs the gate, .ci/run
+
+    It proves, tests and runs every crate, and then tests what stands beside them. From nothing it takes one to two
+    hours."""
+    os.execv(TOP / ".ci/run", [".ci/run"])
+
+
+def with_crate(parser: Words) -> None:
+    parser.add_argument("crate", metavar="CRATE", help="a crate of crates.txt")
+
+
+def add_words(parser: Words) -> None:
+    parser_of = parser.add_subparsers(metavar="WORD", required=True)
+
+    def add(name: str, does: Callable[[argparse.Namespace], int]) -> Words:
+        text = does.__doc__ or ""
+        words = parser_of.add_parser(name, help=text.split("\n")[0], description=text)
+        words.set_defaults(does=does)
+        return words
+
+    for name, does in (("try", try_crate), ("check", check_crate), ("edits", edits)):
+        with_crate(add(name, does))
+    add("case", case).add_argument("name", metavar="NAME", help="its name in crates/worked_cases/data/cases.txt")
+    add("cases", all_cases).add_argument("--write", action="store_true", help="writes worked_cases/stdout anew")
+    words = add("theorem", reached)
+    words.add_argument("--files", action="store_true", help="lists the files that are reached")
+    words.add_argument("--words", action="store_true", help="lists the words that stand for more than one definition")
+    add("uses", used).add_argument("crate", metavar="CRATE", nargs="?", help="lists the crates above this one")
+    add("gate", gate)
+
+
+def main() -> int:
+    parser = argparse.ArgumentParser(prog="dev", description="The day's work on uttab. CONTRIBUTING.md says when each word is of use.")
+    add_words(parser)
+    given = parser.parse_args()
+    try:
+        if hasattr(given, "crate") and given.crate is not None:
+            folder_of(given.crate)
+        status: int = given.does(given)
+        return status
+    except Stop as stop:
+        print(f"dev: {stop}", file=sys.stderr)
+        return 2
