@@ -75,8 +75,9 @@ def reached(given: argparse.Namespace) -> int:
 def used(given: argparse.Namespace) -> int:
     """compares crates.txt with what the sources use; with CRATE lists the crates above it
 
-    Those above a crate are proved anew when it changes."""
-    return uses.uses(given.crate)
+    Those above a crate are proved anew when it changes. --write writes the lines that have a fault anew; a new crate wants
+    its name and a colon at its place, and what more a line must name by way of another crate the toolchain says."""
+    return uses.uses(given.crate, given.write)
 
 
 def gate(_: argparse.Namespace) -> int:
@@ -107,7 +108,9 @@ def add_words(parser: Words) -> None:
     words = add("theorem", reached)
     words.add_argument("--files", action="store_true", help="lists the files that are reached")
     words.add_argument("--words", action="store_true", help="lists the words that stand for more than one definition")
-    add("uses", used).add_argument("crate", metavar="CRATE", nargs="?", help="lists the crates above this one")
+    words = add("uses", used)
+    words.add_argument("crate", metavar="CRATE", nargs="?", help="lists the crates above this one")
+    words.add_argument("--write", action="store_true", help="writes the lines that have a fault anew")
     add("gate", gate)
 
 

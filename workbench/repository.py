@@ -5,6 +5,8 @@ from pathlib import Path
 
 TOP = Path(__file__).resolve().parent.parent
 CRATES = TOP / "crates"
+LIST = TOP / "crates.txt"
+HEADING = re.compile(r"# ([a-z][a-z ]*): ")
 
 
 class Stop(Exception):
@@ -13,11 +15,28 @@ class Stop(Exception):
 
 def listed_crates() -> dict[str, list[str]]:
     """The crates of `crates.txt`, lowest first, each with the libraries that it names."""
-    found = {}
-    for line in (TOP / "crates.txt").read_text(encoding="utf-8").splitlines():
+    return {name: names for _, name, names in lines_of_crates() if name}
+
+
+def lines_of_crates() -> list[tuple[str, str, list[str]]]:
+    """The lines of `crates.txt`, each with its crate and the libraries that it names; a comment has none."""
+    found = []
+    for line in LIST.read_text(encoding="utf-8").splitlines():
         name, colon, names = line.partition(":")
-        if colon and not line.startswith("#"):
-            found[name.split()[0]] = names.split()
+        is_one = colon and not line.startswith("#")
+        found.append((line, name.split()[0], names.split()) if is_one else (line, "", []))
+    return found
+
+
+def layers() -> dict[str, list[str]]:
+    """The layers of `crates.txt`, lowest first, each with the crates below its heading."""
+    found: dict[str, list[str]] = {}
+    open_one: list[str] = []
+    for line, name, _ in lines_of_crates():
+        if match := HEADING.match(line):
+            open_one = found.setdefault(match[1], [])
+        elif name:
+            open_one.append(name)
     return found
 
 
