@@ -9,6 +9,7 @@ from collections.abc import Callable
 import cases
 import theorem
 import uses
+import wide
 from repository import CRATES, TOP, Stop, folder_of
 
 Words = argparse.ArgumentParser
@@ -80,6 +81,13 @@ def used(given: argparse.Namespace) -> int:
     return uses.uses(given.crate, given.write)
 
 
+def wide_clauses(given: argparse.Namespace) -> int:
+    """counts the clauses of contracts that are wider than 100 columns, by crate
+
+    A clause may stand on several lines, each of which is measured. It reads the sources alone."""
+    return wide.wide(given.crate, given.list)
+
+
 def gate(_: argparse.Namespace) -> int:
     """runs the gate, .ci/run
 
@@ -111,6 +119,9 @@ def add_words(parser: Words) -> None:
     words = add("uses", used)
     words.add_argument("crate", metavar="CRATE", nargs="?", help="lists the crates above this one")
     words.add_argument("--write", action="store_true", help="writes the lines that have a fault anew")
+    words = add("wide", wide_clauses)
+    words.add_argument("crate", metavar="CRATE", nargs="?", help="counts those of this crate alone")
+    words.add_argument("--list", action="store_true", help="lists them, the widest of a crate first")
     add("gate", gate)
 
 

@@ -59,7 +59,7 @@ def mended(crate: str, listed: dict[str, list[str]]) -> list[str]:
     """What the line of a crate should name: what it names and is of use, and behind that what else the sources name, with
     what those lines name in turn."""
     named = named_in(crate, libraries_of(listed))
-    of_use = named.union(*(listed.get(name, []) for name in listed[crate]))
+    of_use = named.union(*(listed.get(name, []) for name in listed[crate] if name != crate))
     kept = [name for name in dict.fromkeys(listed[crate]) if name in of_use]
     lacking = named - set(kept)
     added = lacking.union(*(listed.get(name, []) for name in lacking)) - set(kept)

@@ -1,0 +1,83 @@
+"""Tests of the words of ./dev that read the sources, over a house of three crates."""
+
+import shutil
+import subprocess
+from pathlib import Path
+
+import pytest
+from conftest import TOP
+
+LIST = "# numbers: at the ground\none:\ntwo: one md5\n\n# above: what counts\nthree: one two md5\n"
+CODE = {
+    "one": "//! The first.\n",
+    "two": "use one::Number;\nuse md5::sum;\n",
+    "three": "ghost use Rattle.two.specs.Sums.{sum};\nfn add()\n    requires few {\n        1 < 2\n    }\n"
+             f"    ensures sum {{ {'1 + ' * 30}1 ≡ 31 }}\n    ensures one {{ 1 ≡ 1 }}\n{{\n}}\n",
+}
+
+
+@pytest.fixture
+def house(tmp_path: Path) -> Path:
+    shutil.copy(TOP / "dev", tmp_path)
+    shutil.copytree(TOP / "workbench", tmp_path / "workbench")
+    (tmp_path / "crates.txt").write_text(LIST, encoding="utf-8")
+    for name, text in CODE.items():
+        folder = tmp_path / "crates" / name / "src"
+        folder.mkdir(parents=True)
+        (folder / "lib.rt").write_text(text, encoding="utf-8")
+    return tmp_path
+
+
+def dev(house: Path, *words: str) -> tuple[int, list[str]]:
+    done = subprocess.run([house / "dev", *words], capture_output=True, encoding="utf-8", check=False)
+    return done.returncode, (done.stdout + done.stderr).splitlines()
+
+
+def with_list(house: Path, old: str, new: str) -> Path:
+    assert old in LIST
+    (house / "crates.txt").write_text(LIST.replace(old, new), encoding="utf-8")
+    return house
+
+
+def test_a_list_that_says_what_is_used(house: Path) -> None:
+    assert dev(house, "uses") == (0, ["crates.txt: 3 crates in 2 layers, 0 faults"])
+    assert dev(house, "uses", "--write") == (0, ["crates.txt: 3 crates in 2 layers, 0 faults"])
+    assert (house / "crates.txt").read_text(encoding="utf-8") == LIST
+    assert dev(house, "uses", "one") == (0, ["2 crates stand above one: two three"])
+
+
+@pytest.mark.parametrize(("old", "new", "fault"), [
+    ("two: one md5", "two: one", "two: uses md5, which its line doesn't name"),
+    ("one:\n", "one: md5\n", "one: names md5, which neither it nor a crate that it names uses"),
+    ("three: one two", "three: one two one", "three: names one twice"),
+    ("# numbers: at the ground\n", "", "one: stands below no heading of a layer"),
+])
+def test_a_fault_of_the_list_is_told(house: Path, old: str, new: str, fault: str) -> None:
+    status, lines = dev(with_list(house, old, new), "uses")
+    assert status == 1 and fault in lines
+
+
+def test_a_crate_stands_behind_those_that_it_names(house: Path) -> None:
+    moved = "# numbers: at the ground\none:\nthree: one two md5\n\n# above: what counts\ntwo: one md5\n"
+    (house / "crates.txt").write_text(moved, encoding="utf-8")
+    assert dev(house, "uses") == (1, ["three: stands before two, which it names", "crates.txt: 3 crates in 2 layers, 1 faults"])
+
+
+def test_a_line_with_a_fault_is_written_anew(house: Path) -> None:
+    with_list(house, "three: one two md5", "three: two three two")
+    assert dev(house, "uses", "--write") == (0, ["three: two", "crates.txt: 3 crates in 2 layers, 0 faults"])
+    assert (house / "crates.txt").read_text(encoding="utf-8") == LIST.replace("three: one two md5", "three: two")
+
+
+def test_a_new_crate_names_what_its_crates_name(house: Path) -> None:
+    with_list(house, "three: one two md5", "three:")
+    assert dev(house, "uses", "--write") == (0, ["three: one two md5", "crates.txt: 3 crates in 2 layers, 0 faults"])
+    assert (house / "crates.txt").read_text(encoding="utf-8") == LIST
+
+
+def test_wide_clauses_are_counted(house: Path) -> None:
+    width = len(CODE["three"].splitlines()[5])
+    found = [f"three: 1 of 3, the widest {width}", "1 of 3 clauses are wider than 100 columns"]
+    assert dev(house, "wide") == (0, found)
+    assert dev(house, "wide", "two") == (0, ["0 of 0 clauses are wider than 100 columns"])
+    assert dev(house, "wide", "--list")[1][1].startswith(f"  crates/three/src/lib.rt:6: {width}  ensures sum {{ 1 + ")
