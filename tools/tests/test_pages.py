@@ -50,5 +50,6 @@ def test_the_files_of_the_theorem_are_listed() -> None:
     for files in re.findall(r"^\| .* \| (.*) \|$", part_of(ARCHITECTURE, "The theorem, in reading order"), re.M):
         for crate, names in re.findall(r"(?:^|; )(?:of )?`(\w+)`: ([^;]*)", files):
             listed |= {(crate, name) for name in re.findall(r"`(\w+)`", names)}
-    marked = {(path.parts[-3], path.stem) for path in TOP.glob("crates/*/specs/*.antt") if path.read_text(encoding="utf-8").startswith("-- Theorem")}
+    definitions = TOP.glob("crates/*/specs/*.antt")
+    marked = {(path.parts[-3], path.stem) for path in definitions if path.read_text(encoding="utf-8").startswith("-- Theorem")}
     assert listed == marked
