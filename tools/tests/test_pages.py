@@ -1,6 +1,8 @@
-"""Tests that the pages on the sources say what the sources are: the crates by layers, and the files of the theorem."""
+"""Tests that the pages on the sources say what the sources are: the crates by layers, the files of the theorem, and the words
+that stand for two things in it."""
 
 import re
+import subprocess
 
 from conftest import TOP
 
@@ -53,3 +55,10 @@ def test_the_files_of_the_theorem_are_listed() -> None:
     definitions = TOP.glob("crates/*/specs/*.antt")
     marked = {(path.parts[-3], path.stem) for path in definitions if path.read_text(encoding="utf-8").startswith("-- Theorem")}
     assert listed == marked
+
+
+def test_the_words_for_two_definitions_are_listed() -> None:
+    words = part_of((TOP / "docs/WORDS.md").read_text(encoding="utf-8"), "To be parted").split("\n\n")[1]
+    listed = {word for row in words.splitlines()[2:] for word in re.findall(r"`(\S+)`", row.split("|")[1])}
+    told = subprocess.run([TOP / "dev", "theorem", "--words"], capture_output=True, encoding="utf-8", check=True).stdout
+    assert listed == {name.strip("◌") for name in re.findall(r"^  (\S+): ", told, re.M)}
