@@ -62,3 +62,12 @@ def test_the_words_for_two_definitions_are_listed() -> None:
     listed = {word for row in words.splitlines()[2:] for word in re.findall(r"`(\S+)`", row.split("|")[1])}
     told = subprocess.run([TOP / "dev", "theorem", "--words"], capture_output=True, encoding="utf-8", check=True).stdout
     assert listed == {name.strip("◌") for name in re.findall(r"^  (\S+): ", told, re.M)}
+
+
+def test_what_a_change_costs_is_counted() -> None:
+    text = (TOP / "CONTRIBUTING.md").read_text(encoding="utf-8").split("**What a change costs.**")[1].split("\n")[0]
+    counts = re.findall(r"`(\w+)` (?:stand )?(\d+)", text)
+    assert len(counts) == 8
+    for crate, count in counts:
+        told = subprocess.run([TOP / "dev", "uses", crate], capture_output=True, encoding="utf-8", check=True).stdout
+        assert told.startswith(f"{count} crates stand above {crate}: ")
