@@ -16,6 +16,7 @@ TESTS = Path(__file__).resolve().parent
 TOOLS = TESTS.parent
 TOP = TOOLS.parent
 DATA = TESTS / "data"
+SCHEMAS = TOOLS / "uttab_tools/data"
 
 
 def first_there(variable: str, *names: str) -> Path | None:

@@ -5,7 +5,7 @@ import re
 from typing import Any
 
 import pytest
-from conftest import TOOLS, TOP, Write, needs_program, uttab
+from conftest import SCHEMAS, TOP, Write, needs_program, uttab
 
 from uttab_tools import limits
 from uttab_tools.limits import Range
@@ -51,8 +51,8 @@ def test_types_are_those_of_the_document() -> None:
 
 
 def test_lengths_and_ranges_are_those_of_the_schemas() -> None:
-    problem = json.loads((TOOLS / "problem_schema.json").read_text(encoding="utf-8"))
-    published = json.loads((TOOLS / "published_schema.json").read_text(encoding="utf-8"))
+    problem = json.loads((SCHEMAS / "problem_schema.json").read_text(encoding="utf-8"))
+    published = json.loads((SCHEMAS / "published_schema.json").read_text(encoding="utf-8"))
     lists = {most for value in (problem, published) for most in map(int, re.findall(r'"maxItems": (\d+)', json.dumps(value)))}
     assert lists == {limits.ROOMS, limits.COURSES, limits.DISTRIBUTIONS, limits.STUDENTS, limits.TRAVEL, limits.UNAVAILABLE,
                      limits.CLASSES_OF_A_DISTRIBUTION, limits.COURSES_OF_A_STUDENT}

@@ -18,11 +18,12 @@ def command(run: object) -> Command:
     return Command("trial", "A trial.", lambda parser: None, run)  # type: ignore[arg-type]
 
 
-def test_each_command_has_a_link_and_an_entry_point() -> None:
+def test_each_command_has_a_launcher_and_an_entry_point() -> None:
     scripts = tomllib.loads((TOOLS / "pyproject.toml").read_text())["project"]["scripts"]
     assert scripts == {f"uttab-{name.replace('_', '-')}": f"uttab_tools.{module}:main" for name, module in COMMANDS.items()}
-    links = {path.name for path in TOOLS.iterdir() if path.is_symlink() and path.readlink() == Path("launch")}
-    assert links == set(COMMANDS)
+    files = {path.name for path in TOOLS.iterdir() if path.is_file() and os.access(path, os.X_OK)}
+    assert files == {"launch", *COMMANDS}
+    assert all((TOOLS / name).read_text().endswith(f'/launch" {name} "$@"\n') for name in COMMANDS)
 
 
 @pytest.mark.parametrize("name", COMMANDS)

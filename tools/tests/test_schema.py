@@ -7,7 +7,7 @@ from collections.abc import Iterator
 from typing import Any
 
 import pytest
-from conftest import DATA, TOOLS, WORKED_CASES, Tool, needs_cases
+from conftest import DATA, SCHEMAS, WORKED_CASES, Tool, needs_cases
 
 from uttab_tools import limits
 
@@ -26,7 +26,7 @@ NAMES = ("problem_schema.json", "published_schema.json")
 
 
 def schema(name: str) -> Any:
-    return json.loads((TOOLS / name).read_text(encoding="utf-8"))
+    return json.loads((SCHEMAS / name).read_text(encoding="utf-8"))
 
 
 def validator(value: Any) -> Any:
