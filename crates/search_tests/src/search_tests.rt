@@ -1,4 +1,4 @@
-ghost use Rattle.std.specs.Prelude.{IfOk};
+ghost use Rattle.std.specs.Prelude.{◌≡◌, IfOk};
 ghost use Rattle.tt_solution.specs.Timetable.{IsTimetableOf};
 
 use crate::counting::Counting;
@@ -41,6 +41,21 @@ fn published(alloc: Global, problem: &Problem) -> Result<Published, FileFault>
     ensures { IfOk result (λ t. IsTimetableOf problem.now t) }
 {
     read_published(alloc, problem, SECOND_TIME.as_bytes())
+}
+
+// Whether a class becomes locked, as one step.
+fn locks(state: &mut State, class: u32) -> bool
+    ensures { state.new.problem ≡ state.old.problem }
+{
+    state.lock(class) == Ok(None)
+}
+
+// Whether the state returns to what is published.
+fn recalls(state: &mut State, published: &Published) -> bool
+    requires { IsTimetableOf state.old.problem published.now }
+    ensures { state.new.problem ≡ state.old.problem }
+{
+    recall(state, published) == Ok(())
 }
 
 // The total and the number of unplaced classes.
@@ -118,5 +133,38 @@ fn what_is_published_is_recalled(rt: HostRuntime) -> Result<(), Fail> {
     assert!(rt; state.totals().unsectioned == 0);
     drop(state);
     drop(published);
+    Ok(())
+}
+
+#[test]
+fn a_recalled_class_loses_its_lock_where_it_moves(rt: HostRuntime) -> Result<(), Fail> {
+    let problem = read(rt.alloc(), TWO_TIMES.as_bytes())?;
+    let published = published(rt.alloc(), &problem).expect(&rt, "published");
+    let mut state = State::start(rt.alloc(), problem).expect(&rt, "memory");
+    assert!(rt; assigns(&mut state, 0, 2, None));
+    assert!(rt; locks(&mut state, 0));
+    assert!(rt; recalls(&mut state, &published));
+    assert!(rt; state.is_locked(0));
+    assert!(rt; assigns(&mut state, 0, 1, None));
+    assert!(rt; state.is_locked(0));
+    assert!(rt; recalls(&mut state, &published));
+    assert!(rt; totals(&state) == (5, 0));
+    assert!(rt; !state.is_locked(0));
+    assert!(rt; state.undo());
+    assert!(rt; state.is_locked(0));
+    drop(state);
+    drop(published);
+    Ok(())
+}
+
+#[test]
+fn a_search_pushes_no_locked_class_out(rt: HostRuntime) -> Result<(), Fail> {
+    let mut state = state_of(rt.alloc(), ONE_ROOM.as_bytes())?;
+    assert!(rt; assigns(&mut state, 0, 1, Some(1)));
+    assert!(rt; locks(&mut state, 0));
+    assert!(rt; search(rt.alloc(), &mut state, 5, 1, &mut Silent) == Ok(5));
+    assert!(rt; totals(&state) == (9, 1));
+    assert!(rt; state.is_locked(0));
+    drop(state);
     Ok(())
 }

@@ -1,3 +1,5 @@
+ghost use Rattle.std.specs.Prelude.{◌≡◌};
+
 use std::test::Fail;
 use test_help::{assigns, forces, state_of, value};
 use tt_state::{LockFault, Obstacle, State};
@@ -40,6 +42,13 @@ fn unlocks_in_a_step(state: &mut State, class: u32) -> bool {
     let without = last == 2 && !state.is_locked(class);
     state.roll_back(0);
     without && state.is_locked(class)
+}
+
+// Whether a class loses its value; false where there is no such class.
+fn unassigns(state: &mut State, class: u32) -> bool
+    ensures { state.new.problem ≡ state.old.problem }
+{
+    class < state.problem().class_count() && state.unassign(class) == Ok(true)
 }
 
 #[test]
@@ -85,6 +94,19 @@ fn all_placed_classes_are_locked_and_unlocked(rt: HostRuntime) -> Result<(), Fai
     assert!(rt; state.undo());
     assert!(rt; state.undo());
     assert!(rt; locked(&state) == [true, false, true]);
+    drop(state);
+    Ok(())
+}
+
+#[test]
+fn a_class_without_its_value_is_not_locked(rt: HostRuntime) -> Result<(), Fail> {
+    let mut state = state_of(rt.alloc(), TEXT.as_bytes())?;
+    assert!(rt; assigns(&mut state, 0, 1, Some(1)));
+    assert!(rt; state.lock(0) == Ok(None));
+    assert!(rt; unassigns(&mut state, 0));
+    assert!(rt; locked(&state) == [false, false, false]);
+    assert!(rt; state.undo());
+    assert!(rt; locked(&state) == [true, false, false]);
     drop(state);
     Ok(())
 }

@@ -1,5 +1,6 @@
-ghost use Rattle.std.specs.Prelude.{◌≡◌, ◌+◌, ◌<◌, ◌≤◌, [], None, Some, IfOk, IsSome, OnOk, OnErr, cond, false, length};
+ghost use Rattle.std.specs.Prelude.{◌≡◌, ◌+◌, ◌<◌, ◌≤◌, [], ℕ, None, Some, IfOk, IsSome, OnOk, OnErr, cond, false, length};
 ghost use Rattle.tt_state.specs.History.{IsWithinStep, desk_of, earlier, stepped};
+ghost use Rattle.tt_state.specs.Snapshots.{StaysLocked};
 ghost use Rattle.tt_enrol.specs.Enrolled.{enrolled, all_enrolled, with_student};
 ghost use Rattle.tt_enrol.specs.Ready.{HasRoom};
 ghost use Rattle.tt_enrol.specs.Steps.{with_counts};
@@ -104,8 +105,8 @@ fn enrol_each<W: Watcher>(
 }
 
 /// Gives each student who has a course and no class the least enrolment, in the problem's order and
-/// all as one step. A student for whom there is none is left without. The watcher is told of each
-/// student.
+/// all as one step. A student for whom there is none is left without. No class moves, and the locks
+/// stay. The watcher is told of each student.
 pub fn enrol_all<W: Watcher>(
     alloc: Global,
     state: &mut State,
@@ -114,6 +115,7 @@ pub fn enrol_all<W: Watcher>(
     ensures desk { OnOk result (desk_of state.new ≡ stepped (desk_of state.old) (all_enrolled state.old.problem state.old.present).snapshot) }
     ensures enrolled { IfOk result (λ n. n.enrolled ≡ (all_enrolled state.old.problem state.old.present).enrolled) }
     ensures left { IfOk result (λ n. n.left ≡ (all_enrolled state.old.problem state.old.present).left) }
+    ensures locked { OnOk result ((class : ℕ) → StaysLocked state.old.present state.new.present class) }
     ensures taken { OnOk result (state.new.taken ≡ state.old.taken) }
     ensures err { OnErr result (state.new ≡ state.old) }
 {

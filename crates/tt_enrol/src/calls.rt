@@ -1,5 +1,6 @@
-ghost use Rattle.std.specs.Prelude.{◌≡◌, ◌<◌, ◌∷◌, [], None, Some, Ok, IfOk, IfSome, MatchOption, OnErr, false, true, length};
+ghost use Rattle.std.specs.Prelude.{◌≡◌, ◌<◌, ◌∷◌, [], ℕ, None, Some, Ok, IfOk, IfSome, MatchOption, OnErr, false, true, length};
 ghost use Rattle.tt_state.specs.History.{desk_of, stepped, trail};
+ghost use Rattle.tt_state.specs.Snapshots.{StaysLocked};
 ghost use Rattle.tt_choice.specs.Seating.{MayGet};
 ghost use Rattle.tt_enrol.specs.Students.{classes_found};
 ghost use Rattle.tt_enrol.specs.Enrolled.{enrolled};
@@ -32,11 +33,13 @@ fn classes_found(alloc: Global, state: &State, student: u32) -> Result<Option<Ve
 /// each class is attended too, as in ITC 2019. Course after course, of the choices with a seat in each
 /// class and with each parent in the choice or already taken, the one is taken that adds the fewest
 /// conflicting pairs, and of these the one whose classes come first in the problem's order. Whether
-/// each course has such a choice; if not, nothing changes.
+/// each course has such a choice; if not, nothing changes. No class moves, and the locks stay.
+#[tactic(auto, using(crate::proofs::LockLemmas::one_stays))]
 pub fn enrol(alloc: Global, state: &mut State, student: u32) -> Result<bool, AllocError>
     requires { student < length state.old.problem.students }
     ensures desk { result ≡ Ok true → desk_of state.new ≡ stepped (desk_of state.old) state.new.present }
     ensures enrolled { result ≡ Ok true → enrolled state.old.problem state.old.present student ≡ Some state.new.present }
+    ensures locked { result ≡ Ok true → (class : ℕ) → StaysLocked state.old.present state.new.present class }
     ensures trail { result ≡ Ok true → trail state.new ≡ state.new.present ∷ [] }
     ensures taken { result ≡ Ok true → state.new.taken ≡ state.old.taken }
     ensures same { result ≡ Ok false → state.new ≡ state.old }
