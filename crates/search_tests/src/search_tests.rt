@@ -162,7 +162,9 @@ fn a_search_pushes_no_locked_class_out(rt: HostRuntime) -> Result<(), Fail> {
     let mut state = state_of(rt.alloc(), ONE_ROOM.as_bytes())?;
     assert!(rt; assigns(&mut state, 0, 1, Some(1)));
     assert!(rt; locks(&mut state, 0));
-    assert!(rt; search(rt.alloc(), &mut state, 5, 1, &mut Silent) == Ok(5));
+    let mut watcher = Counting::new();
+    assert!(rt; search(rt.alloc(), &mut state, 5, 1, &mut watcher) == Ok(5));
+    assert!(rt; watcher.times == 5);
     assert!(rt; totals(&state) == (9, 1));
     assert!(rt; state.is_locked(0));
     drop(state);
