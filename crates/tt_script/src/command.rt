@@ -1,3 +1,4 @@
+use thiserror::Error;
 use tt_base::Row;
 use tt_bits::BitWord;
 
@@ -127,10 +128,12 @@ pub enum Command {
 }
 
 /// Why a line gives no command.
-#[derive(Clone, Copy, PartialEq, Eq)]
-pub(crate) enum LineFault {
+#[derive(Clone, Copy, Debug, PartialEq, Eq, Error)]
+pub enum LineFault {
     /// The line is in no form.
+    #[error("the line is in no form")]
     Bad,
     /// Memory wasn't found.
+    #[error("out of memory")]
     Memory,
 }

@@ -404,8 +404,9 @@ fn read_section(alloc: Global, mut words: Words<'_>) -> Result<Command, LineFaul
     Ok(Command::Section { student, classes })
 }
 
-/// The command that a line asks for. Only that of a `section` line in its form takes memory.
-pub(crate) fn parse(alloc: Global, line: &[u8]) -> Result<Command, LineFault>
+/// The command that the words of a line ask for. Only that of a `section` line in its form takes
+/// memory.
+pub(crate) fn read_command(alloc: Global, line: &[u8]) -> Result<Command, LineFault>
     ensures ok { IfOk result (λ command. command_of (words_of line.now) ≡ Some command) }
     ensures depth { IfOk result HasDepth }
     ensures bad { result ≡ Err LineFault.Bad ↔ (command_of (words_of line.now) ≡ None) }
