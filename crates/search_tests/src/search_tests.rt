@@ -128,7 +128,7 @@ fn what_is_published_is_recalled(rt: HostRuntime) -> Result<(), Fail> {
     let problem = read(rt.alloc(), TWO_TIMES.as_bytes())?;
     let published = published(rt.alloc(), &problem).expect(&rt, "published");
     let mut state = State::start(rt.alloc(), problem).expect(&rt, "memory");
-    assert!(rt; recall(&mut state, &published) == Ok(()));
+    assert!(rt; recall(rt.alloc(), &mut state, &published) == Ok(()));
     assert!(rt; totals(&state) == (5, 0));
     assert!(rt; state.totals().unsectioned == 0);
     drop(state);

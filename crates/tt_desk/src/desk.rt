@@ -44,7 +44,7 @@ impl Session {
             Command::Improve { rounds, seed } => {
                 Ok(self.improve(alloc, rounds, seed, reply, watcher)?)
             }
-            Command::Recall => Ok(self.recall()?),
+            Command::Recall => Ok(self.recall(alloc)?),
             Command::Close {
                 room,
                 days,
