@@ -1,7 +1,7 @@
 // One call on the files or the output that fails, at each place of each form of words.
 use std::alloc::{AllocError, Global};
 use std::test::Fail;
-use tt_io::{MemFiles, MemSink, Silent};
+use tt_io::{MemFiles, MemSink};
 use tt_top::run;
 
 const ONE_CLASS: &str =
@@ -122,7 +122,7 @@ fn status_of(
     out: &mut MemSink,
 ) -> Result<u8, AllocError> {
     let words = words_of(alloc, line)?;
-    Ok(run(alloc, &words, files, out, &mut Silent))
+    Ok(run(alloc, &words, files, out))
 }
 
 // Whether a run by these words in which these calls fail ends so.

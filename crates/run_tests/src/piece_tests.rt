@@ -61,7 +61,7 @@ fn ends_so(
     let mut out = MemSink::new(alloc);
     out.fail_at(write)?;
     let words = words_of(alloc)?;
-    let ended = run(alloc, &words, &mut files, &mut out, &mut Silent);
+    let ended = run(alloc, &words, &mut files, &mut out);
     Ok(ended == status && out.bytes() == Some(output.as_bytes()))
 }
 

@@ -2,7 +2,7 @@
 use std::alloc::{AllocError, Global};
 use std::test::Fail;
 use tt_io::{MemFiles, MemSink, Progress, Watcher};
-use tt_top::run;
+use tt_top::run_watched;
 
 const ONE_CLASS: &str =
     r#"{"nrDays":1,"nrWeeks":1,"slotsPerDay":288,"optimization":{"time":2,"room":1,"distribution":1,"student":1},"courses":[{"id":1,"configs":[{"id":1,"subparts":[{"id":1,"classes":[{"id":1,"room":false,"times":[{"days":"1","start":10,"length":4,"weeks":"1","penalty":4}]}]}]}]}]}"#;
@@ -39,7 +39,7 @@ fn a_run_hands_its_watcher_on(rt: HostRuntime) -> Result<(), Fail> {
     let mut out = MemSink::new(alloc);
     let mut watcher = Last { told: None };
     let words = words(alloc)?;
-    let status = run(alloc, &words, &mut files, &mut out, &mut watcher);
+    let status = run_watched(alloc, &words, &mut files, &mut out, &mut watcher);
     assert_eq!(rt; status, 0);
     assert!(rt; watcher.told == Some(Progress::Rounds { made: 3, of: 3 }));
     Ok(())

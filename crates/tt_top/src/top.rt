@@ -11,7 +11,7 @@ use crate::plain_run::{demo, make};
 use crate::serve::hand_on;
 use crate::verify_run::verify_files;
 use std::alloc::Global;
-use tt_io::{Files, Sink, Watcher};
+use tt_io::{Files, Silent, Sink, Watcher};
 
 // The most bytes of a file.
 const FILE_LIMIT: u64 = 134_217_728;
@@ -29,7 +29,7 @@ fn usage<S: Sink>(out: &mut S) -> Result<Done, End>
     Ok(Done::Usage)
 }
 
-/// Does the same as [`run`], with another limit on the bytes of a file.
+/// Does the same as [`run_watched`], with another limit on the bytes of a file.
 pub fn run_within<F: Files, S: Sink, W: Watcher>(
     limit: u64,
     alloc: Global,
@@ -75,14 +75,28 @@ pub fn run_within<F: Files, S: Sink, W: Watcher>(
 /// - 5 and 6: a call on the files or the output failed, and ended the run;
 /// - 7: memory is wanting, before the first line or for a command of the script;
 /// - 8: a file has more than 134,217,728 bytes, of a script before a line `quit`.
-pub fn run<F: Files, S: Sink, W: Watcher>(
+pub fn run<F: Files, S: Sink>(alloc: Global, words: &[String], files: &mut F, out: &mut S) -> u8
+    // What is written is the transcript of a plain desk, or a front of it, and each status has its cause.
+    ensures form { IsRun (form_of (map string_bytes words.now)) file_limit
+        (record {
+          holds = F.holds files.old;
+          before = moment (F.asked files.old) (F.is_open files.old) (F.left files.old) (S.written out.old) (F.faults files.old) (S.faults out.old);
+          now = moment (F.asked files.new) (F.is_open files.new) (F.left files.new) (S.written out.new) (F.faults files.new) (S.faults out.new);
+        })
+        result }
+{
+    let mut watcher = Silent;
+    run_watched(alloc, words, files, out, &mut watcher)
+}
+
+/// Does the same as [`run`], and tells the watcher how far a long command has come.
+pub fn run_watched<F: Files, S: Sink, W: Watcher>(
     alloc: Global,
     words: &[String],
     files: &mut F,
     out: &mut S,
     watcher: &mut W,
 ) -> u8
-    // What is written is the transcript of a plain desk, or a front of it, and each status has its cause.
     ensures form { IsRun (form_of (map string_bytes words.now)) file_limit
         (record {
           holds = F.holds files.old;

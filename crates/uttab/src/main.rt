@@ -14,7 +14,7 @@ use std::alloc::Global;
 use std::io::{Error, IsTerminal};
 use std::process::ExitCode;
 use tt_io::{RealFiles, StdSink, StdWatcher};
-use tt_top::run;
+use tt_top::run_watched;
 
 // Says on standard error how a run ended whose output doesn't say it, where this is the name that was
 // asked for last, and this the error of the call that failed. Where standard error takes nothing, the
@@ -39,7 +39,7 @@ fn main(rt: HostRuntime) -> ExitCode {
     let mut out = StdSink::new(rt);
     let mut watcher = StdWatcher::new(rt, rt.stderr().is_terminal());
     let status = match arguments(&rt, alloc) {
-        Ok(words) => run(alloc, &words, &mut files, &mut out, &mut watcher),
+        Ok(words) => run_watched(alloc, &words, &mut files, &mut out, &mut watcher),
         Err(end) => end.status(),
     };
     let error = if status == 6 {
