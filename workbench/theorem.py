@@ -7,7 +7,7 @@ import re
 from collections import Counter, defaultdict
 from dataclasses import dataclass, field
 
-from repository import CRATES, code_lines
+from repository import CRATES
 
 Name = tuple[str, str]  # the module and the definition
 
@@ -21,17 +21,19 @@ ROOTS = {
 DEFINED = re.compile(r"(?:(?:abbrev|unfoldable|opaque) )?(?:pub )?(?:(record )([^\s:(]+)|([^\s:(]+) ?:)")
 IMPORTED = re.compile(r"use Rattle\.([\w.]+)\.\{(.*)\}")
 MODULE = re.compile(r"use Rattle\.([\w.]+)(?: as (\w+))?")
+COMMENT = re.compile(r"\s*--")
 WORD = re.compile(r"[A-Za-z_][\w'ℕ-]*(?:\.[A-Za-z_][\w'-]*)*|◌[^\s,}]+◌|>>=")
 
 
 @dataclass
 class Module:
-    """A file of specs/: its mark, what it imports, and its definitions with their lines."""
+    """A file of specs/: its mark, what it imports, and its definitions with their lines, and how many comment lines each has."""
 
     mark: str
     names: dict[str, Name] = field(default_factory=dict)
     modules: dict[str, str] = field(default_factory=dict)
     definitions: dict[str, list[str]] = field(default_factory=dict)
+    comments: Counter[str] = field(default_factory=Counter)
 
     def take_import(self, line: str) -> None:
         if match := IMPORTED.match(line):
@@ -45,7 +47,11 @@ class Module:
 def module_of(text: str) -> Module:
     found = Module(re.sub(r"^--\s*", "", text).split(".")[0].split(" ")[0].rstrip(":,"))
     open_one: str | None = None
-    for line in code_lines(text).split("\n"):
+    above = 0  # the comment lines right above
+    for line in text.split("\n"):
+        if COMMENT.match(line):
+            above += 1
+            continue
         if line.startswith("use "):
             found.take_import(line)
         elif line and not line[0].isspace():
@@ -53,8 +59,11 @@ def module_of(text: str) -> Module:
             open_one = (match[2] or match[3]) if match else open_one
             if open_one:
                 found.definitions.setdefault(open_one, []).append(line)
+                found.comments[open_one] += above
         elif line.strip() and open_one:
             found.definitions[open_one].append(line)
+            found.comments[open_one] += above
+        above = 0
     return found
 
 
@@ -100,6 +109,10 @@ def lines_of(modules: dict[str, Module], names: set[Name]) -> int:
     return sum(len(modules[module].definitions[name]) for module, name in names)
 
 
+def comments_of(modules: dict[str, Module], names: set[Name]) -> int:
+    return sum(modules[module].comments[name] for module, name in names)
+
+
 def tell_files(modules: dict[str, Module], names: set[Name]) -> None:
     """Writes each file that is reached, with how many of its definitions are, and their lines."""
     count = Counter(module for module, _ in names)
@@ -122,7 +135,8 @@ def theorem(files: bool, words: bool) -> int:
     modules = read_modules()
     for title, roots in ROOTS.items():
         names = reached(modules, roots)
-        print(f"{title}: {len(names)} definitions in {lines_of(modules, names)} lines")
+        lines = lines_of(modules, names)
+        print(f"{title}: {len(names)} definitions in {lines} lines, {lines + comments_of(modules, names)} with their comments")
     if files:
         tell_files(modules, names)
     if words:

@@ -114,9 +114,10 @@ def test_each_command_and_refusal_stands_in_its_worked_case() -> None:
 
 def test_what_must_be_believed_is_counted() -> None:
     told = subprocess.run([TOP / "dev", "theorem"], capture_output=True, text=True, check=True).stdout
-    counts = re.findall(r": (\d+) definitions in (\d+) lines", told)
+    counts = re.findall(r": (\d+) definitions in (\d+) lines, (\d+) with their comments", told)
     text = (TOP / "docs/THEOREM.md").read_text(encoding="utf-8").replace(",", "")
-    shown = re.search(r"these are (\d+) in (\d+) lines with `verify` (\d+) in (\d+) with `demo` and `make` (\d+) in (\d+) ", text)
+    numbers = r"(\d+) in (\d+) lines (\d+) with their comments"
+    shown = re.search(rf"these are {numbers}; with `verify` {numbers}; with `demo` and `make` {numbers} ", text)
     assert shown is not None
     assert shown.groups() == tuple(number for pair in counts for number in pair)
 
