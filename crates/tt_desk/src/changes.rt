@@ -5,6 +5,7 @@ ghost use Rattle.tt_desk.specs.Desk.{command_step, known_classes, obstacle_refus
 ghost use Rattle.tt_problem.specs.Valid.{IsTimeOf};
 ghost use Rattle.tt_desk.specs.Causes.{MayTake};
 
+use crate::moved::{count_among, count_with_conflicts, count_with_taken};
 use crate::refusal::{Outcome, Refusal};
 use crate::reply::add_taken;
 use crate::session::Session;
@@ -69,6 +70,7 @@ fn written_time(
 
 impl Session {
     /// Gives a class a value, by ids and the number of a time.
+    #[tactic(auto, using(crate::proofs::MovedLemmas::moved_once))]
     pub(crate) fn assign(
         &mut self,
         class: u32,
@@ -85,13 +87,17 @@ impl Session {
         match find(self.state.problem(), class, time, room) {
             Err(fault) => Ok(Outcome::Refused(value_refusal(fault))),
             Ok(value) => {
+                let was = count_among(&self.state, &self.published, &[class]);
                 self.state.assign(class, value)?;
+                let is = count_among(&self.state, &self.published, &[class]);
+                self.moved.step_over(&self.state, &self.published, was, is);
                 Ok(Outcome::Accepted)
             }
         }
     }
 
     /// Takes its value from a class, by its id.
+    #[tactic(auto, using(crate::proofs::MovedLemmas::moved_once))]
     pub(crate) fn unassign(&mut self, class: u32) -> Result<Outcome, AllocError>
         ensures ok { IfOk result (λ outcome. command_step self.old (Command.Unassign class) ≡ record { session = self.new; outcome = outcome; lines = [] }) }
         ensures memory { OnErr result (MayTake self.old (Command.Unassign class)) }
@@ -100,7 +106,10 @@ impl Session {
         let Some(class) = self.state.problem().class_of(class) else {
             return Ok(Outcome::Refused(Refusal::NoSuchClass));
         };
+        let was = count_among(&self.state, &self.published, &[class]);
         if self.state.unassign(class)? {
+            let is = count_among(&self.state, &self.published, &[class]);
+            self.moved.step_over(&self.state, &self.published, was, is);
             Ok(Outcome::Accepted)
         } else {
             Ok(Outcome::Refused(Refusal::NotPlaced))
@@ -120,7 +129,10 @@ impl Session {
             return Ok(Outcome::Refused(Refusal::NoSuchStudent));
         };
         match self.state.section(student, &classes)? {
-            None => Ok(Outcome::Accepted),
+            None => {
+                self.moved.step(&self.state, &self.published);
+                Ok(Outcome::Accepted)
+            }
             Some(SectionFault::Invalid) => Ok(Outcome::Refused(Refusal::NoEnrolment)),
             Some(SectionFault::Full { class }) => Ok(Outcome::Refused(Refusal::NoSeat {
                 class: self.state.problem().class_id(class),
@@ -138,6 +150,7 @@ impl Session {
             return Ok(Outcome::Refused(Refusal::NoSuchStudent));
         };
         if self.state.drop_student(student)? {
+            self.moved.step(&self.state, &self.published);
             Ok(Outcome::Accepted)
         } else {
             Ok(Outcome::Refused(Refusal::NotSectioned))
@@ -164,6 +177,7 @@ impl Session {
             return Ok(Outcome::Refused(Refusal::BadTime));
         };
         if self.state.close(room, time)? {
+            self.moved.step(&self.state, &self.published);
             Ok(Outcome::Accepted)
         } else {
             Ok(Outcome::Refused(Refusal::TooManyClosures))
@@ -180,6 +194,7 @@ impl Session {
             return Ok(Outcome::Refused(Refusal::NoSuchRoom));
         };
         if self.state.reopen(room)? {
+            self.moved.step(&self.state, &self.published);
             Ok(Outcome::Accepted)
         } else {
             Ok(Outcome::Refused(Refusal::NothingClosed))
@@ -191,6 +206,7 @@ impl Session {
         ensures { command_step self.old Command.Undo ≡ record { session = self.new; outcome = result; lines = [] } }
     {
         if self.state.undo() {
+            self.moved.back(&self.state, &self.published);
             Outcome::Accepted
         } else {
             Outcome::Refused(Refusal::NothingToUndo)
@@ -220,10 +236,13 @@ impl Session {
             Ok(value) => value,
             Err(fault) => return Ok(Outcome::Refused(value_refusal(fault))),
         };
+        let was = count_with_conflicts(&mut self.state, &self.published, class, value);
         if let Some(obstacle) = self.state.force(class, value)? {
             let refusal = obstacle_refusal(self.state.problem(), obstacle);
             return Ok(Outcome::Refused(refusal));
         }
+        let is = count_with_taken(&self.state, &self.published, class);
+        self.moved.step_over(&self.state, &self.published, was, is);
         if add_taken(reply, self.state.problem(), self.state.taken()).is_err() {
             return Err(Wanting::Reply);
         }

@@ -33,7 +33,10 @@ impl Session {
             return Ok(Outcome::Refused(Refusal::NoSuchClass));
         };
         match self.state.lock(class)? {
-            None => Ok(Outcome::Accepted),
+            None => {
+                self.moved.step(&self.state, &self.published);
+                Ok(Outcome::Accepted)
+            }
             Some(fault) => Ok(Outcome::Refused(lock_refusal(fault))),
         }
     }
@@ -45,6 +48,7 @@ impl Session {
         ensures kept { OnErr result (self.new ≡ self.old) }
     {
         let count = self.state.lock_all()?;
+        self.moved.step(&self.state, &self.published);
         put_locked(reply, count);
         Ok(Outcome::Accepted)
     }
@@ -59,6 +63,7 @@ impl Session {
             return Ok(Outcome::Refused(Refusal::NoSuchClass));
         };
         if self.state.unlock(class)? {
+            self.moved.step(&self.state, &self.published);
             Ok(Outcome::Accepted)
         } else {
             Ok(Outcome::Refused(Refusal::NotLocked))
@@ -72,6 +77,7 @@ impl Session {
         ensures kept { OnErr result (self.new ≡ self.old) }
     {
         let count = self.state.unlock_all()?;
+        self.moved.step(&self.state, &self.published);
         put_unlocked(reply, count);
         Ok(Outcome::Accepted)
     }
