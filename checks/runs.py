@@ -20,6 +20,7 @@ DATA = HERE.parent / "crates/worked_cases/data"
 NO_MEMORY = 7
 TOLD = (5, 6, 7, 8)  # the statuses that come with a line on the standard error
 SHOWN = 5  # wrong runs of one case that are written whole
+FEW = 100  # failures of one kind that are tried in a case, where there are more than can be tried
 
 
 class Stop(Exception):
@@ -183,8 +184,8 @@ def parser_of(name: str, text: str | None) -> argparse.ArgumentParser:
                                      epilog="status: 0 nothing was wrong; 1 a run was wrong; 2 the check can't be made")
     parser.add_argument("program", metavar="PROGRAM", nargs="?", default=PROGRAM, help="the built program; else the one that ./uttab makes")
     parser.add_argument("--only", metavar="WORD", action="append", help="cases with this word in their names alone; may be given again")
-    parser.add_argument("--most", metavar="N", type=int, default=100,
-                        help="failures of one kind that are tried in a case, at most (100)")
+    parser.add_argument("--most", metavar="N", type=int,
+                        help="failures of one kind that are tried in a case, at most (`calls`: 100; `memory`: all of up to 1,000, else 100)")
     parser.add_argument("--at", metavar="N", type=int, help="the Nth failure of each kind alone")
     parser.add_argument("--jobs", metavar="N", type=int, default=os.cpu_count(), help="runs at a time (the number of processors)")
     parser.add_argument("--seconds", metavar="N", type=int, default=60, help="the time that a run may take (60)")

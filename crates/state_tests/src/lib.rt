@@ -1,6 +1,6 @@
 //! Tests of the crates from the problem up to the state, over a problem that is read from a text.
 //! They stand in a crate of their own, since each crate is proved with and without its tests. It has
-//! no code of its own.
+//! no code of its own; `proofs/Examples.antt` has the entries of a step at a worked example.
 #![tactic(auto)]
 
 #[cfg(test)]
