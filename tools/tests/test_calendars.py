@@ -115,6 +115,7 @@ def test_faults_of_words(tool: Tool) -> None:
     files = ("calendars", FACULTY / "problem.json", FACULTY / "term.json")
     tool(*files, status=2)
     assert "2026-10-06: is a Tuesday, and the week begins with Monday" in tool(*files, "--first-day", "2026-10-06", status=2)[1]
+    assert "the term would end after the year 9999" in tool(*files, "--first-day", "9999-11-29", status=2)[1]
     assert "'today' is no date" in tool(*files, "--first-day", "today", status=2)[1]
     assert "--zone Mars/Olympus: is no time zone" in tool(*files, "--first-day", MONDAY, "--zone", "Mars/Olympus", status=2)[1]
     assert "--student 999: there is none" in tool(*files, "--first-day", MONDAY, "--student", 999, status=2)[1]

@@ -66,6 +66,13 @@ student 8
 """
 
 
+def test_the_number_0(tool: Tool, write: Write) -> None:
+    value = json.dumps(problem()).replace('"id": 7', '"id": 0')
+    old, new = (timetable((1, "10", 96, room, [0])) for room in (1, 2))
+    out, _ = tool("compare", write("problem.json", value), write("old.json", old), write("new.json", new))
+    assert "\nstudent 0 Ada\n" in out
+
+
 def test_drafts(compare: Compare) -> None:
     """A class that is no longer in the timetable, and one that is new in it."""
     old = timetable((1, "10", 96, 1, [7, 8]), (2, "10", 120, 1, [7, 8]))

@@ -186,7 +186,8 @@ def test_encodings_that_there_are_not(encoding: str, problem: Turn) -> None:
 
 
 def test_bytes_of_another_encoding(problem: Turn) -> None:
-    assert "can't be read as XML" in problem(PROBLEM.replace("small", "Größe").encode("latin-1"), status=3)[1]
+    told = problem(PROBLEM.replace("small", "Größe").encode("latin-1"), status=3)[1]
+    assert "can't be read as XML" in told and told.count("\n") == 1
 
 
 def test_entities_are_not_read(problem: Turn, tmp_path: Path) -> None:

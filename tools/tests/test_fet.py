@@ -87,12 +87,18 @@ def test_the_teachers(tool: Tool, tmp_path: Path) -> None:
 
 
 @pytest.mark.parametrize("old, new, told", [
-    ("<fet version", "<institution version", "no XML: "),
-    ("</fet>", "", "no XML: "),
+    ("<fet version", "<institution version", "can't be read as XML: Opening and ending tag mismatch"),
+    ("</fet>", "", "can't be read as XML: Premature end of data in tag fet"),
+    ("A School", "<a>" * 300 + "</a>" * 300, "can't be read as XML: Excessive depth"),
+    ('encoding="UTF-8"', 'encoding="KLINGON-8"', "line 1: can't be read as XML: Unsupported encoding KLINGON-8"),
     ("<Duration>2", "<Duration>two", "line 30: the <Duration> of <Activity> is 'two', no whole number"),
     ("<Students>1B", "<Students>1C", "line 32: activity 3: there are no students '1C'"),
     ("<Day>Wed</Day>", "<Day>Sat</Day>", "<Day>: there is no 'Sat'"),
     ("<Weight_Percentage>95", "<Weight_Percentage>much", "the <Weight_Percentage> is 'much', no number"),
+    ("<Weight_Percentage>95", "<Weight_Percentage>nan", "the <Weight_Percentage> is 'nan', no number"),
+    ("<Duration>2", "<Duration>0", "line 30: activity 1 lasts 0 hours, and a day has 6"),
+    ("<Duration>2", "<Duration>7", "line 30: activity 1 lasts 7 hours, and a day has 6"),
+    ("<Id>2</Id>", "<Id>1</Id>", "line 31: an earlier activity has the <Id> 1"),
 ])
 def test_faults(old: str, new: str, told: str, tool: Tool, write: Write) -> None:
     text = SCHOOL.read_text()
@@ -100,10 +106,11 @@ def test_faults(old: str, new: str, told: str, tool: Tool, write: Write) -> None
     assert told in tool("fet", "problem", write("broken.fet", text.replace(old, new)), status=3)[1]
 
 
-def test_entities_stay_as_they_are(tool: Tool, write: Write) -> None:
+def test_entities_are_not_read(tool: Tool, write: Write) -> None:
     text = SCHOOL.read_text().replace("<fet version", '<!DOCTYPE fet [<!ENTITY x SYSTEM "file:///etc/passwd">]>\n<fet version')
-    out, _ = tool("fet", "problem", write("entity.fet", text.replace("A School", "A &x;School")), status=1)
-    assert "root:" not in out
+    for name in ("A &x;School", "A School"):
+        out, told = tool("fet", "problem", write("entity.fet", text.replace("A School", name)), status=3)
+        assert out == "" and "declares entities, which aren't read" in told
 
 
 @needs_program

@@ -165,6 +165,8 @@ def test_closures_are_written_into_the_problem(tool: Tool, files: tuple[str, str
     closed = json.loads(tool("close_rooms", files[0], lines)[0])
     assert [room["unavailable"] for room in closed["rooms"]] == [
         [{"days": "10", "start": 0, "length": 24, "weeks": "001111"}], [{"days": "01", "start": 3, "length": 1, "weeks": "100000"}]]
+    told = tool("close_rooms", files[0], write("none.txt", "enrol all\n"))[1]
+    assert told.endswith("none.txt: has no line `close`: the problem is as it was\n")
     for line, words in (
         ("close 3 10 0 24 001111", "line 1: /room: the problem has no room 3"),
         ("close 1 10 0 24", "line 1: is no `close ROOM DAYS START LENGTH WEEKS`"),

@@ -139,6 +139,7 @@ def test_a_page_that_can_be_given_away(files: tuple[str, str], page: Make, tool:
     assert "Ada" not in out and made.text["students"].strip() == ""
     assert json.loads(made.text["data"])["classes"] == [] and "student-part" not in made.text
     assert "2 of 20" in made.text["k1"] and 'value="s"' not in out
+    assert "nothing would be left" in tool("page", *files, "--without-students", "--student", 1, status=2)[1]
 
 
 def test_a_page_for_each_part(files: tuple[str, str], tool: Tool, tmp_path: Path, write: Write) -> None:
@@ -159,6 +160,14 @@ def test_a_page_for_each_part(files: tuple[str, str], tool: Tool, tmp_path: Path
     assert "--room 77: there is none" in tool("page", *files, "--room", 77, status=2)[1]
     assert "-o has no place" in tool(*words, "-o", tmp_path / "x.html", status=2)[1]
     assert "--of pupil: takes student" in tool("page", *files, "--folder", tmp_path / "x", "--of", "pupil", status=2)[1]
+
+
+def test_names_that_differ_in_signs_alone(files: tuple[str, str], tool: Tool, tmp_path: Path, write: Write) -> None:
+    teachers = write("teachers.csv", "teacher,class\nA. North,1\nA North,2\na-north 2,5\n???,5\n")
+    tool("page", *files, "--teachers", teachers, "--folder", tmp_path / "pages", "--of", "teacher")
+    titles = {path.name: path.read_text(encoding="utf-8").split("<title>")[1].split("</title>")[0] for path in (tmp_path / "pages").iterdir()}
+    assert titles == {"teacher_A_North.html": "Teacher: A. North", "teacher_A_North_2.html": "Teacher: A North",
+                      "teacher_a_north_2_2.html": "Teacher: a-north 2", "teacher_.html": "Teacher: ???"}
 
 
 def test_a_student_who_cannot_attend_all(files: tuple[str, str], page: Make, changed: Callable[..., str], tool: Tool) -> None:

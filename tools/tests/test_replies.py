@@ -24,6 +24,12 @@ def test_a_run_without_a_timetable(text: str, reason: str, tool: Tool) -> None:
     assert tool("timetable", text=text, status=1) == ("", f"timetable: the run wrote no timetable: {reason}\n")
 
 
+@pytest.mark.parametrize("line", ['{"classes":[{"days":"10","id', '{"classes":[]', "{}", '{"classes":1}', "{" * 3000])
+def test_a_timetable_that_is_cut_off(line: str, tool: Tool) -> None:
+    told = "timetable: -: its last timetable is cut off, or is none: the run ended before all of it was written\n"
+    assert tool("timetable", text=f'{OPEN}{{"classes":[]}}\n{OK}{line}', status=3) == ("", told)
+
+
 @needs_cases
 def test_the_timetable_of_a_worked_case(tool: Tool) -> None:
     assert WORKED_CASES is not None

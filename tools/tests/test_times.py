@@ -102,6 +102,7 @@ def test_names_as_spreadsheets_save_them(names: Callable[[str], Names]) -> None:
     found = names("\ufeffKind;Id;Name\r\nRoom;1;The \"Hall\", old\r\nday;6;Samedi\r\n\r\nstudent;9;nobody\r\n")
     assert (found.label("room", 1), found.day(5), found.day(4)) == ('The "Hall", old', "Samedi", "Friday")
     assert names('room,1,"a\nb"\n').get("room", 1) == "a b"
+    assert names("room,1,a\u2028b\x0bc\nroom,2,d\n").get("room", 1) == "a b c"
 
 
 @pytest.mark.parametrize("text, words", [
@@ -144,6 +145,18 @@ def test_one_file_alone_is_the_standard_input(files: tuple[str, str], tool: Tool
     with open(files[0], encoding="utf-8") as file:
         told = tool("table", "-", "-", text=file.read(), status=3)[1]
     assert told == "table: -: nothing is left of the standard input, which can be one file alone\n"
+
+
+@pytest.mark.parametrize("value, words", [
+    ("NaN", "no JSON text: NaN is no number"), ("-Infinity", "no JSON text: -Infinity is no number"),
+    (r'"\ud800"', "no JSON text: a text has one half of a character alone"), (r'{"\uDC00": 1}', "one half of a character alone"),
+])
+def test_what_json_takes_and_uttab_does_not(value: str, words: str, files: tuple[str, str], tool: Tool, write: Write) -> None:
+    with open(files[0], encoding="utf-8") as file:
+        text = file.read()
+    assert words in tool("table", write("p.json", text.replace("{", f'{{"own": {value}, ', 1)), files[1], status=3)[1]
+    whole = write("whole.json", text.replace("{", '{"own": "\\ud83d\\ude00", ', 1))
+    assert tool("table", whole, files[1]) == tool("table", *files)
 
 
 def test_versions(write: Write) -> None:

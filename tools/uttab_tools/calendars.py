@@ -20,12 +20,10 @@ from pathlib import Path
 
 from icalendar import Calendar, Event
 
-from uttab_tools.names import Names
-from uttab_tools.parts import Part, add_part_words, kinds_of, part_given, parts
-from uttab_tools.problem import Problem
-from uttab_tools.program import DONE, Command, FileFault, Folder, Output, tell
-from uttab_tools.published import Meeting, Published
-from uttab_tools.teachers import read_teachers
+from uttab_tools.given import add_timetable, timetable_given
+from uttab_tools.parts import Part, add_part_words, files_of, kinds_of, part_given, parts
+from uttab_tools.program import DONE, Command, FileFault, Folder, Output, Usage
+from uttab_tools.published import Meeting
 from uttab_tools.term import Term, a_date, read_term
 from uttab_tools.times import minutes
 from uttab_tools.timetable import Timetable
@@ -45,10 +43,11 @@ class CalendarMaker:
         name = re.sub(r"[^a-z0-9]+", "-", timetable.problem.name.lower()).strip("-") or "timetable"
         self.domain = f"{term.first:%Y%m%d}.{name}.uttab"
         self.stamp = datetime.fromtimestamp(int(os.environ.get("SOURCE_DATE_EPOCH") or datetime.now().timestamp()), timezone.utc)
-        self.component = None
-        if zone:
-            last = term.first + timedelta(7 * timetable.problem.weeks + len(term.pauses) + 7)
-            self.component = zone_component(zone, term.first, last)
+        try:
+            last = term.first + timedelta(7 * timetable.problem.weeks + len(term.pauses) + 50)
+        except OverflowError:
+            raise Usage(f"--first-day {term.first}: the term would end after the year 9999") from None
+        self.component = zone_component(zone, term.first, last) if zone else None
 
     def calendar(self, title: str, meetings: Iterable[Meeting], earlier: bytes | None, file: str) -> bytes:
         calendar = Calendar()
@@ -176,18 +175,12 @@ def earlier_edition(path: Path) -> bytes | None:
 
 def write_folder(maker: CalendarMaker, chosen: Iterable[Part], name: str) -> None:
     """A calendar for each part that has a class, or had one in an earlier edition."""
-    folder = Folder(name)
-    try:
-        for part in chosen:
-            file = f"{part.file}.ics"
+    with Folder(name) as folder:
+        for file, part in files_of(chosen, ".ics"):
             earlier = earlier_edition(folder.path / file)
             if part.meetings or earlier:
                 folder.write(file, maker.calendar(part.title, part.meetings, earlier, str(folder.path / file)))
-        left = folder.finish()
-    finally:
-        folder.discard()
-    if left:
-        tell("calendars", f"{name}: {len(left):,} files were there already and aren't of this timetable (first: {min(left)})")
+    folder.tell_others("calendars")
 
 
 def a_day(word: str) -> date:
@@ -198,8 +191,7 @@ def a_day(word: str) -> date:
 
 
 def words(parser: ArgumentParser) -> None:
-    parser.add_argument("problem", metavar="PROBLEM", help="the problem file")
-    parser.add_argument("published", metavar="PUBLISHED", help="the timetable, as `publish` or `draft` writes it")
+    add_timetable(parser)
     parser.add_argument("--first-day", metavar="DATE", type=a_day, required=True, help="the first day of the first week, as 2026-10-05")
     parser.add_argument("--holidays", metavar="CSV", help="lines kind,first,last,name; the kinds are holiday and pause")
     parser.add_argument("--zone", metavar="ZONE", help="the time zone, such as Europe/Prague")
@@ -207,18 +199,14 @@ def words(parser: ArgumentParser) -> None:
 
 
 def run(given: Namespace, output: Output) -> int:
-    problem = Problem(given.problem)
-    published = Published(given.published, problem)
-    names = Names(problem, given.names)
-    teachers = read_teachers(given.teachers, problem) if given.teachers else None
-    timetable = Timetable(problem, published, names, teachers)
-    term = read_term(given.first_day, given.holidays, names.day(0))
+    timetable = timetable_given(given)
+    term = read_term(given.first_day, given.holidays, timetable.names.day(0))
     maker = CalendarMaker(timetable, term, given.zone)
     part = part_given(given, timetable)
     if given.folder:
         write_folder(maker, parts(timetable, kinds_of(given)), given.folder)
         return DONE
-    title = part.title if part else f"Timetable: {problem.name}" if problem.name else "Timetable"
+    title = part.title if part else timetable.title
     meetings = part.meetings if part else list(timetable.meetings.values())
     earlier = earlier_edition(Path(given.output)) if given.output else None
     output.binary.write(maker.calendar(title, meetings, earlier, given.output or ""))

@@ -6,12 +6,11 @@ CLOSURES has lines `close ROOM DAYS START LENGTH WEEKS`, as a session takes them
 comments and the rest of a script, are skipped. Each becomes a time at which its room is unavailable."""
 
 import argparse
-import json
 from collections.abc import Iterator
 
 from uttab_tools import limits
 from uttab_tools.problem import Problem
-from uttab_tools.program import DONE, Command, FileFault, Output
+from uttab_tools.program import DONE, Command, FileFault, Output, tell
 from uttab_tools.raw import Value, parts, with_parts
 from uttab_tools.reading import Reader, reading
 
@@ -28,8 +27,9 @@ def run(given: argparse.Namespace, output: Output) -> int:
         closed.setdefault(room, []).append(time)
     rooms = [_with(room, closed.get(number, []), given.closures)
              for number, room in zip(problem.rooms, parts(problem.value, "rooms"), strict=True)]
-    json.dump(with_parts(problem.value, rooms=rooms), output.text, ensure_ascii=False, separators=(",", ":"))
-    output.write("\n")
+    output.write_json(with_parts(problem.value, rooms=rooms))
+    if not closed:
+        tell("close_rooms", f"{given.closures}: has no line `close`: the problem is as it was")
     return DONE
 
 

@@ -18,12 +18,10 @@ from jinja2 import Environment, FileSystemLoader, StrictUndefined
 from markupsafe import Markup
 
 from uttab_tools.changes import Changes
-from uttab_tools.names import Names
-from uttab_tools.problem import Problem
+from uttab_tools.given import PROGRAM, add_names, named_problem
 from uttab_tools.program import DONE, Command, Output, Usage
 from uttab_tools.published import Published
-from uttab_tools.table import write_csv
-from uttab_tools.teachers import read_teachers
+from uttab_tools.sheet import csv_text
 from uttab_tools.timetable import Timetable
 from uttab_tools.uttab_program import verified_sum
 
@@ -58,7 +56,8 @@ def text(changes: Changes, costs: list[tuple[str, str]], without_students: bool)
         yield f"    was {change.was or 'not in the timetable'}\n    is  {change.now or 'not in the timetable'}\n"
     for kind, people in (("teacher", changes.teachers), ("student", [] if without_students else changes.students)):
         for person in people:
-            own = " ".join(word for word in (kind, str(person.number or ""), person.name) if word)
+            number = "" if person.number is None else str(person.number)
+            own = " ".join(word for word in (kind, number, person.name) if word)
             yield f"\n{own}\n"
             for one in person.changes:
                 yield f"    {one.words}\n"
@@ -94,22 +93,18 @@ def words(parser: ArgumentParser) -> None:
     parser.add_argument("problem", metavar="PROBLEM", help="the problem file")
     parser.add_argument("old", metavar="OLD", help="the timetable that was, as `publish` or `draft` writes it")
     parser.add_argument("new", metavar="NEW", help="the timetable that is")
-    parser.add_argument("--names", metavar="CSV", help="names of rooms, courses, classes, students and days")
-    parser.add_argument("--teachers", metavar="CSV", help="the teachers and their classes")
+    add_names(parser)
     parser.add_argument("--as", dest="form", choices=("text", "csv", "told", "page"), default="text",
                         help="text (if nothing is said), a table of classes, a table of who has to be told, or a page")
     parser.add_argument("--without-students", action="store_true", help="leave out all that is known of students, but their number")
     parser.add_argument("--costs", action="store_true", help="as text and as a page: what `uttab verify` says of both")
-    parser.add_argument("--program", metavar="FILE",
-                        help="with --costs: the built program; else the one that the environment's UTTAB names, or that ./uttab makes")
+    parser.add_argument("--program", metavar="FILE", help=f"with --costs: {PROGRAM}")
 
 
 def run(given: Namespace, output: Output) -> int:
     if [given.problem, given.old, given.new].count("-") and given.costs:
         raise Usage("--costs: reads the files once more, so none of them may be `-`")
-    problem = Problem(given.problem)
-    names = Names(problem, given.names)
-    teachers = read_teachers(given.teachers, problem) if given.teachers else None
+    problem, names, teachers = named_problem(given)
     old, new = (Timetable(problem, Published(name, problem), names, teachers) for name in (given.old, given.new))
     changes = Changes(old, new)
     costs = [(name, verified_sum(given.problem, name, given.program)) for name in (given.old, given.new)] if given.costs else []
@@ -118,7 +113,7 @@ def run(given: Namespace, output: Output) -> int:
     elif given.form == "page":
         output.write(page(changes, costs, given.without_students))
     else:
-        write_csv(output, class_rows(changes) if given.form == "csv" else told_rows(changes, given.without_students))
+        output.write(csv_text(class_rows(changes) if given.form == "csv" else told_rows(changes, given.without_students)))
     return DONE
 
 

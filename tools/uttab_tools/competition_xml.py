@@ -1,7 +1,6 @@
 """Reads the competition's XML. A Relax NG schema says what a file holds; faults name the line and the part.
 
-No entity is read and nothing is fetched. What the schema doesn't know, elements and attributes alike, is told and taken
-out before the file is held against it."""
+What the schema doesn't know, elements and attributes alike, is told and taken out before the file is held against it."""
 
 import re
 from dataclasses import dataclass, field
@@ -11,8 +10,8 @@ from typing import NoReturn
 from lxml import etree
 
 from uttab_tools.program import FileFault
-from uttab_tools.reading import reading_bytes
 from uttab_tools.report import Report
+from uttab_tools.xml_tree import read_tree
 
 DATA = Path(__file__).resolve().parent / "data"
 RELAX_NG = "{http://relaxng.org/ns/structure/1.0}"
@@ -82,16 +81,7 @@ def line_of(element: etree._Element) -> str:
 
 def read_xml(file: str, kind: str, report: Report) -> etree._Element:
     """The root of a competition's file, held against the schema of its kind."""
-    parser = etree.XMLParser(resolve_entities=False, no_network=True, load_dtd=False, remove_comments=True, remove_pis=True,
-                             collect_ids=False)
-    try:
-        with reading_bytes(file) as source:
-            tree = etree.parse(source, parser)
-    except etree.XMLSyntaxError as error:
-        words = re.sub(r", line \d+, column \d+( \(.*\))?$", "", error.msg or "no XML text")
-        raise FileFault(f"{file}: line {error.lineno}: can't be read as XML: {words}") from None
-    if tree.docinfo.internalDTD is not None and any(True for _ in tree.docinfo.internalDTD.iterentities()):
-        raise FileFault(f"{file}: declares entities, which aren't read")
+    tree = read_tree(file, bare=True)
     root = tree.getroot()
     if root.tag != kind:
         raise FileFault(f"{file}: is a <{root.tag}>, where a <{kind}> is wanted")

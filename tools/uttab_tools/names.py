@@ -1,6 +1,7 @@
 """Names of rooms, courses, classes, students and days."""
 
 import csv
+import io
 
 from uttab_tools.problem import Problem
 from uttab_tools.program import FileFault
@@ -64,7 +65,7 @@ def rows_of(name: str) -> list[tuple[int, list[str]]]:
     first = text.partition("\n")[0]
     delimiter = ";" if ";" in first and "," not in first else ","
     try:
-        rows = csv.reader(text.splitlines(keepends=True), delimiter=delimiter, strict=True)
+        rows = csv.reader(io.StringIO(text, newline=""), delimiter=delimiter, strict=True)
         return [(rows.line_num, row) for row in rows]
     except csv.Error as error:
         raise FileFault(f"{name}: no CSV text: {error}") from None

@@ -17,12 +17,11 @@ from pathlib import Path
 from jinja2 import Environment, FileSystemLoader, StrictUndefined
 from markupsafe import Markup
 
-from uttab_tools.names import Names
-from uttab_tools.parts import Part, add_part_words, in_order, kinds_of, meetings_of, part_given, parts
-from uttab_tools.problem import Class, Problem, Room
-from uttab_tools.program import DONE, Command, Folder, Output, tell
-from uttab_tools.published import Meeting, Published
-from uttab_tools.teachers import read_teachers
+from uttab_tools.given import add_timetable, timetable_given
+from uttab_tools.parts import Part, add_part_words, files_of, in_order, kinds_of, meetings_of, part_given, parts
+from uttab_tools.problem import Class, Room
+from uttab_tools.program import DONE, Command, Folder, Output, Usage
+from uttab_tools.published import Meeting
 from uttab_tools.timetable import Timetable
 from uttab_tools.week import WeekMaker
 
@@ -60,13 +59,13 @@ class PageMaker:
         }
 
     def whole(self, with_students: bool) -> str:
-        timetable, problem = self.timetable, self.timetable.problem
+        timetable = self.timetable
         looks = Looks(timetable)
         rooms = timetable.rooms.values()
         used = [room for room in rooms if timetable.in_room[room.id]]
         script = texts("grid.js", "week.js", "timetable.js")
         return self.environment.get_template("page_whole.html.jinja").render(
-            title=f"Timetable: {problem.name}" if problem.name else "Timetable", with_students=with_students,
+            title=timetable.title, with_students=with_students,
             figures=self.figures(looks, used), looks=looks, room_for_looks=LOOKS, used=used,
             empty=[room for room in rooms if not timetable.in_room[room.id]],
             roomless=sum(one.room is None for one in timetable.meetings.values()), marks_of=self.marks_of,
@@ -95,7 +94,9 @@ class PageMaker:
         pairs, students = timetable.student_pairs()
         beside = f", and {unknown:,} not in the problem" if unknown else ""
         rooms = f"{len(used) - unknown:,} of {len(problem.rooms):,}{beside}"
-        conflicts = "Pairs of classes that a student can’t both attend" + (f" ({students:,} student{'s' * (students > 1)})" if pairs else "")
+        conflicts = "Pairs of classes that a student can’t both attend"
+        if pairs:
+            conflicts += f" ({students:,} student{'s' * (students > 1)})"
         plain = [("Classes in the timetable", f"{len(timetable.meetings):,} of {len(problem.classes):,}"), ("Rooms used", rooms),
                  ("Courses", f"{len(problem.courses):,}"), ("Students", f"{len(problem.students):,}")]
         counted = [
@@ -163,16 +164,11 @@ def as_script(value: object) -> Markup:
 
 def write_folder(maker: PageMaker, chosen: Iterable[Part], name: str) -> None:
     """A page for each part that has a class."""
-    folder = Folder(name)
-    try:
-        for part in chosen:
+    with Folder(name) as folder:
+        for file, part in files_of(chosen, ".html"):
             if part.meetings:
-                folder.write(f"{part.file}.html", maker.part(part).encode())
-        left = folder.finish()
-    finally:
-        folder.discard()
-    if left:
-        tell("page", f"{name}: {len(left):,} files were there already and aren't of this timetable (first: {min(left)})")
+                folder.write(file, maker.part(part).encode())
+    folder.tell_others("page")
 
 
 def a_count(word: str) -> int:
@@ -182,8 +178,7 @@ def a_count(word: str) -> int:
 
 
 def words(parser: ArgumentParser) -> None:
-    parser.add_argument("problem", metavar="PROBLEM", help="the problem file")
-    parser.add_argument("published", metavar="PUBLISHED", help="the timetable, as `publish` or `draft` writes it")
+    add_timetable(parser)
     add_part_words(parser)
     parser.add_argument("--without-students", action="store_true", help="leave out all that is known of students, but their number")
     parser.add_argument("--grids", metavar="N", type=a_count, default=2,
@@ -192,10 +187,9 @@ def words(parser: ArgumentParser) -> None:
 
 
 def run(given: Namespace, output: Output) -> int:
-    problem = Problem(given.problem)
-    published = Published(given.published, problem)
-    teachers = read_teachers(given.teachers, problem) if given.teachers else None
-    timetable = Timetable(problem, published, Names(problem, given.names), teachers)
+    if given.without_students and given.student is not None:
+        raise Usage("--without-students and --student: nothing would be left")
+    timetable = timetable_given(given)
     maker = PageMaker(timetable, given.grids)
     part = part_given(given, timetable)
     if given.folder:

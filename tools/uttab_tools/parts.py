@@ -22,21 +22,26 @@ class Part:
     meetings: list[Meeting]
 
     @property
-    def file(self) -> str:
-        """The name of its file, without an ending."""
-        own = re.sub(r"\W+", "_", self.name).strip("_") if self.number is None else self.number
-        return f"{self.kind}_{own}"
-
-    @property
     def title(self) -> str:
         words = self.kind.capitalize() if self.number is None else f"{self.kind.capitalize()} {self.number}"
         return f"{words}: {self.name}" if self.name else words
 
 
+def files_of(chosen: Iterable[Part], ending: str) -> Iterator[tuple[str, Part]]:
+    """Parts, each with the name of its file. Of names that differ in signs alone the later ones get a number."""
+    taken = set[str]()
+    for part in chosen:
+        own = re.sub(r"\W+", "_", part.name).strip("_")[:50] if part.number is None else str(part.number)
+        file, count = f"{part.kind}_{own}", 1
+        while file.casefold() in taken:
+            count += 1
+            file = f"{part.kind}_{own}_{count}"
+        taken.add(file.casefold())
+        yield file + ending, part
+
+
 def add_part_words(parser: ArgumentParser) -> None:
     """The words that choose one part, or a file for each."""
-    parser.add_argument("--names", metavar="CSV", help="names of rooms, courses, classes, students and days")
-    parser.add_argument("--teachers", metavar="CSV", help="the teachers and their classes")
     one = parser.add_mutually_exclusive_group()
     for kind in KINDS[:3]:
         one.add_argument(f"--{kind}", metavar="ID", type=int, help=f"of the {kind} of this id alone")

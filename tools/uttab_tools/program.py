@@ -4,6 +4,7 @@ A command writes to a temporary file. Only when all is written does that become 
 the standard output. So a command that fails leaves nothing that could be taken for a whole answer."""
 
 import argparse
+import json
 import os
 import shutil
 import sys
@@ -13,7 +14,7 @@ from collections.abc import Callable, Sequence
 from dataclasses import dataclass
 from io import TextIOWrapper
 from pathlib import Path
-from typing import IO
+from typing import IO, Self
 
 DONE, PARTLY, WRONG_WORDS, NO_FILE, NO_OUTPUT, NO_MEMORY, CRASHED, STOPPED = 0, 1, 2, 3, 6, 7, 9, 130
 STATUSES = "2 the words are wrong; 3 a file can't be read; 6 the output failed; 7 there is no memory; 9 the command itself failed"
@@ -82,6 +83,11 @@ class Output:
     def write(self, text: str) -> None:
         self.text.write(text)
 
+    def write_json(self, value: object) -> None:
+        """Writes a value as a line of JSON."""
+        json.dump(value, self.text, ensure_ascii=False, separators=(",", ":"))
+        self.write("\n")
+
     def finish(self) -> None:
         """Puts what was written where it belongs."""
         self.text.flush()
@@ -117,7 +123,8 @@ def _mode_of(target: Path) -> int:
 
 
 class Folder:
-    """Files that are written into a folder. They are put in their places, each by a rename, when all are written."""
+    """Files that are written into a folder. They are put in their places, each by a rename, when all are written, which is
+    where the `with` ends that makes the folder."""
 
     def __init__(self, name: str) -> None:
         self.path = Path(name)
@@ -131,16 +138,25 @@ class Folder:
     def write(self, name: str, content: bytes) -> None:
         (self.temporary / name).write_bytes(content)
 
-    def finish(self) -> set[str]:
-        """Puts the files in their places. The answer is the names of those that were there and weren't written anew."""
-        written = {path.name for path in self.temporary.iterdir()}
-        for name in written:
-            os.replace(self.temporary / name, self.path / name)
-        return self.before - written
+    def __enter__(self) -> Self:
+        return self
 
-    def discard(self) -> None:
-        """Leaves nothing behind of files that weren't finished."""
-        shutil.rmtree(self.temporary, ignore_errors=True)
+    def __exit__(self, kind: type[BaseException] | None, *others: object) -> None:
+        """Puts the files in their places, and leaves nothing behind of files that weren't finished."""
+        try:
+            if kind is None:
+                written = {path.name for path in self.temporary.iterdir()}
+                for name in written:
+                    os.replace(self.temporary / name, self.path / name)
+                self.before -= written
+        finally:
+            shutil.rmtree(self.temporary, ignore_errors=True)
+
+    def tell_others(self, command: str) -> None:
+        """Tells of files that were there and weren't written anew."""
+        if self.before:
+            tell(command, f"{self.path}: {len(self.before):,} files were there already and aren't of this timetable "
+                          f"(first: {min(self.before)})")
 
 
 def tell(command: str, words: str) -> None:

@@ -2,6 +2,7 @@
 keys that have no meaning skipped. A fault names the file and the path of the value."""
 
 import json
+import re
 import sys
 from collections.abc import Iterator
 from contextlib import contextmanager
@@ -11,6 +12,9 @@ from typing import BinaryIO, NoReturn, TextIO
 from uttab_tools import limits
 from uttab_tools.limits import Range
 from uttab_tools.program import FileFault
+
+# How a half of a character that JSON writes in two halves looks.
+HALF = re.compile(r"\\u[dD][89a-fA-F]")
 
 
 @contextmanager
@@ -49,14 +53,22 @@ def load_json(name: str) -> object:
     if name == "-" and not text:
         raise FileFault("-: nothing is left of the standard input, which can be one file alone")
     try:
-        value: object = json.loads(text)
+        value: object = json.loads(text, parse_constant=_no_number)
+        if HALF.search(text):
+            json.dumps(value, ensure_ascii=False).encode()
     except RecursionError:
         raise FileFault(f"{name}: nested too deep") from None
     except json.JSONDecodeError as error:
         raise FileFault(f"{name}: line {error.lineno}, column {error.colno}: no JSON text: {error.msg}") from None
+    except UnicodeEncodeError:
+        raise FileFault(f"{name}: no JSON text: a text has one half of a character alone") from None
     except ValueError as error:
         raise FileFault(f"{name}: {error}") from None
     return value
+
+
+def _no_number(word: str) -> NoReturn:
+    raise ValueError(f"no JSON text: {word} is no number")
 
 
 class Reader:

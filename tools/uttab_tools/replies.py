@@ -3,18 +3,19 @@
     uttab run PROBLEM SCRIPT | timetable -o published.json
 
 It is the last one that the run wrote, published or a draft. Where the run wrote none, or refused to publish after the
-last one, nothing is written, and the standard error has the reason."""
+last one, nothing is written, and the standard error has the reason. Nor is a timetable written that is cut off."""
 
+import json
 from argparse import ArgumentParser, Namespace
 
-from uttab_tools.program import DONE, Command, Output, Refused
+from uttab_tools.program import DONE, Command, FileFault, Output, Refused
 from uttab_tools.reading import reading
 
 NOT_READY = "refused 22 "
 
 
-def timetable_in(replies: str) -> str:
-    """The line of the last timetable among the replies."""
+def timetable_in(replies: str, name: str) -> str:
+    """The line of the last timetable among the replies, which the file of that name has."""
     timetable, refusal = None, None
     for line in replies.split("\n"):
         if line.startswith("{"):
@@ -23,7 +24,17 @@ def timetable_in(replies: str) -> str:
             timetable, refusal = None, line
     if timetable is None:
         raise Refused(f"the run wrote no timetable: {refusal or 'it has no command `publish`, or ended before it'}")
+    if not _is_whole(timetable):
+        raise FileFault(f"{name}: its last timetable is cut off, or is none: the run ended before all of it was written")
     return timetable
+
+
+def _is_whole(timetable: str) -> bool:
+    try:
+        value = json.loads(timetable)
+    except (ValueError, RecursionError):
+        return False
+    return isinstance(value, dict) and isinstance(value.get("classes"), list)
 
 
 def words(parser: ArgumentParser) -> None:
@@ -32,7 +43,7 @@ def words(parser: ArgumentParser) -> None:
 
 def run(given: Namespace, output: Output) -> int:
     with reading(given.replies) as file:
-        output.write(f"{timetable_in(file.read())}\n")
+        output.write(f"{timetable_in(file.read(), given.replies)}\n")
     return DONE
 
 

@@ -14,6 +14,7 @@ from argparse import ArgumentParser, ArgumentTypeError, Namespace
 from collections.abc import Iterator
 
 from uttab_tools import limits
+from uttab_tools.given import PROGRAM
 from uttab_tools.program import DONE, Command, FileFault, Output, Refused, Usage, add_output
 from uttab_tools.reading import reading
 from uttab_tools.uttab_program import run_uttab, totals_of
@@ -92,8 +93,7 @@ def words(parser: ArgumentParser) -> None:
         command.add_argument("script", metavar="SCRIPT", help="the script, with the word SEED; `-` is the standard input")
         command.add_argument("seed", metavar="SEED", type=a_seed, help=f"the seed, at most {limits.SEED.most}")
         command.add_argument("--published", metavar="FILE", help="a timetable that is published from the start, as `repair` needs")
-        command.add_argument("--program", metavar="FILE",
-                             help="the built program; else the one that the environment's UTTAB names, or that ./uttab makes")
+        command.add_argument("--program", metavar="FILE", help=PROGRAM)
         add_output(command)
         command.set_defaults(does=does)
     command = commands.add_parser("best", help="finds the best of the tried seeds", description="finds the best of the tried seeds")

@@ -1,7 +1,9 @@
-"""Reads a sheet: a CSV file whose first line has the names of its columns. A fault names the file and the line."""
+"""Reads and writes sheets: CSV files whose first line has the names of the columns. A fault names the file and the line."""
 
+import csv
+import io
 import re
-from collections.abc import Callable, Container, Iterator, Sequence
+from collections.abc import Callable, Container, Iterable, Iterator
 from pathlib import Path
 from typing import NoReturn, TypeVar
 
@@ -12,7 +14,7 @@ from uttab_tools.program import FileFault
 from uttab_tools.times import Time
 from uttab_tools.words import NoWords, days_of, slot_of, weeks_of
 
-# The apostrophe that the tables put before what a spreadsheet would take for a formula.
+# The apostrophe that is written before what a spreadsheet would take for a formula.
 FORMULA = re.compile(r"^'(?=[=+\-@])")
 # A column that everyone may have for themselves.
 NOTE = "note"
@@ -105,3 +107,15 @@ def _check_head(name: str, line: int, head: list[str], columns: list[str], may_h
             raise FileFault(f"{name}: line {line}: the column {column!r} stands twice")
         if column not in (*columns, *may_have, NOTE, ""):
             raise FileFault(f"{name}: line {line}: there may be no column {column!r}, but for {', '.join([*columns, *may_have, NOTE])}")
+
+
+def plain(value: object) -> str:
+    """A field that no spreadsheet takes for a formula: one that begins like a formula gets an apostrophe before it."""
+    text = str(value)
+    return f"'{text}" if text[:1] in ("=", "+", "-", "@", "\t", "\r") else text
+
+
+def csv_text(rows: Iterable[Iterable[object]]) -> str:
+    text = io.StringIO()
+    csv.writer(text, lineterminator="\n").writerows([plain(value) for value in row] for row in rows)
+    return text.getvalue()

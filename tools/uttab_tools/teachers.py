@@ -7,7 +7,6 @@ his, or with a time at which he can't come, or both. The problem gets a required
 teacher, and loses the times of his classes at which he can't come."""
 
 import argparse
-import json
 import re
 from collections.abc import Iterator
 from dataclasses import dataclass
@@ -102,8 +101,7 @@ def run(given: argparse.Namespace, output: Output) -> int:
     value = with_teachers(problem, read_teachers(given.teachers, problem))
     for above in lists_above(value):
         raise Refused(f"the problem would have {above}")
-    json.dump(value, output.text, ensure_ascii=False, separators=(",", ":"))
-    output.write("\n")
+    output.write_json(value)
     return DONE
 
 

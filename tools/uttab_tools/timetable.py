@@ -2,6 +2,7 @@
 
 What a timetable costs is said by `uttab` alone; here it is found which classes a page has to mark."""
 
+from collections.abc import Sequence
 from dataclasses import dataclass
 from itertools import combinations
 
@@ -28,8 +29,8 @@ Notes = dict[int, list[Note]]
 class Timetable:
     """The meetings of a timetable, by class in the problem's order, and what is to be looked at."""
 
-    def __init__(self, problem: Problem, published: Published, names: Names, teachers: list[Teacher] | None = None) -> None:
-        self.problem, self.names, self.teachers = problem, names, teachers or []
+    def __init__(self, problem: Problem, published: Published, names: Names, teachers: Sequence[Teacher] = ()) -> None:
+        self.problem, self.names, self.teachers = problem, names, teachers
         self.meetings = meetings_of(problem, published)
         self.rooms = dict(problem.rooms)
         for meeting in self.meetings.values():
@@ -53,6 +54,10 @@ class Timetable:
             for one in teacher.classes:
                 self.teachers_of.setdefault(one, []).append(teacher)
         self._weeks: dict[int, str] = {}
+
+    @property
+    def title(self) -> str:
+        return f"Timetable: {self.problem.name}" if self.problem.name else "Timetable"
 
     def _find_clashes(self, meetings: list[Meeting]) -> None:
         meetings.sort(key=lambda meeting: meeting.time.start)

@@ -41,11 +41,7 @@ class Constraint:
 
     def __init__(self, kind: str, element: etree._Element, institution: Institution) -> None:
         self.kind, self.element, self.institution = kind, element, institution
-        text = institution.text(element, "Weight_Percentage") or "100"
-        try:
-            self.weight = float(text)
-        except ValueError:
-            institution.fault(element, f"the <Weight_Percentage> is {text[:60]!r}, no number")
+        self.weight = institution.weight(element)
 
     @property
     def line(self) -> int:

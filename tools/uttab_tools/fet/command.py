@@ -8,7 +8,6 @@ In the second form each activity of the file is locked to its hour and room, so 
 isn't in PUBLISHED stays as it is. docs/FET.md says what becomes of each kind of constraint."""
 
 import argparse
-import json
 
 from lxml import etree
 
@@ -18,8 +17,8 @@ from uttab_tools.fet.locking import lock
 from uttab_tools.fet.report import Report
 from uttab_tools.program import DONE, PARTLY, Command, Output, add_output, tell
 from uttab_tools.published import Published
+from uttab_tools.sheet import csv_text
 from uttab_tools.sizes import lists_above
-from uttab_tools.table import write_csv
 
 STATUSES = "0 all is written, and nothing is missing; 1 it is written, and something was left out, or `uttab` refuses it"
 
@@ -48,8 +47,7 @@ def run(given: argparse.Namespace, output: Output) -> int:
 def _problem(given: argparse.Namespace, output: Output) -> int:
     institution, report = Institution(given.file), Report()
     value = problem_of(institution, report)
-    json.dump(value, output.text, ensure_ascii=False, separators=(",", ":"))
-    output.write("\n")
+    output.write_json(value)
     if given.teachers is not None:
         _write_teachers(institution, given.teachers)
     refused = list(lists_above(value))
@@ -64,7 +62,7 @@ def _write_teachers(institution: Institution, name: str) -> None:
     lines = [[teacher, activity.id] for activity in institution.activities.values() for teacher in dict.fromkeys(activity.teachers)]
     output = Output(name)
     try:
-        write_csv(output, [["teacher", "class"], *lines])
+        output.write(csv_text([["teacher", "class"], *lines]))
         output.finish()
     finally:
         output.discard()

@@ -2,6 +2,7 @@
 
 Checked is what the reading needs, no more: FET finds every fault of its files."""
 
+import re
 from collections.abc import Iterator
 from dataclasses import dataclass
 from typing import NoReturn
@@ -9,7 +10,7 @@ from typing import NoReturn
 from lxml import etree
 
 from uttab_tools.program import FileFault
-from uttab_tools.reading import reading_bytes
+from uttab_tools.xml_tree import read_tree
 
 TRUE = ("true", "yes", "1")
 
@@ -65,7 +66,7 @@ class Institution:
 
     def __init__(self, name: str) -> None:
         self.file = name
-        self.tree = _tree(name)
+        self.tree = read_tree(name)
         self.root = self.tree.getroot()
         if self.root.tag != "fet":
             raise FileFault(f"{name}: line {self.root.sourceline}: is a <{self.root.tag}>, no <fet>")
@@ -85,7 +86,8 @@ class Institution:
         self.sizes: dict[str, int] = {}
         for year in self.root.iterfind("Students_List/Year"):
             self._read_students(year)
-        self.activities = {activity.id: activity for activity in self._activities()}
+        self.activities: dict[int, Activity] = {}
+        self._read_activities()
         self.inactive = len(self.root.findall("Activities_List/Activity")) - len(self.activities)
 
     def fault(self, element: etree._Element, words: str) -> NoReturn:
@@ -109,6 +111,13 @@ class Institution:
         if not (text.isascii() and text.isdecimal() and len(text) <= 9):
             self.fault(element, f"the <{key}> of <{element.tag}> is {text[:60]!r}, no whole number")
         return int(text)
+
+    def weight(self, element: etree._Element) -> float:
+        """How much a constraint counts: 100 is always."""
+        text = self.text(element, "Weight_Percentage") or "100"
+        if not re.fullmatch(r"-?\d+(\.\d*)?", text, re.ASCII):
+            self.fault(element, f"the <Weight_Percentage> is {text[:60]!r}, no number")
+        return float(text)
 
     def is_active(self, element: etree._Element) -> bool:
         return (element.findtext("Active") or "true").strip() in TRUE
@@ -143,7 +152,7 @@ class Institution:
         self.sizes[name] = self.number(element, "Number_of_Students", 0)
         return self.leaves[name]
 
-    def _activities(self) -> Iterator[Activity]:
+    def _read_activities(self) -> None:
         for element in self.root.iterfind("Activities_List/Activity"):
             if not self.is_active(element):
                 continue
@@ -151,20 +160,14 @@ class Institution:
             for name in groups:
                 if name not in self.leaves:
                     self.fault(element, f"activity {self.text(element, 'Id')}: there are no students {name!r}")
-            yield Activity(
-                self.number(element, "Id"), self.number(element, "Activity_Group_Id", 0), self.needed(element, "Subject"),
+            number, hours = self.number(element, "Id"), self.number(element, "Duration")
+            if number in self.activities:
+                self.fault(element, f"an earlier activity has the <Id> {number}")
+            if not 1 <= hours <= len(self.hours):
+                self.fault(element, f"activity {number} lasts {hours} hours, and a day has {len(self.hours)}")
+            self.activities[number] = Activity(
+                number, self.number(element, "Activity_Group_Id", 0), self.needed(element, "Subject"),
                 tuple((part.text or "").strip() for part in element.iterfind("Activity_Tag")),
                 tuple((part.text or "").strip() for part in element.iterfind("Teacher")),
-                groups, self.number(element, "Duration"),
-                self.number(element, "Number_Of_Students", sum(self.sizes[name] for name in groups)),
+                groups, hours, self.number(element, "Number_Of_Students", sum(self.sizes[name] for name in groups)),
             )
-
-
-def _tree(name: str) -> etree._ElementTree:
-    """The XML of a file. Entities stay as they stand, and nothing is fetched."""
-    parser = etree.XMLParser(resolve_entities=False, no_network=True, load_dtd=False, huge_tree=True, remove_comments=False)
-    try:
-        with reading_bytes(name) as file:
-            return etree.parse(file, parser)
-    except (etree.XMLSyntaxError, LookupError, ValueError) as error:
-        raise FileFault(f"{name}: no XML: {error}") from None

@@ -34,7 +34,7 @@ def lock(institution: Institution, published: Published) -> Locked:
         if placed.id not in institution.activities:
             raise FileFault(f"{published.file}: class {placed.id} is no active activity of {institution.file}")
         day, hour = _start(institution, published, layout, placed)
-        _replace(times, earlier[f"Time_Constraints_List/{TIME}"].get(placed.id, []), TIME, {
+        _replace(institution, times, earlier[f"Time_Constraints_List/{TIME}"].get(placed.id, []), TIME, {
             "Activity_Id": str(placed.id), "Preferred_Day": institution.days[day], "Preferred_Hour": institution.hours[hour]})
         done.times += 1
         if placed.room is None:
@@ -45,7 +45,7 @@ def lock(institution: Institution, published: Published) -> Locked:
         if room.virtual:
             done.virtual += 1
             continue
-        _replace(places, earlier[f"Space_Constraints_List/{ROOM}"].get(placed.id, []), ROOM, {
+        _replace(institution, places, earlier[f"Space_Constraints_List/{ROOM}"].get(placed.id, []), ROOM, {
             "Activity_Id": str(placed.id), "Room": room.name})
         done.rooms += 1
     return done
@@ -77,12 +77,11 @@ def _start(institution: Institution, published: Published, layout: Layout, place
     return day, hour
 
 
-def _replace(section: etree._Element, earlier: list[etree._Element], kind: str, parts: dict[str, str]) -> None:
+def _replace(institution: Institution, section: etree._Element, earlier: list[etree._Element], kind: str, parts: dict[str, str]) -> None:
     """Adds a constraint of weight 100 in the place of those that the activity has and that always have to hold. One that is
     locked for good stays, and so does one that says the same."""
     for element in earlier:
-        always = float(element.findtext("Weight_Percentage") or 100) >= 100 and (element.findtext("Active") or "true").strip() in TRUE
-        if not always:
+        if institution.weight(element) < 100 or not institution.is_active(element):
             continue
         if all((element.findtext(key) or "").strip() == words for key, words in parts.items()):
             return

@@ -18,8 +18,8 @@ from uttab_tools.problem import Problem
 from uttab_tools.program import DONE, PARTLY, Command, Folder, Output, Usage, tell
 from uttab_tools.published import Published
 from uttab_tools.raw import Value
+from uttab_tools.sheet import csv_text
 from uttab_tools.sizes import lists_above
-from uttab_tools.table import csv_text
 from uttab_tools.teachers import Teacher, read_teachers
 
 STATUSES = "0 both files are written, and nothing has to be looked at; 1 they are written, and something has to"
@@ -98,13 +98,9 @@ def _json(value: Value) -> str:
 
 
 def _write(name: str, files: dict[str, str]) -> None:
-    folder = Folder(name)
-    try:
+    with Folder(name) as folder:
         for file, text in files.items():
             folder.write(file, text.encode())
-        folder.finish()
-    finally:
-        folder.discard()
 
 
 COMMAND = Command("midterm", __doc__ or "", words, run, STATUSES, has_forms=True)

@@ -7,7 +7,6 @@ FOLDER has the sheets term.csv, rooms.csv, classes.csv and times.csv, and may ha
 students.csv. The first line of each has the names of its columns. docs/TOOLS.md says what stands in them."""
 
 import argparse
-import json
 
 from uttab_tools.problem import Problem
 from uttab_tools.program import DONE, Command, Folder, Output, add_output
@@ -35,19 +34,14 @@ def run(given: argparse.Namespace, output: Output) -> int:
 
 
 def _read(given: argparse.Namespace, output: Output) -> None:
-    json.dump(problem_of(given.folder), output.text, ensure_ascii=False, separators=(",", ":"))
-    output.write("\n")
+    output.write_json(problem_of(given.folder))
 
 
 def _write(given: argparse.Namespace, output: Output) -> None:
     sheets = sheets_of(Problem(given.problem))
-    folder = Folder(given.folder)
-    try:
+    with Folder(given.folder) as folder:
         for name, text in sheets.items():
             folder.write(name, text.encode())
-        folder.finish()
-    finally:
-        folder.discard()
 
 
 COMMAND = Command("sheets", __doc__ or "", words, run, "0 all is written", has_forms=True)

@@ -5,8 +5,8 @@ from collections.abc import Iterable, Iterator
 from uttab_tools.names import DAY_NAMES
 from uttab_tools.problem import Problem
 from uttab_tools.raw import Value, parts, rules_of
+from uttab_tools.sheet import csv_text
 from uttab_tools.sheets.columns import CLASSES, CLOSED, ROOMS, RULES, STUDENTS, TERM, TERM_NUMBERS, TERM_WEIGHTS, TIMES, TRAVEL
-from uttab_tools.table import csv_text
 from uttab_tools.times import Time, clock, places, weeks_in_words
 
 Line = list[object]
