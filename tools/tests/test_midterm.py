@@ -126,7 +126,8 @@ def test_the_whole_term(tool: Tool, files: tuple[str, str], rest: Path, write: W
     rules = problem["distributions"]
     assert isinstance(rules, list)
     assert [(rule["type"], rule["classes"]) for rule in rules] == [
-        ("MaxWeeks(4)", [1, 2]), ("Precedence", [1, 3, 2]), ("DifferentDays", [3, 4]), ("DifferentDays", [6, 7]), ("NotOverlap", [3, 6, 4, 7])]
+        ("MaxWeeks(4)", [1, 2]), ("Precedence", [1, 3, 2]), ("DifferentDays", [3, 4]), ("DifferentDays", [6, 7]),
+        ("NotOverlap", [3, 6, 4, 7])]
     assert (tmp_path / "whole/teachers.csv").read_text() == "teacher,class\nAda,3\nAda,6\nBen,5\n"
 
 
@@ -151,7 +152,8 @@ def test_nothing_changed(tool: Tool, files: tuple[str, str], rest: Path, tmp_pat
 
 
 def test_what_is_told(tool: Tool, files: tuple[str, str], rest: Path, write: Write, tmp_path: Path) -> None:
-    lost = write("lost.json", json.dumps({"classes": [own for own in loads(rest / "published.json")["classes"] if own["id"] != 4]}))  # type: ignore[attr-defined]
+    kept = [one for one in json.loads((rest / "published.json").read_text())["classes"] if one["id"] != 4]
+    lost = write("lost.json", json.dumps({"classes": kept}))
     assert "1 classes aren't in the timetable any more: 4" in tool(
         "midterm", "whole", *files, lost, "--from", 3, "--to", tmp_path / "w", status=1)[1]
     assert "has weeks before week 3" in tool("midterm", "whole", *files, new_timetable(rest, write, weeks="011111"), "--from", 3, "--to",

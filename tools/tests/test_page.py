@@ -165,7 +165,8 @@ def test_a_page_for_each_part(files: tuple[str, str], tool: Tool, tmp_path: Path
 def test_names_that_differ_in_signs_alone(files: tuple[str, str], tool: Tool, tmp_path: Path, write: Write) -> None:
     teachers = write("teachers.csv", "teacher,class\nA. North,1\nA North,2\na-north 2,5\n???,5\n")
     tool("page", *files, "--teachers", teachers, "--folder", tmp_path / "pages", "--of", "teacher")
-    titles = {path.name: path.read_text(encoding="utf-8").split("<title>")[1].split("</title>")[0] for path in (tmp_path / "pages").iterdir()}
+    texts = {path.name: path.read_text(encoding="utf-8") for path in (tmp_path / "pages").iterdir()}
+    titles = {name: text.split("<title>")[1].split("</title>")[0] for name, text in texts.items()}
     assert titles == {"teacher_A_North.html": "Teacher: A. North", "teacher_A_North_2.html": "Teacher: A North",
                       "teacher_a_north_2_2.html": "Teacher: a-north 2", "teacher_.html": "Teacher: ???"}
 

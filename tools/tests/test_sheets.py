@@ -39,7 +39,8 @@ def test_a_problem_comes_back_from_its_sheets(tool: Tool, tmp_path: Path) -> Non
     ("closed.csv", "13:00", "13:02", "closed.csv: line 2: begin: no slot begins at 13:02: a slot has 5 minutes"),
     ("times.csv", "weeks 1 to 14", "weeks 1 to 16", "times.csv: line 2: weeks: '1 to 16' isn't within weeks 1 to 15"),
     ("classes.csv", "lecture twice a week", "lecture", "no times 'lecture'"),
-    ("classes.csv", "1,Mathematics,10,,10,lecture,102", "1,Mathematics,10,,10,lecture,101", "classes.csv: line 3: class: line 2 has the class 101"),
+    ("classes.csv", "1,Mathematics,10,,10,lecture,102", "1,Mathematics,10,,10,lecture,101",
+     "classes.csv: line 3: class: line 2 has the class 101"),
     ("classes.csv", '"2, 3, 11 (1)"', '"2, 3, 11:1"', "classes.csv: line 2: rooms: '11:1' is neither a room nor"),
     ("rules.csv", "SameAttendees", "SameAttendance", "rules.csv: line 2: type: 'SameAttendance' is no type of a rule"),
     ("rules.csv", "601 602", "601 699", "rules.csv: line 2: classes: there is no class 699"),
@@ -61,7 +62,8 @@ def test_weeks_in_words_are_read_back() -> None:
 
 
 def test_words_of_days_and_times() -> None:
-    for text, days in (("Mon Wed", 0b101), ("Monday to Friday", 0b11111), ("mon, wed and fri", 0b10101), ("tue-thu", 0b1110), ("01000", 0b10)):
+    for text, days in (("Mon Wed", 0b101), ("Monday to Friday", 0b11111), ("mon, wed and fri", 0b10101), ("tue-thu", 0b1110),
+                       ("01000", 0b10)):
         assert days_of(text, 5) == days
     assert (slot_of("9:00", 288), slot_of("09:05:00", 288), slot_of("25:00", 24), slot_of("108", 288)) == (108, 109, 25, 108)
     for wrong in ("Sat", "", "Fri to Mon"):

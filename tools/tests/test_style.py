@@ -1,4 +1,4 @@
-"""Tests that the types hold, and that `ruff` finds nothing, where these programs are."""
+"""Tests that the types hold, and that no linter that is there finds anything."""
 
 import shutil
 import subprocess
@@ -6,16 +6,17 @@ import subprocess
 import pytest
 from conftest import TOOLS
 
-
-def test_types() -> None:
-    if not shutil.which("mypy"):
-        pytest.skip("there is no mypy")
-    done = subprocess.run(["mypy", "--cache-dir", "/dev/null"], cwd=TOOLS, capture_output=True, text=True, check=False)
-    assert done.returncode == 0, done.stdout
+# What mypy found out is kept beside the package, so that it looks anew at what changed alone. `out` is in no commit.
+CACHE = TOOLS / "out/mypy"
 
 
-def test_style() -> None:
-    if not shutil.which("ruff"):
-        pytest.skip("there is no ruff")
-    done = subprocess.run(["ruff", "check", "--no-cache", "."], cwd=TOOLS, capture_output=True, text=True, check=False)
+@pytest.mark.parametrize("words", [
+    ["mypy", "--cache-dir", str(CACHE)],
+    ["flake8", "--isolated", "--max-line-length=140", "--per-file-ignores=tests/*desk*:E501", "."],
+    ["ruff", "check", "--no-cache", "."],
+], ids=lambda words: words[0])
+def test_nothing_is_found(words: list[str]) -> None:
+    if not shutil.which(words[0]):
+        pytest.skip(f"there is no {words[0]}")
+    done = subprocess.run(words, cwd=TOOLS, capture_output=True, text=True, check=False)
     assert done.returncode == 0, done.stdout

@@ -22,7 +22,7 @@ from uttab_tools.desk.session import Session, published_text
 from uttab_tools.desk.web import Server
 from uttab_tools.names import Names
 from uttab_tools.problem import Problem
-from uttab_tools.program import Command, FileFault, Output, Refused, Usage
+from uttab_tools.program import Command, Output, Refused, Usage
 from uttab_tools.published import Published
 from uttab_tools.teachers import read_teachers
 from uttab_tools.uttab_program import program_of

@@ -102,5 +102,3 @@ class Process:
             except OSError:
                 pass
         self.listener.join(1)
-
-
