@@ -12,7 +12,7 @@ CACHE = TOOLS / "out/mypy"
 
 @pytest.mark.parametrize("words", [
     ["mypy", "--cache-dir", str(CACHE)],
-    ["flake8", "--isolated", "--max-line-length=140", "--per-file-ignores=tests/*desk*:E501", "."],
+    ["flake8", "--isolated", "--max-line-length=140", "--per-file-ignores=tests/*desk*:E501,F401", "."],
     ["ruff", "check", "--no-cache", "."],
 ], ids=lambda words: words[0])
 def test_nothing_is_found(words: list[str]) -> None:
