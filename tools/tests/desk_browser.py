@@ -1,5 +1,6 @@
 """What the tests of the desk's page share: a browser, and what a user does in it."""
 
+import os
 from collections.abc import Iterator
 from contextlib import contextmanager
 from pathlib import Path
@@ -22,6 +23,8 @@ OPTIONS = ("--headless=new", "--no-sandbox", "--disable-gpu", "--disable-dev-shm
 # On a busy machine a browser may hang while it begins: another is begun then.
 TRIES = 3
 MOST_TABS = 120
+# So many times slower the browser runs: what is looked at too early is found so.
+SLOWER = float(os.environ.get("DESK_SLOWER") or 1)
 
 
 class Browser:
@@ -46,6 +49,8 @@ class Browser:
             self.driver.set_page_load_timeout(60)
             self.driver.set_script_timeout(60)
             self.driver.get("about:blank")
+            if SLOWER > 1:
+                self.driver.execute_cdp_cmd("Emulation.setCPUThrottlingRate", {"rate": SLOWER})
         except WebDriverException:
             self.driver.quit()
             raise

@@ -10,6 +10,7 @@ from typing import Any
 
 import pytest
 from conftest import TOP
+from desk_help import until
 
 from uttab_tools.__main__ import main
 
@@ -143,7 +144,9 @@ def test_by_keyboard(pages: Path, browser: Any) -> None:
     for _ in range(4):
         press(Keys.TAB)
     assert browser.switch_to.active_element.get_attribute("id") == "what"
-    assert press("17", Keys.ENTER).text == "Student 17"
+    press("17", Keys.ENTER)
+    # The address changes first, and the page follows it a moment later.
+    until(lambda: browser.switch_to.active_element.text == "Student 17", "the student's week to have the focus")
     assert browser.current_url.endswith("#s17")
     outline = browser.execute_script("document.querySelector('#student a').focus();"
                                      "return getComputedStyle(document.activeElement).outlineStyle")
