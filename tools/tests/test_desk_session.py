@@ -55,33 +55,82 @@ def test_a_log_is_read_as_it_was_written(log: Path) -> None:
     again = Log(log, HEADING)
     assert again.entries == kept
     again.close()
-    assert list(entries_of(["drop 1", "", "# words", "  drop 2"])) == [Entry("drop 1", None, False, "drop 1"), Entry("  drop 2", None, False, "  drop 2")]
+    assert list(entries_of(["drop 1", "", "# words", "  drop 2\t"])) == [Entry("drop 1", None, False, "drop 1"), Entry("drop 2", None, False, "drop 2")]
 
 
-def test_a_line_that_isnt_whole_is_taken_off(log: Path) -> None:
-    Log(log, HEADING).close()
-    whole = log.read_text()
-    log.write_text(whole + "close 3 11111 0 28")
+@pytest.fixture
+def quick_disk(monkeypatch: pytest.MonkeyPatch) -> None:
+    """What is tried is the desk, not the disk."""
+    monkeypatch.setattr(os, "fsync", lambda _: None)
+
+
+@pytest.mark.usefixtures("quick_disk")
+def test_what_isnt_whole_is_taken_off(log: Path) -> None:
+    """Wherever the writing of a log was broken off, all that was answered is in it, and nothing of a step that wasn't."""
+    steps = [[Entry("enrol all", "ok time 0", False, "One")], [Entry(f"lock {one}", f"ok time {one}", one > 1, "Two") for one in (1, 2, 3)]]
+    ends = [0]
+    first = Log(log, HEADING)
+    for step in steps:
+        first.keep(step)
+        ends.append(first.size)
+    first.close()
+    whole = log.read_bytes()
+    for size in range(len(whole) + 1):
+        log.write_bytes(whole[:size])
+        again = Log(log, HEADING)
+        kept = [entry for step, end in zip(steps, ends[1:], strict=True) if end <= size for entry in step]
+        assert (again.entries, log.read_bytes()) == (kept, whole[:again.size])
+        again.keep(steps[0])
+        again.close()
+        assert log.read_bytes().endswith(b"\nenrol all\n#= ok time 0\n")
+
+
+def test_what_was_written_by_hand_stays(log: Path) -> None:
+    first = Log(log, HEADING)
+    first.keep([entry("lock 1")])
+    first.close()
+    log.write_text(log.read_text() + "lock 2\n# words\nlock 3\n")
     again = Log(log, HEADING)
-    assert (log.read_text(), again.entries) == (whole, [])
+    assert [one.line for one in again.entries] == ["lock 1", "lock 2", "lock 3"]
     again.close()
 
 
-def test_a_log_belongs_to_one_desk_and_one_problem(log: Path) -> None:
+def test_a_file_that_is_no_log_stays_as_it_is(log: Path) -> None:
+    other = Log(log, "# problem 1")
+    other.keep([entry("lock 1")])
+    other.close()
+    for content, told in ((log.read_bytes() + b"lock", "is the log of another problem"), (b"\xff", "is no log of a desk"),
+                          (b"totals\nmy notes", "is no log of a desk"), (b"x", "is no log of a desk")):
+        log.write_bytes(content)
+        with pytest.raises(FileFault, match=told):
+            Log(log, HEADING)
+        assert log.read_bytes() == content
+
+
+def test_a_log_belongs_to_one_desk(log: Path) -> None:
     first = Log(log, HEADING)
     with pytest.raises(FileFault, match="another desk has this log open"):
         Log(log, HEADING)
     first.close()
-    with pytest.raises(FileFault, match="is the log of another problem"):
-        Log(log, "# problem 1")
-    log.write_bytes(b"\xff\n")
-    with pytest.raises(FileFault, match="is no log of a desk"):
-        Log(log, HEADING)
-    log.write_text("totals\n")
-    with pytest.raises(FileFault, match="is no log of a desk"):
-        Log(log, HEADING)
     with pytest.raises(FileFault, match="No such file"):
-        Log(log / "absent" / "log.txt", HEADING) if log.unlink() else Log(log.parent / "absent" / "log.txt", HEADING)
+        Log(log.parent / "absent" / "log.txt", HEADING)
+
+
+@pytest.mark.parametrize("how", ["written", "moved"])
+def test_a_log_that_others_changed_is_left_alone(log: Path, how: str) -> None:
+    kept = Log(log, HEADING)
+    kept.keep([entry("lock 1")])
+    content = log.read_bytes()
+    if how == "written":
+        log.write_bytes(content + b"# mine\n")
+    else:
+        log.rename(log.with_suffix(".old"))
+        log.write_bytes(content)
+    left = log.read_bytes()
+    with pytest.raises(OSError, match="another program has changed it"):
+        kept.keep([entry("lock 2")])
+    assert log.read_bytes() == left and [one.line for one in kept.entries] == ["lock 1"]
+    kept.close()
 
 
 # Steps.
@@ -110,6 +159,9 @@ def test_several_commands_are_one_step_or_none(session: Session, log: Path) -> N
     assert session.steps == [] and " unplaced 63 unsectioned 200 " in session.totals
     assert session.totals == replayed(PROBLEM, log)
     assert session.undo(1) == [["refused 21 nothing to undo"]]
+    for count in (0, -1):
+        with pytest.raises(Unasked):
+            session.undo(count)
 
 
 @needs_program
@@ -183,6 +235,19 @@ def test_nothing_is_changed_while_a_search_runs(session: Session) -> None:
     assert session.ask(["totals"])[0][0][-1] == session.totals
     session.stop(False)
     assert session.slice() is False and session.notice is not None and session.notice["why"] == "stopped"
+
+
+@needs_program
+def test_a_search_goes_on_with_another_program(session: Session, monkeypatch: pytest.MonkeyPatch) -> None:
+    session.do(["enrol all", "search 2000 11"], "")
+    session.start("improve", 60, 1)
+    assert session.slice()
+    monkeypatch.setattr(session_module, "MOST_SENT", 0)
+    first = session.process
+    session.keep_fresh()
+    assert session.process is not first and session.slice()
+    session.process.kill()
+    assert not session.slice() and session.notice is not None and str(session.notice["why"]).startswith("uttab ended with status -9")
 
 
 @needs_program
@@ -262,6 +327,59 @@ def test_a_publication_that_cant_be_written_is_none(session: Session, log: Path)
 
 
 @needs_program
+def test_a_publication_that_isnt_kept_is_none(session: Session, log: Path, monkeypatch: pytest.MonkeyPatch) -> None:
+    """Where the log can't take it, the file that was published before stays."""
+    session.do(["enrol all"], "")
+    run_search(session, "search", 60, 11)
+    session.save.write_text("before")
+
+    def full(_: object) -> None:
+        raise OSError(28, "No space left on device")
+    monkeypatch.setattr(session.log, "keep", full)
+    with pytest.raises(Unasked, match="The command is taken back"):
+        session.publish()
+    assert session.save.read_text() == "before" and sorted(path.name for path in log.parent.iterdir()) == ["log.json", "log.txt"]
+    assert session.published is None and session.totals.endswith(" moved -") and "publish" not in commands(log)
+
+
+@needs_program
+def test_a_publication_that_was_broken_off_gets_its_name(log: Path) -> None:
+    """Killed between the log and the name of the file."""
+    with session_on(log) as session:
+        session.do(["enrol all"], "")
+        run_search(session, "search", 60, 11)
+        session.publish()
+        content = session.save.read_bytes()
+        session.save.rename(session.save.with_name(session.save.name + ".part"))
+    with session_on(log) as session:
+        assert session.save.read_bytes() == content and len(list(log.parent.iterdir())) == 2
+
+
+@needs_program
+def test_a_desk_that_cant_go_on_does_nothing(session: Session, log: Path) -> None:
+    """No program that is elsewhere than the log is asked, until one is where the log ends."""
+    session.do(["assign 701 5 1"], "One")
+    content, kept, before = log.read_bytes(), session.log.entries[:], session.totals
+    session.log.entries = [Entry(kept[0].line, kept[0].totals and kept[0].totals.replace("62", "61"), False, "One")]
+    session.process.kill()
+    for call in (lambda: session.do(["unassign 701"], ""), lambda: session.undo(1), lambda: session.ask(["totals"]), session.draft):
+        with pytest.raises(Unasked, match="The desk can’t go on"):
+            call()
+    assert log.read_bytes() == content and session.state()["fault"]
+    session.log.entries = kept
+    assert session.ask(["totals"])[0] == [[before]] and session.state()["fault"] is None
+
+
+@needs_program
+@pytest.mark.parametrize("line", ["totals", "quit", "explain 101", "nothing", "drop é"])
+def test_a_log_has_no_other_commands(log: Path, line: str) -> None:
+    Log(log, HEADING).close()
+    log.write_text(log.read_text() + line + "\n")
+    with pytest.raises(FileFault, match=line), session_on(log):
+        pass
+
+
+@needs_program
 def test_a_log_that_leads_elsewhere_is_told(log: Path) -> None:
     with session_on(log) as session:
         session.do(["assign 701 5 1"], "One")
@@ -271,8 +389,8 @@ def test_a_log_that_leads_elsewhere_is_told(log: Path) -> None:
 
 
 @needs_program
-def test_a_thousand_commands_in_a_row(session: Session, log: Path, monkeypatch: pytest.MonkeyPatch) -> None:
-    monkeypatch.setattr(os, "fsync", lambda _: None)  # What is tried is the desk, not the disk.
+@pytest.mark.usefixtures("quick_disk")
+def test_a_thousand_commands_in_a_row(session: Session, log: Path) -> None:
     for turn in range(500):
         session.do([f"assign 701 {turn % 12 + 1} {1 + 10 * (turn % 2)}"], f"Turn {turn}")
         if turn % 2:

@@ -74,7 +74,8 @@ def bad_requests(desk: Desk, count: int) -> Iterator[bytes]:
            b"GET / HTTP/1.1\r\n" + b"X: y\r\n" * 200 + b"\r\n", b"\x16\x03\x01\x02\x00\x01\x00", b"PRI * HTTP/2.0\r\n\r\nSM\r\n\r\n"]
     bodies = ["", "{", "[]", "null", "3", '{"lines": 3}', '{"lines": [3]}', '{"lines": [null]}', '{"lines": ["totals\\nquit"]}', '{"lines": {"a": 1}}',
               '{"lines": [], "locked": ["1"]}', '{"lines": [], "locked": [-1]}', '{"lines": [], "locked": [true]}', '{"lines": [], "most": 3}',
-              "[" * 5000, '{"count": 1e99}', '{"kind": "class"}', '{"kind": ["x"], "id": 1, "by": 1}', '{"id": 99999}', '{"word": 3}', "\u2028"]
+              "[" * 5000, '{"count": 1e99}', '{"count": 0}', '{"count": -1}', '{"word": "search", "seed": 1, "seconds": 1%s}' % ("0" * 400),
+              '{"word": "search", "seed": 1, "seconds": NaN}', '{"id": 1%s, "count": []}' % ("0" * 5000), '{"kind": "class"}', '{"kind": ["x"], "id": 1, "by": 1}', '{"id": 99999}', '{"word": 3}', "\u2028"]
     places = ["ask", "do", "undo", "start", "stop", "facts", "find", "beside", "list", "moved", "attending", "publish", "nothing"]
     for turn in range(count):
         if turn % 4 == 0:
@@ -87,7 +88,7 @@ def bad_requests(desk: Desk, count: int) -> Iterator[bytes]:
             place = places[rng.randrange(len(places))]
             if place in ("stop", "publish", "moved") and text[:1] == b"{":
                 text = b"["
-            length = len(text) if turn % 4 == 2 else rng.choice([0, 1, -1, 10**9, 2**70])
+            length = len(text) if turn % 4 == 2 else rng.choice(["0", "1", "-1", "1000000000", "9" * 5000, "²"])
             yield (f"POST /{desk.secret}/{place} HTTP/1.1\r\nHost: {desk.host}\r\nOrigin: http://{desk.host}\r\nContent-Type: application/json\r\n"
                    f"Content-Length: {length}\r\nConnection: close\r\n\r\n").encode() + text
 

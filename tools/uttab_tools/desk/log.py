@@ -1,9 +1,11 @@
 """The log of a desk: a script of all accepted commands, which `uttab run` carries out to the same timetable.
 
 A comment before a command has the time of day and what the step is called, one after it the totals of its reply. `#-`
-begins a step, `#+` goes on with it. An entry is in the file, and the disk told to keep it, before anyone learns of the
-reply."""
+begins a step, `#+` goes on with it. What is kept at once ends in a comment `#=`, and each command of it before the last
+has `#,` there: what ends otherwise was never answered. An entry is in the file, and the disk told to keep it, before
+anyone learns of the reply."""
 
+import errno
 import fcntl
 import os
 import time
@@ -15,6 +17,8 @@ from uttab_tools.program import FileFault
 
 FIRST_LINE = "# A session of the desk. It is a script: uttab run PROBLEM THIS [PUBLISHED]"
 STAMP = "%Y-%m-%d %H:%M:%S"
+BEFORE, AFTER, LAST = ("#- ", "#+ "), ("#, ", "#= "), "#= "
+LABEL_AT = len("#- 2026-10-05 09:00:00 ")
 
 
 @dataclass(frozen=True, slots=True)
@@ -41,46 +45,46 @@ class Log:
         except OSError:
             os.close(self.file)
             raise FileFault(f"{path}: another desk has this log open") from None
-        lines = self._whole_lines()
-        headings = [line for line in lines if line.startswith("# problem ")]
-        if headings and headings[0] != heading:
-            self.close()
-            raise FileFault(f"{path}: is the log of another problem or published file")
-        if lines and not headings:
-            self.close()
-            raise FileFault(f"{path}: is no log of a desk")
-        if not lines:
-            self._append([FIRST_LINE, heading])
-        self.entries = list(entries_of(lines))
+        self.size = 0
+        self.entries = list(entries_of(self._lines(heading)))
 
-    def _whole_lines(self) -> list[str]:
-        """The lines of the file. A last one that isn't whole was never answered, and is taken off."""
-        with open(self.path, "rb") as file:
-            content = file.read()
-        self.size = content.rfind(b"\n") + 1
-        if self.size < len(content):
-            os.ftruncate(self.file, self.size)
-        try:
-            return content[:self.size].decode().split("\n")[:-1]
-        except UnicodeDecodeError:
+    def _lines(self, heading: str) -> list[str]:
+        """The lines after the front of the log, which a new one gets. What isn't whole at the end was never answered, and
+        is taken off. A file that isn't this log stays as it is."""
+        front, content = f"{FIRST_LINE}\n{heading}\n".encode(), self.path.read_bytes()
+        if not content.startswith(front) and not front.startswith(content):
             self.close()
-            raise FileFault(f"{self.path}: is no log of a desk") from None
+            known = content.startswith(FIRST_LINE.encode())
+            raise FileFault(f"{self.path}: is the log of another problem or published file" if known else f"{self.path}: is no log of a desk")
+        lines = without_torn(content[len(front):content.rfind(b"\n") + 1].decode(errors="surrogateescape").split("\n")[:-1])
+        if len(content) < len(front):
+            os.ftruncate(self.file, 0)
+            self._append([FIRST_LINE, heading])
+            sync_folder(self.path.parent)
+            return []
+        self.size = len(front) + sum(len(line.encode(errors="surrogateescape")) + 1 for line in lines)
+        os.ftruncate(self.file, self.size)
+        return lines
 
     def keep(self, entries: Sequence[Entry]) -> None:
         """Adds entries. Where that fails the file is as it was."""
         stamp = time.strftime(STAMP)
         lines = []
         for entry in entries:
-            lines += [f"#{'+' if entry.joined else '-'} {stamp} {entry.label}", entry.line, f"#= {entry.totals}"]
+            lines += [f"#{'+' if entry.joined else '-'} {stamp} {entry.label}", entry.line,
+                      f"#{'=' if entry is entries[-1] else ','} {entry.totals}"]
         self._append(lines)
         self.entries += entries
 
     def _append(self, lines: Iterable[str]) -> None:
         text = "".join(line + "\n" for line in lines).encode()
+        own, there = os.fstat(self.file), os.stat(self.path)
+        if (own.st_size, own.st_dev, own.st_ino) != (self.size, there.st_dev, there.st_ino):
+            raise OSError(errno.EBUSY, "another program has changed it")
         try:
             written = os.write(self.file, text)
             if written < len(text):
-                raise OSError(28, "No space left on device")
+                raise OSError(errno.ENOSPC, os.strerror(errno.ENOSPC))
             os.fsync(self.file)
         except OSError:
             os.ftruncate(self.file, self.size)
@@ -91,21 +95,37 @@ class Log:
         os.close(self.file)
 
 
+def sync_folder(path: Path) -> None:
+    """Tells the disk to keep the names of a folder's files."""
+    folder = os.open(path, os.O_RDONLY | os.O_DIRECTORY)
+    try:
+        os.fsync(folder)
+    finally:
+        os.close(folder)
+
+
+def without_torn(lines: list[str]) -> list[str]:
+    """The lines without what was kept at once at the end and isn't whole. What someone wrote by hand has no comment of the
+    desk before it, and stays."""
+    last = max((place for place, line in enumerate(lines) if line.startswith(LAST)), default=-1)
+    begun = [place for place in range(last + 1, len(lines)) if lines[place].startswith(BEFORE)]
+    if not begun or any(lines[place].startswith("#- ") for place in begun[1:]):
+        return lines
+    return lines[:begun[0]]
+
+
 def entries_of(lines: Iterable[str]) -> Iterable[Entry]:
     """The commands of a log. A command that someone wrote into it by hand is a step of its own."""
     joined, label, line = False, "", ""
     for one in lines:
-        if one.startswith("#= ") and line:
-            yield Entry(line, one[3:], joined, label or line)
-            joined, label, line = False, "", ""
-            continue
+        totals = one[len(LAST):] if one.startswith(AFTER) else None
         if line:
-            yield Entry(line, None, joined, label or line)
+            yield Entry(line, totals, joined, label or line)
             joined, label, line = False, "", ""
-        if one.startswith(("#+ ", "#- ")):
-            joined, label = one[1] == "+", one[23:]
-        elif one.strip() and not one.lstrip().startswith("#"):
-            line = one
+        if one.startswith(BEFORE):
+            joined, label = one[1] == "+", one[LABEL_AT:]
+        elif not one.lstrip().startswith("#"):
+            line = " ".join(one.split())
     if line:
         yield Entry(line, None, joined, label or line)
 

@@ -5,6 +5,7 @@ accepted. But for `stop`, `end`, `state` and `wait` its calls are made by one th
 next begins."""
 
 import json
+import os
 import threading
 import time
 from collections.abc import Sequence
@@ -54,6 +55,18 @@ def checked(line: str, words: set[str]) -> str:
     return line
 
 
+def write_whole(path: Path, text: str) -> None:
+    """Writes a file, and tells the disk to keep it. Where that fails there is none."""
+    try:
+        with path.open("w", encoding="ascii") as file:
+            file.write(text)
+            file.flush()
+            os.fsync(file.fileno())
+    except OSError:
+        path.unlink(missing_ok=True)
+        raise
+
+
 def label_of(text: str, line: str) -> str:
     """What a step is called: printable, and without the marks that turn the direction of a text."""
     return "".join(one for one in text if one.isprintable())[:200].strip() or line
@@ -71,6 +84,7 @@ class Session:
         self.notice: dict[str, object] | None = None
         self.replaying: str | None = None
         self.fault: str | None = None
+        self.behind = False  # whether the program isn't where the log ends: another has to take its place first
         self.ending = False
         self.seen = 0
         self.changed = threading.Condition()
@@ -78,6 +92,10 @@ class Session:
         self.totals = self.process.ask(["totals"])[0][-1]
         self.knows = self._what_it_knows()
         self._replay()
+        try:
+            self._put_in_place()
+        except Unasked as fault:
+            raise FileFault(str(fault)) from None
 
     def _started(self) -> Process:
         process = Process(self.words)
@@ -145,6 +163,8 @@ class Session:
     def undo(self, count: int) -> list[Reply]:
         """Takes back the last steps."""
         self._free()
+        if count < 1:
+            raise Unasked("No step is to be undone.")
         lines = sum(len(step.lines) for step in self.steps[len(self.steps) - min(count, len(self.steps)):])
         replies = self._ask_all(["undo"] * max(1, lines))
         if not accepted(replies[-1]):
@@ -156,26 +176,37 @@ class Session:
         return replies[-1:]
 
     def publish(self) -> Reply:
-        """Publishes the timetable, and writes the file."""
+        """Publishes the timetable, and writes the file: beside it first, so that what can't be written isn't published."""
         self._free()
         reply = self._ask_all(["publish"])[0]
         if accepted(reply):
-            self._write_whole(self.save, reply[0] + "\n")
-            self._keep([Entry("publish", reply[-1], False, "publish")])
+            entry = Entry("publish", reply[-1], False, "publish")
+            try:
+                write_whole(self._part(), reply[0] + "\n")
+            except OSError as error:
+                self._begin_anew()
+                raise Unasked(f"{self.save} can't be written: {error.strerror}. Nothing is published.") from None
+            try:
+                self._keep([entry])
+            except Unasked:
+                self._part().unlink(missing_ok=True)
+                raise
             self.published = reply[0]
-            self._note(Entry("publish", reply[-1], False, "publish"))
+            self._note(entry)
+            self._put_in_place()
         return reply[-1:]
 
-    def _write_whole(self, path: Path, text: str) -> None:
-        """Writes a file that is there only when all of it is. Where it can't be, the desk is as its log says."""
-        part = path.with_name(path.name + ".part")
+    def _part(self) -> Path:
+        return self.save.with_name(self.save.name + ".part")
+
+    def _put_in_place(self) -> None:
+        """Gives the published file its name, now or, where the desk was ended in between, when it begins again."""
+        part = self._part()
         try:
-            part.write_text(text, encoding="ascii")
-            part.replace(path)
-        except OSError as error:
-            part.unlink(missing_ok=True)
-            self._begin_anew()
-            raise Unasked(f"{path} can't be written: {error.strerror}. Nothing is published.") from None
+            if self.published is not None and part.exists() and part.read_text(encoding="ascii") == self.published + "\n":
+                part.replace(self.save)
+        except (OSError, UnicodeDecodeError) as error:
+            raise Unasked(f"It is published, but {part} can't be renamed to {self.save}: {error}.") from None
 
     def _free(self) -> None:
         if self.search:
@@ -224,12 +255,13 @@ class Session:
         search = self.search
         if search is None:
             return False
-        why = search.over()
-        if why is None:
-            why = self._slice(search)
-        if why is not None:
-            self._end_search(why)
-        return why is None
+        try:
+            why = search.over() or self._slice(search)
+        except Unasked as fault:
+            why = "stopped at once" if search.stopping else str(fault)
+        if why:
+            self._end_search(search, why)
+        return not why
 
     def _slice(self, search: Search) -> str | None:
         line = search.line()
@@ -250,37 +282,47 @@ class Session:
         self.tell()
         return why
 
-    def _end_search(self, why: str) -> None:
-        search, self.search = self.search, None
-        if search:
-            self.notice = {"word": search.word, "why": why, "turns": search.turns, "seconds": search.gone(), "from": search.opening}
+    def _end_search(self, search: Search, why: str) -> None:
+        self.search = None
+        self.notice = {"word": search.word, "why": why, "turns": search.turns, "seconds": search.gone(), "from": search.opening}
         self.tell()
 
     # The program, and another that takes its place.
 
     def _ask_all(self, lines: Sequence[str]) -> list[Reply]:
         """Asks the program. Where it has ended, another takes its place, at the end of the log."""
+        if self.behind:
+            self._begin_anew()
         try:
             return self.process.ask(lines)
         except Ended as ended:
-            if self.ending:
-                raise
             self._begin_anew()
             raise Unasked(f"{ended} Another took its place, and the desk is as its log says.") from None
 
     def keep_fresh(self) -> None:
-        """Begins the program anew where it has read nearly as much as it reads."""
+        """Begins the program anew where it has read nearly as much as it reads. A search goes on."""
         if self.process.sent > MOST_SENT:
+            search, self.search = self.search, None
             self._begin_anew()
+            self.search = search
 
     def _begin_anew(self) -> None:
-        search, self.search = self.search, None
+        """Another program takes the place of this one, and is brought to the end of the log. Where that fails nothing is
+        asked or done, until it is tried again with success."""
+        if self.ending:
+            raise Unasked("The desk has ended.")
+        if self.search:
+            self._end_search(self.search, "the program ended")
+        self.behind = True
         self.process.end()
-        self.process = self._started()
-        self._replay()
-        if search:
-            self.search = search
-            self._end_search("stopped at once" if search.stopping else "the program ended")
+        try:
+            self.process = self._started()
+            self._replay()
+        except (Ended, FileFault, OSError) as error:
+            self.replaying, self.fault = None, f"The desk can’t go on: {error}"
+            self.tell()
+            raise Unasked(self.fault) from None
+        self.behind, self.fault = False, None
 
     def _replay(self) -> None:
         """Brings a program that has just begun to the end of the log."""
@@ -289,7 +331,10 @@ class Session:
         for place, entry in enumerate(entries):
             self.replaying = f"{place} of {len(entries)}"
             self.tell()
-            reply = self.process.ask([entry.line])[0]
+            try:
+                reply = self.process.ask([checked(entry.line, CHANGES | {"undo", "publish"})])[0]
+            except Unasked as fault:
+                raise FileFault(f"{self.log.path}: {entry.line!r}: {fault}") from None
             if not accepted(reply) or (entry.totals and reply[-1] != entry.totals):
                 raise FileFault(f"{self.log.path}: {entry.line!r} is answered {reply[-1]!r}"
                                 + (f" and not {entry.totals!r}" if entry.totals else ""))
@@ -329,8 +374,7 @@ class Session:
             "seen": self.seen, "totals": self.totals, "said": self.process.said, "notice": self.notice,
             "replaying": self.replaying, "fault": self.fault, "published": self.published is not None, "knows": self.knows,
             "closures": closures(steps), "stepCount": len(steps),
-            "steps": [{"label": step.label, "lines": step.lines[:3], "count": len(step.lines), "totals": step.totals}
-                      for step in steps[-MOST_STEPS:]],
+            "steps": [{"label": step.label, "count": len(step.lines), "totals": step.totals} for step in steps[-MOST_STEPS:]],
             "search": search and {"word": search.word, "seconds": search.seconds, "gone": search.gone(), "turns": search.turns,
                                   "idle": search.idle, "from": search.opening, "stopping": search.stopping},
         }

@@ -16,19 +16,20 @@ from http.server import BaseHTTPRequestHandler, ThreadingHTTPServer
 from pathlib import Path
 from typing import TypeVar
 
+from uttab_tools import limits
 from uttab_tools.desk.facts import KINDS, Facts, students_of
 from uttab_tools.desk.files import KINDS as MADE
 from uttab_tools.desk.files import Maker
-from uttab_tools.desk.process import Ended, Reply
+from uttab_tools.desk.process import Reply
 from uttab_tools.desk.session import Session, Unasked, moved
-from uttab_tools.program import FileFault
 
 DATA = Path(__file__).resolve().parent / "data"
 SHARED = Path(__file__).resolve().parents[1] / "data"
 TYPES = {".html": "text/html", ".css": "text/css", ".js": "text/javascript"}
 
 MOST_BODY = 2**20
-MOST_AT_ONCE = 5_000
+MOST_DIGITS = 10
+MOST_AT_ONCE = 3 * limits.CLASSES
 CONNECTIONS = 64
 
 # Nothing but what the page itself has is loaded, run, framed or sent anywhere.
@@ -93,7 +94,7 @@ class Server(ThreadingHTTPServer):
             self.free.release()
 
     def handle_error(self, request: object, client_address: object) -> None:
-        """A connection that broke off is none of ours; what went wrong here is told in a line."""
+        """A connection that broke off is none of ours; what went wrong here is told in a line, and the connection ends."""
         error = sys.exc_info()[1]
         if not isinstance(error, OSError):
             print(f"desk: a request failed: {type(error).__name__}: {error}", file=sys.stderr)
@@ -107,24 +108,8 @@ class Server(ThreadingHTTPServer):
 
     def slices(self) -> None:
         """A slice of the running search, and a place behind all who wait for the next."""
-        again = False
-        try:
-            self.session.keep_fresh()
-            again = self.session.slice()
-        except Unasked as fault:
-            self.session.notice = {"word": "search", "why": str(fault)}
-            self.session.search = None
-            self.session.tell()
-        except (Ended, FileFault, OSError) as fault:
-            self.break_off(fault)
-        if again:
+        if self.session.slice():
             self.one.submit(self.slices)
-
-    def break_off(self, fault: Exception) -> None:
-        """Tells the page that the desk can't go on."""
-        self.session.fault = f"The desk can’t go on: {fault}"
-        self.session.search = None
-        self.session.tell()
 
     # What the page asks for.
 
@@ -149,7 +134,7 @@ class Server(ThreadingHTTPServer):
         return {"replies": [self.by_the_one(self.session.publish)], "file": str(self.session.save)}
 
     def _start(self, words: Words) -> Words:
-        word, seconds, seed = str(words.get("word")), float(number(words, "seconds")), number(words, "seed")
+        word, seconds, seed = str(words.get("word")), number(words, "seconds"), number(words, "seed")
         self.by_the_one(lambda: self.session.start(word, seconds, seed))
         self.one.submit(self.slices)
         return {}
@@ -166,10 +151,13 @@ class Server(ThreadingHTTPServer):
         return {"hits": self.facts.find(str(words.get("text", ""))[:200], kinds)}
 
     def _beside(self, words: Words) -> Words:
-        return {"id": self.facts.beside(str(words["kind"]), number(words, "id"), number(words, "by"))}
+        kind, one = kind_of(words), number(words, "id")
+        if one not in self.facts.at[kind]:
+            raise BadRequest(f"there is no such {kind}")
+        return {"id": self.facts.beside(kind, one, number(words, "by"))}
 
     def _list(self, words: Words) -> Words:
-        return {"parts": self.facts.listed(str(words["kind"]))}
+        return {"parts": self.facts.listed(kind_of(words))}
 
     def _moved(self, _: Words) -> Words:
         published = self.session.published
@@ -186,11 +174,6 @@ class Server(ThreadingHTTPServer):
             told = self.answers[place](words)
         except Unasked as fault:
             told = {"error": str(fault)}
-        except (KeyError, IndexError, ValueError) as error:
-            raise BadRequest(f"{type(error).__name__}: {error}") from None
-        except (Ended, FileFault) as fault:
-            self.break_off(fault)
-            told = {"error": self.session.fault}
         return told | {"state": self.session.state()}
 
     def made(self, name: str) -> bytes:
@@ -199,8 +182,25 @@ class Server(ThreadingHTTPServer):
         return self.maker.make(name, draft, self.session.published)
 
 
+def words_of(body: bytes) -> Words:
+    try:
+        words = json.loads(body)
+    except (ValueError, RecursionError) as error:
+        raise BadRequest(str(error)) from None
+    if not isinstance(words, dict):
+        raise BadRequest("it is no object")
+    return words
+
+
+def kind_of(words: Words) -> str:
+    kind = words.get("kind")
+    if not isinstance(kind, str) or kind not in KINDS:
+        raise BadRequest("kind is none")
+    return kind
+
+
 def number(words: Words, key: str) -> int:
-    value = words[key]
+    value = words.get(key)
     if not isinstance(value, int) or isinstance(value, bool):
         raise BadRequest(f"{key} is no number")
     return value
@@ -256,12 +256,15 @@ class Handler(BaseHTTPRequestHandler):
         for key, value in headers.items():
             self.send_header(key, value)
         self.end_headers()
-        if self.command != "HEAD":
-            self.wfile.write(body)
+        self.wfile.write(body)
 
     def refuse(self, status: int, words: str) -> None:
         self.close_connection = True
         self.send(status, "text/plain; charset=utf-8", f"{words}\n".encode())
+
+    def send_error(self, code: int, message: str | None = None, explain: str | None = None) -> None:
+        """What isn't HTTP as it is asked for here is refused as all else."""
+        self.refuse(code, message or "The request isn’t understood.")
 
     def place(self) -> str | None:
         """What is asked for below the secret, or none where the request isn't the page's own."""
@@ -307,7 +310,7 @@ class Handler(BaseHTTPRequestHandler):
     def _made(self, place: str) -> None:
         try:
             body = self.server.made(place)
-        except (Unasked, FileFault, Ended) as fault:
+        except Unasked as fault:
             self.refuse(500, str(fault))
             return
         is_page = MADE[place].startswith("text/html")
@@ -318,19 +321,16 @@ class Handler(BaseHTTPRequestHandler):
         if place is None:
             return
         length = self.headers.get("Content-Length", "")
-        if not (length.isascii() and length.isdigit()) or self.headers.get("Content-Type") != "application/json":
+        if not (length.isascii() and length.isdigit() and len(length) < MOST_DIGITS) or self.headers.get("Content-Type") != "application/json":
             self.refuse(400, "A request is JSON, and says how long it is.")
             return
         if int(length) > MOST_BODY or place not in self.server.answers:
             self.refuse(413 if place in self.server.answers else 404, "There is nothing like that here.")
             return
         try:
-            words = json.loads(self.rfile.read(int(length)))
-            if not isinstance(words, dict):
-                raise BadRequest("A request is an object.")
-            answer = self.server.answer(place, words)
-        except (ValueError, RecursionError, BadRequest) as error:
-            self.refuse(400, f"The request isn't understood: {error}")
+            answer = self.server.answer(place, words_of(self.rfile.read(int(length))))
+        except BadRequest as error:
+            self.refuse(400, f"The request isn’t understood: {error}.")
             return
         body = json.dumps(answer, separators=(",", ":"), ensure_ascii=False).encode("utf-8", "replace")
         self.send(200, "application/json", body)
