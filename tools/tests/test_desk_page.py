@@ -275,7 +275,7 @@ def test_a_desk_that_ended_is_told_and_goes_on(browser: Browser, begin: Callable
     browser.until_text("#told", "The desk doesn’t answer")
     desk.begin()
     browser.open(desk)
-    browser.until_text("#told", "The log goes on after 1 steps")
+    browser.until_text("#told", "The log goes on after 1 step")
     browser.until_number("unsectioned", 0)
     browser.faults()
 

@@ -1,11 +1,10 @@
 // What the page shows, and how it learns of it. Each part of the page draws itself when it is told to, by `onDraw`.
 import * as R from "./replies.js";
-import { head, know, part, post } from "./talk.js";
+import { head, know, LOST, part, post } from "./talk.js";
 import * as W from "./words.js";
 
 export const MOST_LISTED = 200;
 const MOST = { violations: MOST_LISTED, values: 20_000 };
-const LOST = "The desk doesn’t answer. Is it still running?";
 
 export const $ = id => document.getElementById(id);
 
@@ -38,8 +37,8 @@ export const request = async (place, body) => {
   let answer;
   try {
     answer = await post(place, body);
-  } catch {
-    tell(LOST, "bad");
+  } catch (error) {
+    tell(error.message, "bad");
     return null;
   }
   if (answer.error) tell(answer.error, "bad");
@@ -108,6 +107,8 @@ export const adopt = next => {
   if (!next || (app.state && next.seen < app.state.seen)) return;
   const old = app.state;
   app.state = next;
+  if (next.search) app.earlier = R.totals(next.search.from);
+  else if (old && old.totals !== next.totals && !underWay) app.earlier = R.totals(old.totals);
   if (next.fault) tell(next.fault, "bad");
   else if (old?.search && !next.search && next.notice) sayNotice(next.notice);
   drawState();
@@ -127,10 +128,13 @@ const catchUp = async () => {
   catching = true;
   handled = state.seen;
   const began = Date.now();
-  await refresh();
-  lately = Date.now();
-  took = lately - began;
-  catching = false;
+  try {
+    await refresh();
+  } finally {
+    lately = Date.now();
+    took = lately - began;
+    catching = false;
+  }
   catchUp();
 };
 export const follow = () => {

@@ -6,8 +6,17 @@ import { setUpDrag } from "./drag.js";
 import { setUpFind } from "./find.js";
 import { setUpKeys } from "./keys.js";
 import { setUpLists } from "./lists.js";
+import { Unanswered } from "./talk.js";
 import { setUpPanel } from "./values.js";
 import { setUpWeek } from "./weekview.js";
+import { many } from "./words.js";
+
+// What got no answer is told, wherever it was asked.
+window.addEventListener("unhandledrejection", event => {
+  if (!(event.reason instanceof Unanswered)) return;
+  event.preventDefault();
+  tell(event.reason.message, "bad");
+});
 
 setUpBar();
 setUpLists();
@@ -20,7 +29,7 @@ for (const one of document.querySelectorAll("#parts button")) one.addEventListen
 showPart("week");
 
 await request("ask", { lines: [] });
-tell(app.state.stepCount ? `The log goes on after ${app.state.stepCount} steps.` : "A new desk.");
+tell(app.state.stepCount ? `The log goes on after ${many(app.state.stepCount, "step")}.` : "A new desk.");
 await refresh();
 follow();
 document.body.dataset.ready = "1";

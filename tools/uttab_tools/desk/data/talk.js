@@ -1,9 +1,20 @@
 // Talks to the server: questions, changes, and what the problem file says, which is asked for as it is shown.
 
+export const LOST = "The desk doesn’t answer. Is it still running?";
+
+// A request that got no answer, or was refused. The text is what is told of it.
+export class Unanswered extends Error {}
+
 export const post = async (place, body) => {
-  const reply = await fetch(place, { method: "POST", headers: { "Content-Type": "application/json" }, body: JSON.stringify(body) });
-  if (!reply.ok) throw new Error(await reply.text());
-  return reply.json();
+  let reply, text;
+  try {
+    reply = await fetch(place, { method: "POST", headers: { "Content-Type": "application/json" }, body: JSON.stringify(body) });
+    text = await reply.text();
+  } catch {
+    throw new Unanswered(LOST);
+  }
+  if (!reply.ok) throw new Unanswered(text.trim());
+  return JSON.parse(text);
 };
 
 // A name that goes from right to left keeps its place among other words.
@@ -29,13 +40,12 @@ const readers = {
 };
 
 export const part = (kind, id) => known[kind].get(id);
-export const MOST_AT_ONCE = 4000;
 
 // Asks for what isn't known yet of the parts of these ids.
 export const know = async wanted => {
   const missing = {};
   for (const [kind, ids] of Object.entries(wanted)) {
-    const own = [...new Set(ids)].filter(id => !known[kind].has(id)).slice(0, MOST_AT_ONCE);
+    const own = [...new Set(ids)].filter(id => !known[kind].has(id));
     if (own.length) missing[kind] = own;
   }
   if (!Object.keys(missing).length) return;
