@@ -338,7 +338,7 @@ def test_nobody_stumbles(browser: Browser, begin: Callable[..., Desk]) -> None:
     desk.post("do", lines=["close 3 11111 0 288 000011111111110", "lock 701"], label="Closed")
     desk.post("do", lines=["unassign 1401"], label="Out")
     check, found = accessible(), []
-    for width, dark in ((1440, False), (1440, True), (1024, False), (390, True), (390, False)):
+    for width, dark in ((1440, False), (1440, True), (1024, False), (800, True), (390, True), (390, False)):
         browser.resize(width, 900, dark)
         browser.choose(1401)
         for place, (kind, number) in enumerate(VIEWS):
@@ -353,6 +353,21 @@ def test_nobody_stumbles(browser: Browser, begin: Callable[..., Desk]) -> None:
                 assert isinstance(told, list)
                 found += [f"{width} {'dark' if dark else 'light'} {kind} {part}: {one}" for one in told]
     assert sorted(set(found)) == []
+
+
+def test_on_paper_is_the_week_alone(browser: Browser, begin: Callable[..., Desk]) -> None:
+    desk = begin()
+    make_ready(browser, desk)
+    browser.choose(1401)
+    until(lambda: browser.has("#grid .g"), "the places")
+    browser.driver.execute_cdp_cmd("Emulation.setEmulatedMedia", {"media": "print"})
+    try:
+        shown = browser.run("""return [...document.querySelectorAll("body *")].filter(one => one.checkVisibility() && one.getBoundingClientRect().height > 1)
+            .filter(one => one.matches("h1, h2, #grid .m, #grid .g, input, select, progress, summary, #lists, #panel, #totals, footer, nav, button:not(.link, .m .box)"))
+            .map(one => one.className.split(" ")[0] || one.tagName)""")
+    finally:
+        browser.driver.execute_cdp_cmd("Emulation.setEmulatedMedia", {"media": ""})
+    assert isinstance(shown, list) and sorted(set(shown)) == ["H1", "H2", "m"]
 
 
 def test_names_go_in_any_direction_and_are_no_markup(browser: Browser, begin: Callable[..., Desk], tmp_path: Path) -> None:

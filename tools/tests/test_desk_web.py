@@ -2,6 +2,7 @@
 
 import json
 import random
+import re
 import signal
 import socket
 import subprocess
@@ -10,7 +11,7 @@ from collections.abc import Iterator
 from pathlib import Path
 
 import pytest
-from conftest import PROGRAM, TOP, needs_program
+from conftest import PROGRAM, TOOLS, TOP, needs_program
 from desk_help import Desk, commands, replayed, until
 
 pytestmark = needs_program
@@ -62,6 +63,12 @@ def test_the_page_may_load_nothing_from_elsewhere(desk: Desk) -> None:
     for words in ("default-src 'none'", "script-src 'self'", "frame-ancestors 'none'", "referrer-policy: no-referrer", "nosniff", "no-store"):
         assert words in head, words
     assert "unsafe-inline" not in head and "unsafe-eval" not in head
+
+
+def test_nothing_moves_by_itself() -> None:
+    """So there is nothing to be left out for who wants less of it."""
+    for style in ("desk/data/desk.css", "data/grid.css"):
+        assert not re.search("animation|transition|scroll-behavior", (TOOLS / "uttab_tools" / style).read_text()), style
 
 
 def bad_requests(desk: Desk, count: int) -> Iterator[bytes]:

@@ -69,7 +69,7 @@ const drawClosed = room => {
       const start = Math.max(item.start, first), end = Math.min(item.end, last);
       if (start >= end) continue;
       const box = addBox(list, frame, { start, end }, "z");
-      add(box, "span", `closed ${W.hours({ start, end })}${app.weeks === "all" ? `, ${item.words}` : ""}`);
+      add(box, "span", `closed ${W.hours(item.time)}${app.weeks === "all" ? `, ${item.words}` : ""}`);
     }
   });
 };
