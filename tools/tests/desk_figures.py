@@ -25,11 +25,8 @@ CHOOSE = "const app = await import('./app.js'); await app.choose(arguments[0], t
 LOOK = "const app = await import('./app.js'); await app.look(arguments[0], arguments[1]); return document.body.offsetHeight"
 UNDO = "const app = await import('./app.js'); await app.undo(); return document.body.offsetHeight"
 TAB = "const app = await import('./app.js'); await app.setTab(arguments[0]); return document.body.offsetHeight"
-PLACE = """const { app } = await import('./app.js'), was = app.shown;
-    const button = document.querySelector('#values .value.free') || document.querySelector('#values .value.out');
-    button.click();
-    if (button.classList.contains('out')) { await new Promise(done => setTimeout(done, 50)); document.querySelector('#values .armed').click(); }
-    while (app.shown === was) await new Promise(requestAnimationFrame);
+PLACE = """const { placeAt } = await import('./values.js'), find = kind => document.querySelector(`#values .value.${kind}`);
+    await placeAt((find('free') || find('out')).dataset.key, true);
     return document.body.offsetHeight"""
 
 
@@ -74,9 +71,10 @@ class Figures:
         self.browser, self.desk = browser, desk
         self.processes = [browser.driver.service.process.pid, desk.process.pid]
 
-    def measure(self, words: str, act: Callable[[int], object], times: int = TIMES) -> None:
+    def measure(self, words: str, act: Callable[[int], object], times: int = TIMES, first: Callable[[int], object] = lambda _: None) -> None:
         clock, processor = [], []
         for turn in range(times):
+            first(turn)
             before, began = used(self.processes), time.monotonic()
             act(turn)
             clock.append(time.monotonic() - began)
@@ -99,7 +97,8 @@ def measure_all(figures: Figures, turns: int) -> None:
     some = [1 + turn * (number // TIMES - 1) for turn in range(TIMES)]
     figures.measure("the page is opened, with a timetable", lambda _: browser.open(desk), 3)
     figures.measure("a class is chosen: its places and its room’s week", lambda turn: figures.page(CHOOSE, some[turn]))
-    figures.measure("a click on a place, until all is drawn anew", lambda turn: (figures.page(CHOOSE, some[turn]), figures.page(PLACE)))
+    figures.measure("a click on a place, until all is drawn anew", lambda _: figures.page(PLACE),
+                    first=lambda turn: figures.page(CHOOSE, some[turn]))
     figures.measure("Undo, until all is drawn anew", lambda _: figures.page(UNDO), 5)
     figures.measure("another room’s week", lambda turn: figures.page(LOOK, "room", 1 + turn))
     figures.measure("a student’s week", lambda turn: figures.page(LOOK, "student", 1 + 7 * turn))

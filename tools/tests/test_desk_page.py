@@ -355,6 +355,28 @@ def test_nobody_stumbles(browser: Browser, begin: Callable[..., Desk]) -> None:
     assert sorted(set(found)) == []
 
 
+# What a screen reader tells by a name, in Chromium's own words.
+NAMED = {"button", "link", "textbox", "searchbox", "combobox", "checkbox", "tab", "tablist", "tabpanel", "listbox", "option", "table", "dialog",
+         "navigation", "region", "progressbar", "spinbutton", "radio", "heading", "columnheader", "rowheader"}
+
+
+def test_a_screen_reader_has_names(browser: Browser, begin: Callable[..., Desk]) -> None:
+    """By the browser's own reckoning, in each week and each list."""
+    desk = begin()
+    make_ready(browser, desk)
+    desk.post("do", lines=["close 3 11111 0 288 000011111111110", "lock 701", "unassign 1401"], label="Closed")
+    browser.choose(1401)
+    seen: set[str] = set()
+    for kind, number, tab in (("room", 3, "unplaced"), ("course", 14, "look"), ("student", 151, "costs"), ("room", 1, "steps")):
+        browser.await_("const app = await import('./app.js'); await app.look(arguments[0], arguments[1]); await app.setTab(arguments[2]); return 1",
+                       kind, number, tab)
+        nodes = browser.driver.execute_cdp_cmd("Accessibility.getFullAXTree", {})["nodes"]
+        parts = [(node["role"]["value"], node.get("name", {}).get("value", "").strip()) for node in nodes if not node["ignored"]]
+        seen |= {role for role, _ in parts}
+        assert [role for role, name in parts if role in NAMED and not name] == []
+    assert {"button", "checkbox", "combobox", "tab", "table", "heading", "status", "search"} <= seen, seen
+
+
 def test_on_paper_is_the_week_alone(browser: Browser, begin: Callable[..., Desk]) -> None:
     desk = begin()
     make_ready(browser, desk)
