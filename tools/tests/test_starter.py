@@ -1,0 +1,51 @@
+"""Tests of `./uttab` in a checkout without a built program, over a kit that does what a test wants."""
+
+import os
+import shutil
+import subprocess
+from pathlib import Path
+
+import pytest
+from conftest import TOP
+
+FAILS = "echo error: no such thing; exit 1"
+
+
+def start(folder: Path, kit: str, *words: str) -> subprocess.CompletedProcess[str]:
+    """What the starter does in a checkout of one crate, with a command `rt` of these lines."""
+    (folder / "crates/uttab").mkdir(parents=True)
+    (folder / "bin").mkdir()
+    (folder / "temporary").mkdir()
+    shutil.copy(TOP / "uttab", folder)
+    (folder / "crates.txt").touch()
+    (folder / "problem.json").touch()
+    (folder / "bin/rt").write_text(f"#!/bin/sh\n{kit}\n")
+    (folder / "bin/rt").chmod(0o755)
+    told = os.environ | {"PATH": f"{folder}/bin:{os.environ['PATH']}", "TMPDIR": f"{folder}/temporary"}
+    return subprocess.run(["./uttab", *words], cwd=folder, env=told, stdin=subprocess.DEVNULL, capture_output=True, text=True, check=False)
+
+
+@pytest.mark.parametrize("words, status", [
+    ("", 2), ("help", 2), ("run problem.json", 2), ("try", 2), ("make 1", 2), ("run problem.json absent", 5), ("try check absent", 5)])
+def test_nothing_is_built_to_tell_of_a_slip(tmp_path: Path, words: str, status: int) -> None:
+    done = start(tmp_path, FAILS, *words.split())
+    assert (done.returncode, done.stdout) == (status, "")
+    assert done.stderr.startswith("uttab: ") and done.stderr.count("\n") == 1
+
+
+@pytest.mark.parametrize("words", ["check problem.json", "check -", "try check problem.json", "make 1 1"])
+def test_what_cannot_be_built_ends_with_a_status_of_its_own(tmp_path: Path, words: str) -> None:
+    done = start(tmp_path, FAILS, *words.split())
+    assert (done.returncode, done.stdout) == (10, "")
+    assert "error: no such thing" in done.stderr
+    assert not [*(tmp_path / "temporary").iterdir()]
+
+
+def test_what_is_built_is_run(tmp_path: Path) -> None:
+    """The kit builds a program, and runs it without words, which ends with 2; a second run builds nothing."""
+    kit = "mkdir -p out; printf '#!/bin/sh\\necho \"$@\"\\nexit 3\\n' > out/uttab; chmod +x out/uttab; exit 2"
+    done = start(tmp_path, kit, "check", "problem.json")
+    assert (done.returncode, done.stdout) == (3, "check problem.json\n")
+    (tmp_path / "bin/rt").unlink()
+    again = subprocess.run(["./uttab", "make", "1", "1"], cwd=tmp_path, capture_output=True, text=True, check=False)
+    assert (again.returncode, again.stdout, again.stderr) == (3, "make 1 1\n", "")
