@@ -1,8 +1,10 @@
 //! The commands that lock classes and let them be moved again.
 
-ghost use Rattle.std.specs.Prelude.{◌≡◌, [], IfOk, OnErr};
+ghost use Rattle.std.specs.Prelude.{◌≡◌, [], ℕ, false, IfOk, OnErr};
+ghost use Rattle.tt_state.specs.Snapshots.{is_locked_in};
 ghost use Rattle.tt_desk.specs.Desk.{command_step, lock_refusal};
 ghost use Rattle.tt_desk.specs.Causes.{MayTake};
+ghost use Rattle.tt_desk.specs.Unlocked.{IsWithoutLocks};
 
 use crate::refusal::{Outcome, Refusal};
 use crate::reply::{put_locked, put_unlocked};
@@ -23,6 +25,13 @@ fn lock_refusal(fault: LockFault) -> Refusal
 }
 
 impl Session {
+    /// While no class is locked, what is done and said is what it would be if there were no locks.
+    #[tactic(auto, using(crate::proofs::UnlockedLemmas::without_locks))]
+    pub fn without_locks(&self)
+        ensures { ((class : ℕ) → is_locked_in self.now.desk.present class ≡ false) → IsWithoutLocks self.now.desk.problem self.now.desk.present }
+    {
+    }
+
     /// Locks a class, by its id.
     pub(crate) fn lock(&mut self, class: u32) -> Result<Outcome, AllocError>
         ensures ok { IfOk result (λ outcome. command_step self.old (Command.Lock class) ≡ record { session = self.new; outcome = outcome; lines = [] }) }
