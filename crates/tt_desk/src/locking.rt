@@ -26,7 +26,6 @@ fn lock_refusal(fault: LockFault) -> Refusal
 
 impl Session {
     /// While no class is locked, what is done and said is what it would be if there were no locks.
-    #[tactic(auto, using(crate::proofs::UnlockedLemmas::without_locks))]
     pub fn without_locks(&self)
         ensures { ((class : ℕ) → is_locked_in self.now.desk.present class ≡ false) → IsWithoutLocks self.now.desk.problem self.now.desk.present }
     {
