@@ -28,8 +28,7 @@ impl Session {
     /// While no class is locked, what is done and said is what it would be if there were no locks.
     pub fn without_locks(&self)
         ensures { ((class : ℕ) → is_locked_in self.now.desk.present class ≡ false) → IsWithoutLocks self.now.desk.problem self.now.desk.present }
-    {
-    }
+    {}
 
     /// Locks a class, by its id.
     pub(crate) fn lock(&mut self, class: u32) -> Result<Outcome, AllocError>

@@ -8,5 +8,5 @@ pub returns-in-Ok-clause-locked : goal.returns-in-Ok-clause-locked
 returns-in-Ok-clause-locked g c =
     let h = c.args.state.now in
     all_stay h.problem h.present c.enrol_each.new.state.present
-      (ap (λ (all : AllEnrolled). all.snapshot) c.in-Ok.ensures.all
-      ∙ ap (λ (d : Desk). (all_enrolled d.problem d.present).snapshot) c.in_ok-begin.ensures.desk)
+    (ap (λ (all : AllEnrolled). all.snapshot) c.in-Ok.ensures.all
+    ∙ ap (λ (d : Desk). (all_enrolled d.problem d.present).snapshot) c.in_ok-begin.ensures.desk)
