@@ -33,8 +33,12 @@ PLACE = """const { placeAt } = await import('./values.js'), find = kind => docum
 def children(process: int) -> Iterator[int]:
     """A process, and all that it began."""
     yield process
-    for task in Path(f"/proc/{process}/task").iterdir():
-        for child in (task / "children").read_text().split():
+    for task in Path(f"/proc/{process}/task").glob("*/children"):
+        try:
+            found = task.read_text().split()
+        except OSError:  # A thread that has ended meanwhile.
+            continue
+        for child in found:
             yield from children(int(child))
 
 

@@ -54,8 +54,8 @@ class Log:
         front, content = f"{FIRST_LINE}\n{heading}\n".encode(), self.path.read_bytes()
         if not content.startswith(front) and not front.startswith(content):
             self.close()
-            known = content.startswith(FIRST_LINE.encode())
-            raise FileFault(f"{self.path}: is the log of another problem or published file" if known else f"{self.path}: is no log of a desk")
+            what = "the log of another problem or published file" if content.startswith(FIRST_LINE.encode()) else "no log of a desk"
+            raise FileFault(f"{self.path}: is {what}")
         lines = without_torn(content[len(front):content.rfind(b"\n") + 1].decode(errors="surrogateescape").split("\n")[:-1])
         if len(content) < len(front):
             os.ftruncate(self.file, 0)

@@ -321,7 +321,8 @@ class Handler(BaseHTTPRequestHandler):
         if place is None:
             return
         length = self.headers.get("Content-Length", "")
-        if not (length.isascii() and length.isdigit() and len(length) < MOST_DIGITS) or self.headers.get("Content-Type") != "application/json":
+        known = length.isascii() and length.isdigit() and len(length) < MOST_DIGITS
+        if not known or self.headers.get("Content-Type") != "application/json":
             self.refuse(400, "A request is JSON, and says how long it is.")
             return
         if int(length) > MOST_BODY or place not in self.server.answers:
