@@ -1,5 +1,5 @@
 -- The checks of commands.
-use Rattle.std.proofs.Common.{◌≡◌, ◌∙◌, ℕ, suc, ◌+◌, ◌<◌, List, [], ◌∷◌, ◌++◌, Option, None, Some, Result, Ok, Err, refl, sym, ap, append_assoc, subst, arith, rules, take, drop, set, length, get_or}
+use Rattle.std.proofs.Common.{◌≡◌, ℕ, suc, ◌+◌, ◌<◌, List, [], ◌∷◌, ◌++◌, Option, None, Some, Result, Ok, Err, refl, sym, ap, append_assoc, subst, arith, rules, take, drop, set, length, get_or}
 use Rattle.std.proofs.lemmas.Grind.{common_steps}
 use Rattle.std.proofs.lemmas.List.{append-nil, take_more_set, drop-set-lt}
 use Rattle.std.proofs.lemmas.List.Elements.{All-append}
@@ -7,20 +7,17 @@ use Rattle.std.proofs.Math.Seq.{drop-cons, drop-length, take-length, take-append
 use Rattle.std.specs.Prelude.{All}
 use Rattle.tt_problem.specs.declared.parts.Parts.{Parts}
 use Rattle.tt_problem.specs.Places.{class_of}
-use Rattle.std.specs.Prelude.{true, false, Bool}
+use Rattle.std.specs.Prelude.{true, false}
 use Rattle.tt_state.specs.History.{Desk}
 use Rattle.tt_script.specs.declared.command.Command.TheVariants.{Publish}
 use Rattle.tt_desk.specs.declared.refusal.Outcome.TheVariants.{Accepted, Refused}
 use Rattle.tt_desk.specs.declared.refusal.Refusal.{Refusal}
 use Rattle.tt_desk.specs.declared.refusal.Refusal.TheVariants.{NoSuchClass}
 use Rattle.std.specs.Prelude.{codes}
-use Rattle.tt_score.specs.declared.totals.Totals.{Totals}
 use Rattle.tt_score.specs.Totals.{totals_of}
-use Rattle.tt_state.specs.Sound.{is_ready, no_faults}
+use Rattle.tt_state.specs.Sound.{is_ready}
 use Rattle.tt_solution.specs.Published.{timetable_of}
 use Rattle.tt_solution.specs.Text.{published_text}
-use Rattle.std.proofs.lemmas.Bool.{eqb-true}
-use Rattle.std.specs.Prelude.{◌&&◌}
 use Rattle.tt_solution.specs.Timetable.{Timetable}
 use Rattle.tt_desk.specs.Desk.{Session, Answer, carried_out, known_classes, step_from, with_published, not_ready}
 use Rattle.tt_base.specs.Chain.{◌>>=◌}

@@ -1,7 +1,7 @@
 -- How many published classes are moved, once some classes get other values.
 use Rattle.std.proofs.Common.{◌≡◌, ◌≢◌, ℕ, zero, suc, ◌+◌, ◌<◌, ◌≤◌, Bool, true, false, cond, Option, Some, None, List, [], ◌∷◌, All, length, refl, ap, sym, ◌∙◌, ◌⊎◌, inl, inr, arith, nat_eq}
-use Rattle.std.specs.Prelude.{count_by, not, ◌&&◌, ◌==◌, IfSome, slice_index_or, slice_set}
-use Rattle.std.specs.List.{range_with_len, list_any, IsDistinct, AllByRecursion}
+use Rattle.std.specs.Prelude.{count_by, IfSome, slice_index_or, slice_set}
+use Rattle.std.specs.List.{range_with_len, IsDistinct, AllByRecursion}
 use Rattle.std.specs.Option.{option_map, option_map_or}
 use Rattle.std.proofs.lemmas.Bool.{eqb-false, ne_eqb}
 use Rattle.std.proofs.lemmas.Bool.Decides.{eqb_tells}
@@ -21,7 +21,7 @@ use Rattle.tt_clash.specs.Forced.{IsOther}
 use Rattle.tt_clash.proofs.SetLemmas.{conflict_set-distinct, conflict_set-others, differ-valid}
 use Rattle.tt_score.specs.Forcing.{among}
 use Rattle.tt_solution.specs.Timetable.{Timetable, IsTimetableOf}
-use Rattle.tt_solution.specs.Published.{is_moved, moved_in, moved_of}
+use Rattle.tt_solution.specs.Published.{is_moved, moved_in}
 use Rattle.tt_solution.proofs.MovedLemmas.{moved_few, moved_same}
 use Rattle.tt_state.specs.Snapshots.{Snapshot, in_order, with_list}
 use Rattle.tt_state.specs.Values.{conflicts_of, obstacle_of}
