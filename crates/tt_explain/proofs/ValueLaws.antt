@@ -1,8 +1,7 @@
 -- What `values` says of a value is what `why` says of it.
-use Rattle.std.proofs.Common.{◌≡◌, ◌∙◌, ℕ, Bool, true, cond, List, [], ◌∷◌, Option, Some, None, length, count_by, refl, sym, ap, arith}
-use Rattle.std.specs.Prelude.{All, is_some, option_and_then}
+use Rattle.std.proofs.Common.{◌≡◌, ◌∙◌, ℕ, suc, true, List, [], ◌∷◌, ◌++◌, Option, Some, None, length, refl, sym, ap, arith}
+use Rattle.std.specs.Prelude.{All, IsSome, codes, is_some, option_and_then}
 use Rattle.std.specs.Option.{option_map_or}
-use Rattle.std.proofs.lemmas.List.Sums.{sum_by-cons}
 use Rattle.std.proofs.lemmas.List.Elements.{All-head, All-tail}
 use Rattle.tt_bits.specs.declared.times.Spot.{Spot}
 use Rattle.tt_bits.specs.declared.times.Value.{Value}
@@ -14,16 +13,23 @@ use Rattle.tt_clash.specs.ConflictSet.{conflict_set}
 use Rattle.tt_clash.proofs.SetLemmas.{conflict_set-others}
 use Rattle.tt_score.specs.Forcing.{among}
 use Rattle.tt_score.proofs.PlanLemmas.{spot_in}
+use Rattle.tt_state.specs.declared.obstacle.Obstacle.{Obstacle}
 use Rattle.tt_state.specs.Snapshots.{Snapshot, value_in}
-use Rattle.tt_state.specs.Values.{conflicts_of}
-use Rattle.tt_explain.specs.Values.{lines_out, value_costs}
+use Rattle.tt_state.specs.Values.{conflicts_of, obstacle_of}
+use Rattle.tt_explain.specs.Values.{IsToldByWhy, price_by, value_costs}
+use Rattle.tt_explain.specs.Why.{blocked_line, lines_by, lost_among, lost_of, out_lines, trial_line, why_lines}
 
--- where each item passes, all are counted
-count-all : (test : ℕ → Bool) (xs : List ℕ) → All (λ x. test x ≡ true) xs → count_by test xs ≡ length xs
-count-all test [] all = refl
-count-all test (x ∷ xs) all =
-    let here = ap {B = ℕ} (λ (b : Bool). cond b 1 0) (All-head (λ x. test x ≡ true) x xs all) in
-    omega (arith, sum_by-cons (λ y. cond (test y) 1 0) x xs, here, count-all test xs (All-tail (λ x. test x ≡ true) x xs all))
+-- where each class has a value, each loses one
+lost-all : (s : Snapshot) (others : List ℕ) → All (λ other. is_some (value_in s other) ≡ true) others → length (lost_among s others) ≡ length others
+unfolding lost_among
+lost-all s [] all = refl
+lost-all s (other ∷ others) all =
+    let has = λ (d : ℕ). is_some (value_in s d) ≡ true in
+    by (value_in s other) refl (All-head has other others all) (lost-all s others (All-tail has other others all))
+  where
+    by : (had : Option Value) → value_in s other ≡ had → is_some had ≡ true → length (lost_among s others) ≡ length others → length (lost_among s (other ∷ others)) ≡ length (other ∷ others)
+    by None is placed rest = absurd cc
+    by (Some had) is placed rest = rw is (ap suc rest)
 
 -- a class with a spot has a value
 placed_has_value : (p : Parts) (s : Snapshot) (class : ℕ) → is_some (spot_at (spots_of p s.plan) class) ≡ true → is_some (value_in s class) ≡ true
@@ -44,7 +50,27 @@ all_placed p s class v = by (spot_at_value p class v)
         let others = conflict_set-others (rule_amounts p) (among p s.plan class x) in
         λ k d within. placed_has_value p s _ (others k d within).placed
 
--- so `why` has as many lines `out` as the classes that `values` counts
-pub out_all : (p : Parts) (s : Snapshot) (class : ℕ) (v : Value) → (value_costs p s class v).out ≡ lines_out p s class v
-unfolding value_costs lines_out
-out_all p s class v = sym (count-all (λ other. is_some (value_in s other)) (conflicts_of p s class v) (all_placed p s class v))
+module _ (p : Parts) (s : Snapshot) (class : ℕ) (v : Value) where
+  -- what stands in the way is written alike
+  same_obstacle : (o : Option Obstacle) → IsSome o → lines_by p s class v o ≡ codes "blocked " ++ price_by p s class v o ++ codes "\n"
+  unfolding lines_by price_by blocked_line
+  same_obstacle None none = absurd cc
+  same_obstacle (Some found) some = refl
+
+  -- the total too
+  same_total : (o : Option Obstacle) → o ≡ None → lines_by p s class v o ≡ out_lines p s class v (lost_of p s class v) ++ trial_line (value_costs p s class v).total
+  unfolding lines_by value_costs
+  same_total o none = rw none refl
+
+  -- each class of the conflict set loses its value
+  all_lost : (value_costs p s class v).out ≡ length (lost_of p s class v)
+  unfolding value_costs lost_of
+  all_lost = sym (lost-all s (conflicts_of p s class v) (all_placed p s class v))
+
+  pub told_by_why : IsToldByWhy p s class v
+  unfolding why_lines
+  told_by_why = record {
+    obstacle = same_obstacle (obstacle_of p s class v);
+    out = all_lost;
+    total = same_total (obstacle_of p s class v);
+  }

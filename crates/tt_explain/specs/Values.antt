@@ -1,17 +1,17 @@
 -- Theorem. What `values` writes of a class.
-use Rattle.std.specs.Prelude.{ℕ, List, ◌++◌, Option, Some, None, codes, count_by, is_some, length}
+use Rattle.std.specs.Prelude.{◌≡◌, ℕ, List, ◌++◌, Option, Some, None, IsSome, codes, length}
 use Rattle.std.specs.List.{flat_map}
 use Rattle.tt_bits.specs.declared.times.Value.{Value}
 use Rattle.tt_problem.specs.declared.parts.Parts.{Parts}
 use Rattle.tt_plan.specs.Domain.{domain_of}
 use Rattle.tt_state.specs.declared.obstacle.Obstacle.{Obstacle}
-use Rattle.tt_state.specs.Snapshots.{Snapshot, value_in}
+use Rattle.tt_state.specs.Snapshots.{Snapshot}
 use Rattle.tt_state.specs.Values.{conflicts_of, obstacle_of, total_with}
 use Rattle.tt_state.specs.Weights.{weight_of}
 use Rattle.tt_text.specs.Fields.{field}
 use Rattle.tt_explain.specs.declared.pricing.ValueCosts.{ValueCosts}
 use Rattle.tt_explain.specs.Names.{value_text}
-use Rattle.tt_explain.specs.Why.{obstacle_text}
+use Rattle.tt_explain.specs.Why.{lost_of, obstacle_text, out_lines, trial_line, why_lines}
 
 -- what a class at a value would cost: how many classes it pushes out, what these weigh, and the total with it there and all
 -- else as it is
@@ -27,9 +27,13 @@ unfoldable pub price_by : Parts → Snapshot → (class : ℕ) → Value → Opt
 price_by p s class v (Some found) = obstacle_text p found
 price_by p s class v None = costs_text (value_costs p s class v)
 
+-- what is told of a value
+abbrev pub price_text : Parts → Snapshot → (class : ℕ) → Value → List ℕ
+price_text p s class v = price_by p s class v (obstacle_of p s class v)
+
 -- `value T R` and that
 unfoldable pub priced_line : Parts → Snapshot → (class : ℕ) → Value → List ℕ
-priced_line p s class v = codes "value " ++ value_text p class v ++ codes " " ++ price_by p s class v (obstacle_of p s class v) ++ codes "\n"
+priced_line p s class v = codes "value " ++ value_text p class v ++ codes " " ++ price_text p s class v ++ codes "\n"
 
 -- a line for each of these values
 unfoldable pub priced_lines : Parts → Snapshot → (class : ℕ) → List Value → List ℕ
@@ -39,6 +43,11 @@ priced_lines p s class values = flat_map (priced_line p s class) values
 unfoldable pub values_lines : Parts → Snapshot → (class : ℕ) → List ℕ
 values_lines p s class = priced_lines p s class (domain_of p class)
 
--- how many classes of the conflict set have a value, of which `why` has a line `out` each
-unfoldable pub lines_out : Parts → Snapshot → (class : ℕ) → Value → ℕ
-lines_out p s class v = count_by (λ other. is_some (value_in s other)) (conflicts_of p s class v)
+-- ---- `why`
+
+-- What `values` tells of a value, `why` tells of it too: where something stands in the way, the same of that; where nothing
+-- does, a line for each class that is pushed out, and the same total.
+pub record IsToldByWhy (p : Parts) (s : Snapshot) (class : ℕ) (v : Value) : Type 0 where
+  pub obstacle : IsSome (obstacle_of p s class v) → why_lines p s class v ≡ codes "blocked " ++ price_text p s class v ++ codes "\n"
+  pub out : (value_costs p s class v).out ≡ length (lost_of p s class v)
+  pub total : obstacle_of p s class v ≡ None → why_lines p s class v ≡ out_lines p s class v (lost_of p s class v) ++ trial_line (value_costs p s class v).total

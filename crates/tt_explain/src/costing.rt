@@ -24,7 +24,7 @@ pub struct ClassCosts {
 
 impl ClassCosts {
     /// Whether one of them is above 0.
-    fn is_some(&self) -> bool
+    fn costs_something(&self) -> bool
         ensures { result ≡ nat_lt 0 (all_costs self.now) }
     {
         self.time > 0 || self.room > 0 || self.conflicts > 0
@@ -95,7 +95,7 @@ fn add_costly_class(out: &mut Reply, state: &State, class: u32) -> Result<(), Al
     ensures { OnOk result (out.new ≡ out.old ++ (if is_costly_class state.now.problem state.now.present class then class_cost_line state.now.problem class (class_costs state.now.problem state.now.present class) else [])) }
 {
     let costs = class_costs(state, class);
-    if costs.is_some() {
+    if costs.costs_something() {
         add_class_cost_line(out, state.problem(), class, costs)
     } else {
         Ok(())

@@ -2,8 +2,8 @@ ghost use Rattle.std.specs.Prelude.{◌≡◌, ◌++◌, ◌<◌, [], OnOk, leng
 ghost use Rattle.tt_bits.specs.declared.times.Value.{Value};
 ghost use Rattle.tt_plan.specs.Domain.{IsOfDomain};
 ghost use Rattle.tt_state.specs.History.{with_taken};
-ghost use Rattle.tt_state.specs.Values.{conflicts_of, obstacle_of};
-ghost use Rattle.tt_explain.specs.Values.{costs_text, lines_out, price_by, priced_line, value_costs, values_lines};
+ghost use Rattle.tt_state.specs.Values.{conflicts_of};
+ghost use Rattle.tt_explain.specs.Values.{IsToldByWhy, costs_text, price_text, priced_line, value_costs, values_lines};
 
 use crate::names::add_value;
 use crate::trying::add_obstacle;
@@ -50,7 +50,7 @@ fn add_costs(out: &mut Reply, costs: ValueCosts) -> Result<(), AllocError>
 #[tactic(auto, using(tt_state::proofs::ObstacleLemmas::not_blocked), unfolding(crate::specs::Values::price_by))]
 fn add_price(out: &mut Reply, state: &mut State, class: u32, value: Value) -> Result<(), AllocError>
     requires { IsOfDomain state.old.problem class value }
-    ensures lines { OnOk result (out.new ≡ out.old ++ price_by state.old.problem state.old.present class value (obstacle_of state.old.problem state.old.present class value)) }
+    ensures lines { OnOk result (out.new ≡ out.old ++ price_text state.old.problem state.old.present class value) }
     ensures same { with_taken state.new [] ≡ with_taken state.old [] }
 {
     match state.find_obstacle(class, value) {
@@ -84,14 +84,14 @@ fn add_priced_line(
 /// Appends a line for each value of a class, in the order of its domain: what stands in its way, or
 /// how many classes would have to go, what they weigh (each 1, and how often it had to go for the
 /// class at the value from the value that it has), and the total with the class at the value and all
-/// else as it is. What `why` says of a value is the same. No memory is taken but the reply's. The
+/// else as it is. `why` tells the same of a value (`why`). No memory is taken but the reply's. The
 /// snapshot, the steps and the trail stay; the conflict set found last may be another. Where memory
 /// is wanting, some of the lines may have been appended.
 pub fn values(state: &mut State, class: u32, out: &mut Reply) -> Result<(), AllocError>
     requires { class < length state.old.problem.classes }
     ensures lines { OnOk result (out.new ≡ out.old ++ values_lines state.old.problem state.old.present class) }
     ensures same { with_taken state.new [] ≡ with_taken state.old [] }
-    ensures why { (v : Value) → (value_costs state.old.problem state.old.present class v).out ≡ lines_out state.old.problem state.old.present class v }
+    ensures why { (v : Value) → IsToldByWhy state.old.problem state.old.present class v }
 {
     for k in 0..domain_size(state.problem(), class) {
         let value = value_at(state.problem(), class, k);

@@ -6,7 +6,7 @@ use Rattle.tt_state.specs.History.{Held}
 use Rattle.tt_state.specs.Snapshots.{Snapshot}
 use Rattle.tt_explain.specs.Values.{priced_line, values_lines}
 use Rattle.tt_explain.proofs.LineLemmas.{all_written, next_written, priced_lines-more, priced_lines-none}
-use Rattle.tt_explain.proofs.ValueLaws.{out_all}
+use Rattle.tt_explain.proofs.ValueLaws.{told_by_why}
 use Rattle.tt_explain.proofs.pricing.values.Goals as goal
 
 pub loop-k-init : goal.loop-k-init
@@ -30,7 +30,7 @@ loop-k-preserved c =
     }
 
 pub returns-in_err-add_priced_line-clause-why : goal.returns-in_err-add_priced_line-clause-why
-returns-in_err-add_priced_line-clause-why c = out_all c.args.state.now.problem c.args.state.now.present c.args.class
+returns-in_err-add_priced_line-clause-why c = told_by_why c.args.state.now.problem c.args.state.now.present c.args.class
 
 pub returns-clause-lines : goal.returns-clause-lines
 returns-clause-lines c =
@@ -40,4 +40,4 @@ returns-clause-lines c =
     all_written _ _ _ c.loop-k.invariant.lines (priced_lines-none s.problem s.present c.args.class (domain_of s.problem c.args.class) c.loop-k.k past)
 
 pub returns-clause-why : goal.returns-clause-why
-returns-clause-why c = out_all c.args.state.now.problem c.args.state.now.present c.args.class
+returns-clause-why c = told_by_why c.args.state.now.problem c.args.state.now.present c.args.class
