@@ -119,9 +119,11 @@ const optionWords = id => {
 };
 const conflictWords = id => app.shown.student.pairs.filter(pair => pair.includes(id)).map(pair => W.say(pair.find(other => other !== id))).join("; ");
 const sectionRow = (body, course, words, ids, first) => {
-  const row = add(body, "tr"), name = add(row, "th"), had = ids.find(id => app.shown.student.classes.includes(id));
-  name.scope = "row";
-  if (first) link(name, "course", course.id, course.label);
+  const row = add(body, "tr"), name = add(row, first ? "th" : "td"), had = ids.find(id => app.shown.student.classes.includes(id));
+  if (first) {
+    name.scope = "row";
+    link(name, "course", course.id, course.label);
+  }
   add(row, "td", words);
   const select = add(add(row, "td"), "select");
   select.setAttribute("aria-label", `${course.label}, ${words}`);
