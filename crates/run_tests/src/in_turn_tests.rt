@@ -2,7 +2,7 @@
 // each byte.
 use std::alloc::{AllocError, Global};
 use std::test::Fail;
-use tt_io::{MemFiles, MemSink, Silent};
+use tt_io::{MemFiles, MemSink};
 use tt_top::run;
 
 const ONE_CLASS: &str =
@@ -110,7 +110,7 @@ fn status_of(
 ) -> Result<u8, AllocError> {
     let mut files = files_of(alloc, plain, failing)?;
     let words = words_of(alloc, plain.words)?;
-    Ok(run(alloc, &words, &mut files, out, &mut Silent))
+    Ok(run(alloc, &words, &mut files, out))
 }
 
 // How a run ends of which a call fails, if any.
@@ -198,7 +198,7 @@ fn check_ends(alloc: Global, kept: usize, status: u8, output: &str) -> Result<bo
     )?;
     let mut out = MemSink::new(alloc);
     let words = words_of(alloc, "check problem")?;
-    let ended = run(alloc, &words, &mut files, &mut out, &mut Silent);
+    let ended = run(alloc, &words, &mut files, &mut out);
     Ok(ended == status && out.bytes() == Some(output.as_bytes()))
 }
 

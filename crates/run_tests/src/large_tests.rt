@@ -2,7 +2,7 @@
 use std::alloc::{AllocError, Global};
 use std::test::Fail;
 use tt_fields::FileFault;
-use tt_io::{MemFiles, MemSink, Silent};
+use tt_io::{MemFiles, MemSink};
 use tt_problem::{ClassPart, Problem};
 use tt_read::read;
 use tt_top::run;
@@ -31,7 +31,7 @@ fn written(alloc: Global, line: &str, files: &mut MemFiles) -> Result<Option<Vec
         words.push(String::from_str(alloc, word)?)?;
     }
     let mut out = MemSink::new(alloc);
-    if run(alloc, &words, files, &mut out, &mut Silent) != 0 {
+    if run(alloc, &words, files, &mut out) != 0 {
         return Ok(None);
     }
     match out.bytes() {

@@ -51,11 +51,11 @@ fn locks(state: &mut State, class: u32) -> bool
 }
 
 // Whether the state returns to what is published.
-fn recalls(state: &mut State, published: &Published) -> bool
+fn recalls(alloc: Global, state: &mut State, published: &Published) -> bool
     requires { IsTimetableOf state.old.problem published.now }
     ensures { state.new.problem ≡ state.old.problem }
 {
-    recall(state, published) == Ok(())
+    recall(alloc, state, published) == Ok(())
 }
 
 // The total and the number of unplaced classes.
@@ -143,11 +143,11 @@ fn a_recalled_class_loses_its_lock_where_it_moves(rt: HostRuntime) -> Result<(),
     let mut state = State::start(rt.alloc(), problem).expect(&rt, "memory");
     assert!(rt; assigns(&mut state, 0, 2, None));
     assert!(rt; locks(&mut state, 0));
-    assert!(rt; recalls(&mut state, &published));
+    assert!(rt; recalls(rt.alloc(), &mut state, &published));
     assert!(rt; state.is_locked(0));
     assert!(rt; assigns(&mut state, 0, 1, None));
     assert!(rt; state.is_locked(0));
-    assert!(rt; recalls(&mut state, &published));
+    assert!(rt; recalls(rt.alloc(), &mut state, &published));
     assert!(rt; totals(&state) == (5, 0));
     assert!(rt; !state.is_locked(0));
     assert!(rt; state.undo());
