@@ -13,6 +13,8 @@ from conftest import TOOLS, Tool, Write
 from uttab_tools.__main__ import COMMANDS
 from uttab_tools.program import Command, FileFault, Output, Usage
 
+COMPLETION = Path("/usr/share/bash-completion/bash_completion")
+
 
 def command(run: object) -> Command:
     return Command("trial", "A trial.", lambda parser: None, run)  # type: ignore[arg-type]
@@ -31,6 +33,23 @@ def test_each_command_says_what_it_is(name: str, tool: Tool) -> None:
     out, _ = tool(name, "--help")
     assert "status: 0" in out and "9 the command itself failed" in out
     tool(name, "--unknown", status=2)
+
+
+@pytest.mark.skipif(not COMPLETION.exists(), reason="there is no bash-completion")
+@pytest.mark.parametrize("words, found", [
+    ("midterm ''", "rest whole"), ("fet p", "problem published"), ("best_of_seeds b", "best"), ("midterm rest --f", "--from"),
+    ("page --with", "--without-students")])
+def test_words_are_completed(words: str, found: str) -> None:
+    script = f'''
+        . {COMPLETION}
+        . {TOOLS}/../package/uttab.bash-completion
+        COMP_WORDS=({words})
+        COMP_LINE=${{COMP_WORDS[*]}} COMP_CWORD=$((${{#COMP_WORDS[@]}} - 1))
+        COMP_POINT=${{#COMP_LINE}}
+        _uttab_tool {TOOLS}/${{COMP_WORDS[0]}}
+        echo ${{COMPREPLY[@]}}'''
+    done = subprocess.run(["bash", "-c", script], capture_output=True, text=True, check=False)
+    assert (done.stdout, done.stderr) == (f"{found}\n", "")
 
 
 def test_the_launcher_runs_from_any_folder(tmp_path: Path) -> None:
