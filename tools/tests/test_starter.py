@@ -33,6 +33,15 @@ def test_nothing_is_built_to_tell_of_a_slip(tmp_path: Path, words: str, status: 
     assert done.stderr.startswith("uttab: ") and done.stderr.count("\n") == 1
 
 
+@pytest.mark.parametrize("words, told", [("check problem.json", 0), ("try check problem.json", 1)])
+def test_what_is_installed_is_run_also_after_try(tmp_path: Path, words: str, told: int) -> None:
+    shutil.copy(TOP / "uttab", tmp_path)
+    (tmp_path / "program").write_text('#!/bin/sh\necho "$@"\nexit 3\n')
+    (tmp_path / "program").chmod(0o755)
+    done = subprocess.run([tmp_path / "uttab", *words.split()], capture_output=True, text=True, check=False)
+    assert (done.returncode, done.stdout, done.stderr.count("\n")) == (3, "check problem.json\n", told)
+
+
 @pytest.mark.parametrize("words", ["check problem.json", "check -", "try check problem.json", "make 1 1"])
 def test_what_cannot_be_built_ends_with_a_status_of_its_own(tmp_path: Path, words: str) -> None:
     done = start(tmp_path, FAILS, *words.split())
