@@ -144,6 +144,22 @@ def test_the_whole_term_is_checked(tool: Tool, files: tuple[str, str], rest: Pat
     assert "clash 2 6" in told
 
 
+@needs_program
+def test_what_has_the_weeks_of_a_changed_class_becomes_two(tool: Tool, write: Write, tmp_path: Path) -> None:
+    rules = PROBLEM["distributions"]
+    assert isinstance(rules, list)
+    files = (write("problem.json", json.dumps(PROBLEM | {"distributions": [
+        *rules, {"type": "SameWeeks", "required": True, "classes": [3, 5, 1]}]})), write("old.json", json.dumps(OLD)))
+    tool("midterm", "rest", *files, "--from", 3, "--to", tmp_path / "rest")
+    _, told = tool("midterm", "whole", *files, new_timetable(tmp_path / "rest", write), "--from", 3, "--to", tmp_path / "whole")
+    assert told == "midterm: 3 classes are two now: 3 (6 from week 3 on), 4 (7 from week 3 on), 5 (8 from week 3 on)\n"
+    found = loads(tmp_path / "whole/problem.json")["distributions"]
+    assert isinstance(found, list)
+    assert [rule["classes"] for rule in found if rule["type"] == "SameWeeks"] == [[3, 5, 1], [6, 8]]
+    words = tmp_path / "whole/problem.json", tmp_path / "whole/published.json"
+    assert uttab("verify", *words).splitlines()[-1] == "valid"
+
+
 def test_nothing_changed(tool: Tool, files: tuple[str, str], rest: Path, tmp_path: Path) -> None:
     _, told = tool("midterm", "whole", *files, rest / "published.json", "--from", 3, "--to", tmp_path / "whole")
     assert told == ""

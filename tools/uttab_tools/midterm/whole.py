@@ -62,6 +62,7 @@ class _Joining:
         self.new_classes = count(max(problem.classes, default=0) + 1)
         self.new_courses = count(max(problem.courses, default=0) + 1)
         self.halves: dict[int, list[Half]] = {}
+        self.parted = self._parted()
         # The courses that stand in the place of one, by it and the student who has them.
         self.in_place: dict[tuple[int, int], list[int]] = {}
 
@@ -86,10 +87,20 @@ class _Joining:
 
     # What becomes of a class.
 
+    def _parted(self) -> set[int]:
+        """The classes whose weeks gone by stand alone: what changed, and what a SameWeeks holds beside such a one, since
+        weeks of the whole term aren't those of a half."""
+        found = {number for number, old in self.old.items() if old.weeks & self.gone and not is_over(old, self.first)
+                 and not (number in self.new and self._is_as_before(old, self.new[number]))}
+        together = [set(rule.classes) for rule in rules_of(self.problem) if rule.kind == "SameWeeks"]
+        while added := {number for classes in together if classes & found for number in classes} - found:
+            found |= added
+        return found
+
     def _halves(self, of_class: Class, value: Value) -> list[Half]:
         """The class as it is in the whole term: once, twice where it changed, or not at all where it is in no timetable."""
         old, new = self.old.get(of_class.id), self.new.get(of_class.id)
-        if old and (is_over(old, self.first) or new and self._is_as_before(old, new)):
+        if old and (is_over(old, self.first) or new and of_class.id not in self.parted and self._is_as_before(old, new)):
             return [Half(of_class.id, value, old, old.weeks, not old.weeks & self.gone)]
         if new and new.weeks & self.gone:
             raise FileFault(f"{self.new_file}: class {of_class.id}: has weeks before week {self.first}")
@@ -172,6 +183,9 @@ class _Joining:
             yield rule.value
         elif rule.kind in BY_WEEKS:
             yield rule.over([half.id for halves in listed for half in halves])
+        elif rule.kind == "SameWeeks":
+            for late in (False, True):
+                yield rule.over([half.id for halves in listed for half in halves if half.late == late])
         else:
             yield rule.over([halves[0].id for halves in listed])
             if rule.kind != "Precedence":
