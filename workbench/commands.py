@@ -105,7 +105,7 @@ def add_words(parser: Words) -> None:
 
     def add(name: str, does: Callable[[argparse.Namespace], int]) -> Words:
         text = does.__doc__ or ""
-        words = parser_of.add_parser(name, help=text.split("\n")[0], description=text)
+        words = parser_of.add_parser(name, help=text.split("\n")[0], description=text.replace("\n\n", ". ", 1))
         words.set_defaults(does=does)
         return words
 

@@ -81,3 +81,7 @@ def test_wide_clauses_are_counted(house: Path) -> None:
     assert dev(house, "wide") == (0, found)
     assert dev(house, "wide", "two") == (0, ["0 of 0 clauses are wider than 100 columns"])
     assert dev(house, "wide", "--list")[1][1].startswith(f"  crates/three/src/lib.rt:6: {width}  ensures sum {{ 1 + ")
+
+
+def test_the_help_of_a_word_is_in_sentences(house: Path) -> None:
+    assert "runs the gate, .ci/run. It proves, " in " ".join(dev(house, "gate", "--help")[1])
