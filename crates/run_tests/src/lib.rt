@@ -6,10 +6,6 @@ mod desk_tests;
 #[cfg(test)]
 mod failing_tests;
 #[cfg(test)]
-mod in_turn_tests;
-#[cfg(test)]
-mod large_tests;
-#[cfg(test)]
 mod piece_tests;
 #[cfg(test)]
 mod top_tests;
