@@ -1,0 +1,96 @@
+-- Theorem. The great deluge (Dueck 1993): rounds over classes, pairs of classes and students, each change of which is made where
+-- the total after it is at most a level that sinks.
+use Rattle.std.specs.Prelude.{ℕ, zero, suc, ◌+◌, ◌-◌, ◌*◌, ◌/◌, ◌%◌, Bool, ◌&&◌, ◌||◌, ◌==◌, not, nat_le, max, List, [], ◌∷◌, Option, Some, None, length, if◌then◌else◌}
+use Rattle.std.specs.List.{best_of}
+use Rattle.rand_core.specs.Stream.{Stream}
+use Rattle.tt_base.specs.Lists.{is_less}
+use Rattle.tt_draw.specs.Words.{random_words}
+use Rattle.tt_problem.specs.declared.parts.Parts.{Parts}
+use Rattle.tt_state.specs.Snapshots.{Snapshot}
+use Rattle.tt_improve.specs.Classes.{total_of}
+use Rattle.tt_improve.specs.Objects.{movable_classes}
+use Rattle.tt_improve.specs.declared.objects.Object.{Object}
+use Rattle.tt_deluge.specs.Draws.{draw}
+use Rattle.tt_deluge.specs.ClassRounds.{class_round}
+use Rattle.tt_deluge.specs.StudentRounds.{choices_in, student_round}
+
+-- what rounds are made over: classes, and courses of students
+pub record Objects : Type 0 where
+  pub classes : List ℕ
+  pub choices : List Object
+
+-- the placed classes that aren't locked, and the courses with a choice of each student who has classes
+abbrev pub objects_at : Parts → Snapshot → Objects
+objects_at p s = record { classes = movable_classes p s; choices = choices_in p s }
+
+-- the list is empty
+abbrev pub is_empty : {A : Type 0} → List A → Bool
+is_empty xs = length xs == 0
+
+-- there is nothing to change
+abbrev pub are_none : Objects → Bool
+are_none o = is_empty o.classes && is_empty o.choices
+
+-- a round of a kind below 32 is one on a class: there is no choice, or there is a class and the kind is odd
+abbrev pub is_on_class : Objects → (kind : ℕ) → Bool
+is_on_class o kind = is_empty o.choices || (not (is_empty o.classes) && (kind % 2 == 1))
+
+-- what a round of a kind finds
+abbrev pub found_of_kind : Parts → Objects → Snapshot → (kind : ℕ) → Stream → Option Snapshot × Stream
+found_of_kind p o s kind words = if is_on_class o kind then class_round p o.classes s kind words else student_round p o.choices s words
+
+-- what a round finds: first its kind is drawn
+unfoldable pub found_by : Parts → Objects → Snapshot → Stream → Option Snapshot × Stream
+found_by p o s words = let kind = draw 32 words in found_of_kind p o s kind.0 kind.1
+
+-- the level in round i of n, counted from 0: it sinks from the first total to 0, but not below the present total
+abbrev pub level_at : (first rounds i present : ℕ) → ℕ
+level_at first rounds i present = max present (first - first * i / rounds)
+
+-- a moment on the way: a snapshot, how many changes led to it, and the words to come
+pub record Moment : Type 0 where
+  pub snapshot : Snapshot
+  pub changed : ℕ
+  pub words : Stream
+
+-- the moment after what a round found: it is made where the total after it is at most the level
+abbrev pub settled : Parts → (level : ℕ) → Moment → Option Snapshot × Stream → Moment
+settled p level m (None, words) = record { snapshot = m.snapshot; changed = m.changed; words = words }
+settled p level m (Some next, words) =
+    if nat_le (total_of p next) level
+    then record { snapshot = next; changed = m.changed + 1; words = words }
+    else record { snapshot = m.snapshot; changed = m.changed; words = words }
+
+-- the moment after round i of n
+abbrev pub after_round : Parts → Objects → (first rounds i : ℕ) → Moment → Moment
+after_round p o first rounds i m =
+    settled p (level_at first rounds i (total_of p m.snapshot)) m (found_by p o m.snapshot m.words)
+
+-- the moments after each of so many rounds from round i of n on
+unfoldable pub moments_after : Parts → Objects → (first rounds : ℕ) → (more i : ℕ) → Moment → List Moment
+moments_after p o first rounds zero i m = []
+moments_after p o first rounds (suc more) i m =
+    let next = after_round p o first rounds i m in next ∷ moments_after p o first rounds more (i + 1) next
+
+-- before the first round
+abbrev pub first_moment : (seed : ℕ) → Snapshot → Moment
+first_moment seed s = record { snapshot = s; changed = 0; words = random_words seed }
+
+-- the first moment of the way that has the least total
+unfoldable pub best_moment : Parts → (rounds seed : ℕ) → Snapshot → Moment
+best_moment p rounds seed s =
+    best_of (is_less (λ m. total_of p m.snapshot ∷ [])) (first_moment seed s)
+    (moments_after p (objects_at p s) (total_of p s) rounds rounds 0 (first_moment seed s))
+
+-- where a deluge ends, how many rounds it makes, and how many changes lead there
+pub record Deluge : Type 0 where
+  pub snapshot : Snapshot
+  pub rounds : ℕ
+  pub changed : ℕ
+
+-- a deluge of so many rounds; none is made where there is nothing to change
+unfoldable pub deluged : Parts → (rounds seed : ℕ) → Snapshot → Deluge
+deluged p rounds seed s =
+    if are_none (objects_at p s)
+    then record { snapshot = s; rounds = 0; changed = 0 }
+    else record { snapshot = (best_moment p rounds seed s).snapshot; rounds = rounds; changed = (best_moment p rounds seed s).changed }

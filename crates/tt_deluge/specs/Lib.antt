@@ -1,0 +1,4 @@
+pub mod Draws
+pub mod ClassRounds
+pub mod StudentRounds
+pub mod Deluged

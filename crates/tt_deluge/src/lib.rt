@@ -1,0 +1,2 @@
+//! The great deluge.
+#![tactic(auto)]

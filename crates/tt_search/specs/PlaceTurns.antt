@@ -1,0 +1,78 @@
+-- Theorem. Turns that learn which classes are hard: a class weighs more each time that it is taken out.
+use Rattle.std.specs.Prelude.{ℕ, ◌+◌, Bool, not, nat_eq, List, [], ◌∷◌, ◌++◌, Option, Some, None, count_by, length, map}
+use Rattle.std.specs.List.{best_of, filter, list_any, sum_by}
+use Rattle.std.specs.Option.{option_map}
+use Rattle.rand_core.specs.Stream.{Stream, next_u32}
+use Rattle.tt_bits.specs.declared.times.Value.{Value}
+use Rattle.tt_problem.specs.declared.parts.Parts.{Parts}
+use Rattle.tt_state.specs.Snapshots.{Snapshot}
+use Rattle.tt_state.specs.Values.{conflicts_of, total_with}
+use Rattle.tt_state.specs.Forced.{forced}
+use Rattle.tt_base.specs.Lists.{is_less}
+use Rattle.tt_draw.specs.Words.{drawn, random_words}
+use Rattle.tt_search.specs.Searched.{onward, rank_of}
+use Rattle.tt_search.specs.Turns.{available_values, candidates}
+
+-- a moment on the way: a snapshot, and the classes that the turns so far took out, as often as they did
+pub record Moment : Type 0 where
+  pub snapshot : Snapshot
+  pub outs : List ℕ
+
+-- what a class weighs: 1, and how often it was taken out
+abbrev pub class_weight : (outs : List ℕ) → (class : ℕ) → ℕ
+class_weight outs class = 1 + count_by (nat_eq class) outs
+
+-- what the conflict set of a value weighs
+abbrev pub set_weight : Parts → Moment → (class : ℕ) → Value → ℕ
+set_weight p m class v = sum_by (class_weight m.outs) (conflicts_of p m.snapshot class v)
+
+-- the numbers by which a value is chosen: what its conflict set weighs, and the total with the class there
+unfoldable pub burden_of : Parts → Moment → (class : ℕ) → Value → List ℕ
+burden_of p m class v = set_weight p m class v ∷ total_with p m.snapshot class v ∷ []
+
+-- the items of a list that are least by their numbers: none of the list comes before them
+abbrev pub all_least : {A : Type 0} → (A → List ℕ) → List A → List A
+all_least numbers xs = filter (λ x. not (list_any (λ y. is_less numbers y x) xs)) xs
+
+-- the available values of a class that are least, in the order of its domain
+unfoldable pub least_values : Parts → Moment → (class : ℕ) → List Value
+least_values p m class = all_least (burden_of p m class) (available_values p m.snapshot class)
+
+-- the moment after a class is forced to a value, if there is one: its conflict set is taken out
+abbrev pub after_forcing : Parts → Moment → (class : ℕ) → Option Value → Moment
+after_forcing p m class None = m
+after_forcing p m class (Some v) = record { snapshot = forced p m.snapshot class v; outs = conflicts_of p m.snapshot class v ++ m.outs }
+
+-- the two random words of a turn: one for the class, one for the value
+pub record TurnWords : Type 0 where
+  pub class : ℕ
+  pub value : ℕ
+
+-- the next two words, and those after them
+abbrev pub two_words : Stream → TurnWords × Stream
+two_words words = let next = next_u32 words in (record { class = next.0; value = (next_u32 next.1).0 }, (next_u32 next.1).1)
+
+-- the moment after a turn, none where there is no candidate
+unfoldable pub place_turn : Parts → TurnWords → Moment → Option Moment
+place_turn p words m =
+    option_map (λ class. after_forcing p m class (drawn words.value (least_values p m class))) (drawn words.class (candidates p m.snapshot))
+
+-- the moments after each of at most so many turns, two words a turn
+abbrev pub after_places : Parts → (turns seed : ℕ) → Snapshot → List Moment
+after_places p turns seed s = onward two_words (place_turn p) turns (random_words seed) (record { snapshot = s; outs = [] })
+
+-- the snapshots of these
+abbrev pub places_after : Parts → (turns seed : ℕ) → Snapshot → List Snapshot
+places_after p turns seed s = map (λ m. m.snapshot) (after_places p turns seed s)
+
+-- the way: the present snapshot, and those after each turn
+abbrev pub place_way : Parts → (turns seed : ℕ) → Snapshot → List Snapshot
+place_way p turns seed s = s ∷ places_after p turns seed s
+
+-- where it ends: at the first of its way that is least by unplaced classes, hard conflicts and total, as a search
+unfoldable pub place_end : Parts → (turns seed : ℕ) → Snapshot → Snapshot
+place_end p turns seed s = best_of (is_less (rank_of p None)) s (places_after p turns seed s)
+
+-- where so many turns end, and how many are made
+abbrev pub all_placed : Parts → (turns seed : ℕ) → Snapshot → Snapshot × ℕ
+all_placed p turns seed s = (place_end p turns seed s, length (after_places p turns seed s))
