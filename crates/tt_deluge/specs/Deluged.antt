@@ -53,18 +53,24 @@ pub record Moment : Type 0 where
   pub changed : ℕ
   pub words : Stream
 
--- the moment after what a round found: it is made where the total after it is at most the level
-abbrev pub settled : Parts → (level : ℕ) → Moment → Option Snapshot × Stream → Moment
-settled p level m (None, words) = record { snapshot = m.snapshot; changed = m.changed; words = words }
-settled p level m (Some next, words) =
-    if nat_le (total_of p next) level
-    then record { snapshot = next; changed = m.changed + 1; words = words }
-    else record { snapshot = m.snapshot; changed = m.changed; words = words }
+-- a change that is made: one with which the total is at most the level
+abbrev pub made_within : Parts → (level : ℕ) → Option Snapshot → Option Snapshot
+made_within p level None = None
+made_within p level (Some next) = if nat_le (total_of p next) level then Some next else None
+
+-- the moment after a round that made this change, or none, with the words to come
+abbrev pub moment_with : Moment → Option Snapshot → Stream → Moment
+moment_with m None words = record { snapshot = m.snapshot; changed = m.changed; words = words }
+moment_with m (Some next) words = record { snapshot = next; changed = m.changed + 1; words = words }
+
+-- the moment after a round at a level
+abbrev pub after_level : Parts → Objects → (level : ℕ) → Moment → Moment
+after_level p o level m =
+    let found = found_by p o m.snapshot m.words in moment_with m (made_within p level found.0) found.1
 
 -- the moment after round i of n
 abbrev pub after_round : Parts → Objects → (first rounds i : ℕ) → Moment → Moment
-after_round p o first rounds i m =
-    settled p (level_at first rounds i (total_of p m.snapshot)) m (found_by p o m.snapshot m.words)
+after_round p o first rounds i m = after_level p o (level_at first rounds i (total_of p m.snapshot)) m
 
 -- the moments after each of so many rounds from round i of n on
 unfoldable pub moments_after : Parts → Objects → (first rounds : ℕ) → (more i : ℕ) → Moment → List Moment
