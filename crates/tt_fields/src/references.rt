@@ -1,6 +1,6 @@
 //! Ids, and the references to what has them.
 
-ghost use Rattle.std.specs.Prelude.{◌≡◌, ◌+◌, ◌<◌, ◌^◌, [], ◌∷◌, ◌++◌, length, codes, nat_eq, IfOk, OnOk, IfSome, Ok, Some, None};
+ghost use Rattle.std.specs.Prelude.{◌≡◌, ◌+◌, ◌<◌, ◌^◌, [], ◌∷◌, ◌++◌, length, codes, nat_eq, IfOk, OnOk, OnErr, IfSome, Ok, Some, None};
 ghost use Rattle.std.specs.List.{IsDistinct};
 ghost use Rattle.tt_fields.specs.Answer.{Reads, Gives, part_of};
 ghost use Rattle.tt_fields.specs.Kinds.{required, optional, new_id, placed_in, place_of, a_reference};
@@ -14,13 +14,14 @@ use crate::values::{as_number, found, required, value};
 use indexmap::IndexSet;
 
 /// Adds the id of an object to those of the objects of its kind before it. An id that stands twice,
-/// at the key `id`, where it is one of them.
+/// at the key `id`, where it is one of them. After an error the ids are as before.
 #[tactic(auto, unfolding(crate::specs::Kinds::new_id))]
 pub fn add_id(object: &Part<'_>, id: u32, ids: &mut IndexSet<u32>) -> Result<(), FileFault>
     ensures reads { Gives (λ _. ids.new.keys) result (new_id id ids.old.keys (part_of object.now)) }
     ensures last { OnOk result (ids.new.keys ≡ ids.old.keys ++ id ∷ []) }
     ensures one { OnOk result (length ids.new.keys ≡ length ids.old.keys + 1) }
     ensures distinct { OnOk result (IsDistinct nat_eq ids.new.keys) }
+    ensures kept { OnErr result (ids.new.keys ≡ ids.old.keys) }
 {
     if ids.insert(id)? {
         Ok(())
