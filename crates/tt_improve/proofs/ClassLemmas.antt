@@ -87,11 +87,11 @@ walk_found p s class found is =
         low true = refl
         low false = refl
 
-none_is : (o : Option Block) → is_none o ≡ true → o ≡ None
+pub none_is : (o : Option Block) → is_none o ≡ true → o ≡ None
 none_is None e = refl
 none_is (Some b) e = absurd (cc e)
 
-empty_is : (xs : List ℕ) → length xs ≡ 0 → xs ≡ []
+pub empty_is : (xs : List ℕ) → length xs ≡ 0 → xs ≡ []
 empty_is [] e = refl
 empty_is (x ∷ xs) e = absurd (omega arith)
 

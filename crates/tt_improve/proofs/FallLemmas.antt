@@ -36,11 +36,11 @@ spot_of_value p c v domain =
     ]
 
 -- a value that isn't blocked adds no closed time
-open_value : (p : Parts) (closures : List Closure) (c : ℕ) (v : Value) (x : Spot) → spot_at_value p c v ≡ Some x → blocked_by p closures c x ≡ None → closed_count p closures c v ≡ 0
+pub open_value : (p : Parts) (closures : List Closure) (c : ℕ) (v : Value) (x : Spot) → spot_at_value p c v ≡ Some x → blocked_by p closures c x ≡ None → closed_count p closures c v ≡ 0
 unfolding closed_count
 open_value p closures c v x is none = rw (is, (open-none p closures c x none).0) refl
 
-distinct-rules : (p : Parts) → IsValid p → (k : ℕ) (r : Rule) → slice_get p.rules k ≡ Some r → IsDistinct nat_eq r.members
+pub distinct-rules : (p : Parts) → IsValid p → (k : ℕ) (r : Rule) → slice_get p.rules k ≡ Some r → IsDistinct nat_eq r.members
 distinct-rules p valid k r is =
     let one : IsValidRule p (get_or p.rules k r) = valid.rules k r (slice_get_within p.rules k r is) in
     let same = get_or_from_slice_get p.rules k r r is in

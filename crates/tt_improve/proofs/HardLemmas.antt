@@ -214,7 +214,7 @@ module _ (p : Parts) (closures : List Closure) (h : List (Option Spot)) (c : ℕ
   moved_held (m ∷ ms) = ap (λ y. y ∷ map (spot_with s []) ms) (moved_spot m) ∙ ap (λ l. spot_at moved m ∷ l) (moved_held ms)
 
   -- a required group rule that has the class has amount 0
-  group-zero : (k q : ℕ) (r : Rule) → slice_get p.rules k ≡ Some r → is_required_group r ≡ true → place_in c r ≡ Some q → kind_amount r.kind p.nr_weeks p.travel (held_by moved r) ≡ 0
+  pub group-zero : (k q : ℕ) (r : Rule) → slice_get p.rules k ≡ Some r → is_required_group r ≡ true → place_in c r ≡ Some q → kind_amount r.kind p.nr_weeks p.travel (held_by moved r) ≡ 0
   group-zero k q r is group here =
       let freed = freed-rule k q r is here in
       let one : IsFreed (rule_amounts p k) r.members s [] = (rw is at freed) group in
@@ -252,7 +252,7 @@ module _ (p : Parts) (closures : List Closure) (h : List (Option Spot)) (c : ℕ
       rw amount (omega arith)
 
   -- the hard conflicts of a rule do not rise
-  rule-falls : (k : ℕ) (r : Rule) → slice_get p.rules k ≡ Some r → IsDistinct nat_eq r.members → rule_hard p moved r ≤ rule_hard p h r
+  pub rule-falls : (k : ℕ) (r : Rule) → slice_get p.rules k ≡ Some r → IsDistinct nat_eq r.members → rule_hard p moved r ≤ rule_hard p h r
   unfolding rule_amount hard_of
   rule-falls k r is distinct = by r.required refl (place_in c r) refl
     where
