@@ -4,3 +4,4 @@ pub mod StudentRounds
 pub mod Deluged
 pub mod Standing
 pub mod Reading
+pub mod Views

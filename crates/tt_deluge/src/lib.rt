@@ -1,2 +1,6 @@
 //! The great deluge.
 #![tactic(auto)]
+
+mod objects;
+mod students;
+mod words;
