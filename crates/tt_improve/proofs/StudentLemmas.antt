@@ -1,5 +1,5 @@
 -- A student whose classes of a course are replaced by a choice that adds fewer pairs.
-use Rattle.std.proofs.Common.{◌≡◌, ℕ, suc, ◌+◌, ◌<◌, ◌≤◌, Bool, true, false, cond, List, [], ◌∷◌, ◌++◌, Option, Some, None, length, get_or, count_by, sum_by, take, subst, refl, sym, ap, ◌∙◌, arith, nat_eq, nat_lt, mul-le-mul_left, length-append}
+use Rattle.std.proofs.Common.{◌≡◌, ℕ, suc, ◌+◌, ◌*◌, ◌<◌, ◌≤◌, Bool, true, false, cond, List, [], ◌∷◌, ◌++◌, Option, Some, None, length, get_or, count_by, sum_by, take, subst, refl, sym, ap, ◌∙◌, arith, nat_eq, nat_lt, mul-le-mul_left, length-append}
 use Rattle.std.specs.Prelude.{◌&&◌, ◌||◌, not, IfSome, slice_get, slice_set, option_and_then}
 use Rattle.std.specs.List.{list_all, filter, AllByRecursion}
 use Rattle.std.specs.Option.{option_map, option_map_or}
@@ -22,7 +22,7 @@ use Rattle.tt_problem.specs.declared.parts.TimeChoice.{TimeChoice}
 use Rattle.tt_problem.specs.declared.parts.Parts.{Parts}
 use Rattle.tt_problem.specs.Valid.{IsValid, IsValidClass, IsValidChoice}
 use Rattle.tt_plan.specs.Domain.{spot_at_value, spot_for, spots_of, value_room}
-use Rattle.tt_struct.specs.Enrolments.{is_enrolment, is_enrolment_of}
+use Rattle.tt_struct.specs.Enrolments.{is_enrolment, is_enrolment_of, takes}
 use Rattle.tt_roster.specs.Conflicts.{are_in_conflict, conflicts_in, student_conflicts}
 use Rattle.tt_roster.specs.Lists.{Ascends, list_of}
 use Rattle.tt_roster.proofs.TimeLemmas.{in_conflict-sym, in_conflict-none}
@@ -38,10 +38,12 @@ use Rattle.tt_choice.specs.Situations.{in_conflict}
 use Rattle.tt_choice.proofs.LeastLemmas.{IsAllowed, least_is}
 use Rattle.tt_choice.proofs.Order.{all-append, all-weaken}
 use Rattle.tt_choice.proofs.SeatingLemmas.{all_seats}
-use Rattle.tt_choice.proofs.ValidLemmas.{IsChoice, are_choices}
+use Rattle.tt_choice.proofs.ValidLemmas.{IsChoice, are_choices, takes_at}
+use Rattle.tt_improve.specs.Classes.{total_of}
 use Rattle.tt_improve.specs.Courses.{at_fewer, beside, is_of_course, least_replacement, may_replace, moved_student, own_of, replaced_by, rest_of}
+use Rattle.tt_improve.specs.Objects.{seated_courses}
 use Rattle.tt_improve.specs.Standing.{IsNoWorse, IsSeatedIn}
-use Rattle.tt_improve.proofs.ObjectLemmas.{moved-student_objects}
+use Rattle.tt_improve.proofs.ObjectLemmas.{moved-student_courses, moved-student_objects}
 use Rattle.tt_improve.proofs.PairOrder.{count-with, pairs-with, pairs-joined, pairs-parted}
 use Rattle.tt_improve.proofs.ReplaceLemmas.{IsEnrolled, all_kept, below_kept, choice_some, enrolled_is, may_is}
 
@@ -88,12 +90,22 @@ pairs_ordered : (f : ℕ → ℕ → Bool) → ((a b : ℕ) → f a b ≡ f b a)
 pairs_ordered f turned [] = refl
 pairs_ordered f turned (c ∷ list) = omega (arith, pairs-with f turned c (in_order list), count_ordered (f c) list, pairs_ordered f turned list)
 
+-- the pairs of the list, once a choice stands in the place of the own classes
+pairs_replaced : (f : ℕ → ℕ → Bool) (turned : (a b : ℕ) → f a b ≡ f b a) (test : ℕ → Bool) (list choice : List ℕ)
+    → pairs_among f (in_order (filter (λ d. not (test d)) list ++ choice)) + (sum_by (λ c. count_by (f c) (filter (λ d. not (test d)) list)) (filter test list) + pairs_among f (filter test list))
+    ≡ pairs_among f list + (sum_by (λ c. count_by (f c) (filter (λ d. not (test d)) list)) choice + pairs_among f choice)
+pairs_replaced f turned test list choice =
+    omega (arith, pairs_ordered f turned (filter (λ d. not (test d)) list ++ choice), pairs-joined f turned (filter (λ d. not (test d)) list) choice, pairs-parted f turned test list)
+
 -- where a choice adds fewer pairs than the own classes, the list has fewer
 fewer_in : (f : ℕ → ℕ → Bool) (turned : (a b : ℕ) → f a b ≡ f b a) (test : ℕ → Bool) (list choice : List ℕ)
     → sum_by (λ c. count_by (f c) (filter (λ d. not (test d)) list)) choice + pairs_among f choice < sum_by (λ c. count_by (f c) (filter (λ d. not (test d)) list)) (filter test list) + pairs_among f (filter test list)
     → pairs_among f (in_order (filter (λ d. not (test d)) list ++ choice)) < pairs_among f list
-fewer_in f turned test list choice less =
-    omega (arith, less, pairs_ordered f turned (filter (λ d. not (test d)) list ++ choice), pairs-joined f turned (filter (λ d. not (test d)) list) choice, pairs-parted f turned test list)
+fewer_in f turned test list choice less = omega (arith, less, pairs_replaced f turned test list choice)
+
+-- an equation, with a weight
+weighed : (w x y a b : ℕ) → x + a ≡ y + b → w * x + w * a ≡ w * y + w * b
+weighed w x y a b e = omega (arith, ap (λ (n : ℕ). w * n) e)
 
 no_student : StudentPart
 no_student = record { id = 0; courses = [] }
@@ -127,6 +139,14 @@ of_listed P k (x ∷ xs) all e = by (nat_eq k x) refl e (of_listed P k xs all.1)
     by : (b : Bool) → nat_eq k x ≡ b → (b || is_listed k xs) ≡ true → (is_listed k xs ≡ true → P k) → P k
     by true same f rest = let equal : k ≡ x = eqb-true k x same in rw equal all.0
     by false other f rest = rest f
+
+listed_in : (f : ℕ → Bool) (k : ℕ) (xs : List ℕ) → list_all f xs ≡ true → is_listed k xs ≡ true → f k ≡ true
+listed_in f k [] all e = absurd (cc e)
+listed_in f k (x ∷ xs) all e = let parts = and_parts (f x) (list_all f xs) all in by (nat_eq k x) refl e parts.0 (listed_in f k xs parts.1)
+  where
+    by : (b : Bool) → nat_eq k x ≡ b → (b || is_listed k xs) ≡ true → f x ≡ true → (is_listed k xs ≡ true → f k ≡ true) → f k ≡ true
+    by true same e here rest = let equal : k ≡ x = eqb-true k x same in rw equal here
+    by false other e here rest = rest e
 
 all_listed : (f : ℕ → Bool) (xs : List ℕ) → ((c : ℕ) → is_listed c xs ≡ true → f c ≡ true) → list_all f xs ≡ true
 all_listed f [] h = refl
@@ -217,17 +237,52 @@ module _ (p : Parts) (s : Snapshot) (student course : ℕ) (valid : IsValid p) (
   pub chosen_is : (choice : List ℕ) → least_choice sit (choices_at p course) ≡ Some choice → IsAllowed (IsChoice p course) sit choice
   chosen_is choice is = rw is at (least_is (IsChoice p course) sit (choices_at p course) (are_choices p course valid within_courses))
 
+  -- the student has a seat in each class of the list
+  has_seats : list_all (has_seat p s.lists student) (list_in s student) ≡ true
+  has_seats = all_listed (has_seat p s.lists student) (list_in s student) (λ c e. seat_kept p s.lists student c within_lists (sound.lists.limits c) e)
+
+  -- and so in each of the rest
+  pub rest_seats : list_all (has_seat p s.lists student) (rest_of p course (list_in s student)) ≡ true
+  rest_seats = all_kept (λ (c : ℕ). not (is_of_course p course c)) (has_seat p s.lists student) (list_in s student) has_seats
+
+  -- the classes of the rest are of the problem
+  pub rest_below : AllByRecursion (λ c. c < length p.classes) (rest_of p course (list_in s student))
+  rest_below = below_kept (λ (c : ℕ). not (is_of_course p course c)) (length p.classes) (list_in s student) list_below
+
+  -- a valid enrolment of the student has a class
+  pub enrolled_some : (xs : List ℕ) → is_enrolment p student xs ≡ true → 0 < length xs
+  enrolled_some [] is =
+      let none = enrolled_is p (get_or p.students student no_student) [] (rw part_is at is) in
+      let course_taken = listed_in (takes p []) course (get_or p.students student no_student).courses none.takes mine in
+      choice_some p course [] valid (record { below = tt; takes = sym (takes_at p [] course within_courses) ∙ course_taken; once = refl; of = tt })
+  enrolled_some (c ∷ xs) is = omega arith
+
+  -- the total, once a choice stands in the place of the own classes: the pairs that it adds, in place of those that they add
+  pub replaced_total : (choice : List ℕ) → total_of p (with_list s student (in_order (rest_of p course (list_in s student) ++ choice))) + p.weights.student * pairs_added sit own ≡ total_of p s + p.weights.student * pairs_added sit choice
+  replaced_total choice =
+      let spots = spots_of p s.plan in
+      let new = in_order (rest ++ choice) in
+      let pairs = pairs_replaced (in_conflict p spots) (conflict_turned p s.plan valid) (is_of_course p course) (list_in s student) choice in
+      let change = sum_by-set (conflicts_in p.travel spots) s.lists student new [] within_lists in
+      let all : student_conflicts p.travel spots (slice_set s.lists student new) + pairs_added sit own ≡ student_conflicts p.travel spots s.lists + pairs_added sit choice = omega (arith, change, pairs) in
+      omega (arith, weighed p.weights.student (student_conflicts p.travel spots (slice_set s.lists student new)) (student_conflicts p.travel spots s.lists) (pairs_added sit own) (pairs_added sit choice) all)
+
+  -- and the objects stay
+  pub replaced_courses : (choice : List ℕ) → is_enrolment p student (rest_of p course (list_in s student) ++ choice) ≡ true
+      → seated_courses p (with_list s student (in_order (rest_of p course (list_in s student) ++ choice))) ≡ seated_courses p s
+  replaced_courses choice is =
+      let some = enrolled_some (rest ++ choice) is in
+      moved-student_courses p s student (in_order (rest ++ choice)) within_lists object.some (omega (arith, some, length-ordered (rest ++ choice)))
+
   -- the student may get the rest with the choice
   pub may_get : (choice : List ℕ) → IsAllowed (IsChoice p course) sit choice → MayGet p s.lists student (rest_of p course (list_in s student) ++ choice)
   may_get choice one =
       let may : may_replace p s student rest choice ≡ true = may_same choice one.is ∙ one.allowed in
       let parts = and_parts (is_enrolment p student (rest ++ choice)) (list_all (has_seat p s.lists student) choice) may in
-      let others = λ (c : ℕ). not (is_of_course p course c) in
-      let seats : list_all (has_seat p s.lists student) (list_in s student) ≡ true = all_listed (has_seat p s.lists student) (list_in s student) (λ c e. seat_kept p s.lists student c within_lists (sound.lists.limits c) e) in
       record {
-        below = All-from_recursion (λ c. c < length p.classes) (rest ++ choice) (all-append (λ c. c < length p.classes) rest choice (below_kept others (length p.classes) (list_in s student) list_below) one.is.below);
+        below = All-from_recursion (λ c. c < length p.classes) (rest ++ choice) (all-append (λ c. c < length p.classes) rest choice rest_below one.is.below);
         enrolment = parts.0;
-        seats = all_seats p s.lists student (rest ++ choice) (list_all-append (has_seat p s.lists student) rest choice ∙ both (list_all (has_seat p s.lists student) rest) (list_all (has_seat p s.lists student) choice) (all_kept others (has_seat p s.lists student) (list_in s student) seats) parts.1);
+        seats = all_seats p s.lists student (rest ++ choice) (list_all-append (has_seat p s.lists student) rest choice ∙ both (list_all (has_seat p s.lists student) rest) (list_all (has_seat p s.lists student) choice) rest_seats parts.1);
       }
     where
       both : (x y : Bool) → x ≡ true → y ≡ true → (x && y) ≡ true
