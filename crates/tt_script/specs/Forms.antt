@@ -3,7 +3,7 @@ use Rattle.std.specs.Prelude.{ℕ, ◌≤◌, ⊤, IsTrue, IsSome, List, [], ◌
 use Rattle.std.specs.Option.{option_zip}
 use Rattle.tt_text.specs.Decimal.{decimal_of, at_most}
 use Rattle.tt_script.specs.declared.command.Command.{Command}
-use Rattle.tt_script.specs.declared.command.Command.TheVariants.{Assign, Unassign, Force, Section, Drop, Enrol, EnrolAll, Search, Repair, Improve, Recall, Close, Reopen, Lock, LockAll, Unlock, UnlockAll, Undo, Publish, Draft, Totals, Violations, Costs, Explain, Why, Values, Meets, Student, Stats, Suggest, Quit}
+use Rattle.tt_script.specs.declared.command.Command.TheVariants.{Assign, Unassign, Force, Section, Drop, Enrol, EnrolAll, Search, Repair, Place, Improve, Deluge, Recall, Close, Reopen, Lock, LockAll, Unlock, UnlockAll, Undo, Publish, Draft, Totals, Violations, Costs, Explain, Why, Values, Meets, Student, Stats, Suggest, Quit}
 use Rattle.tt_script.specs.declared.reading.Choice.{Choice}
 use Rattle.tt_script.specs.declared.reading.Turns.{Turns}
 use Rattle.tt_script.specs.declared.reading.Chosen.{Chosen}
@@ -135,7 +135,9 @@ command_of (word ∷ words) =
     else if bytes_eq word (codes "enrol") then option_map (for_chosen EnrolAll Enrol) (chosen_of words)
     else if bytes_eq word (codes "search") then option_map (λ t. Search t.count t.seed) (turns_of words)
     else if bytes_eq word (codes "repair") then option_map (λ t. Repair t.count t.seed) (turns_of words)
+    else if bytes_eq word (codes "place") then option_map (λ t. Place t.count t.seed) (turns_of words)
     else if bytes_eq word (codes "improve") then option_map (λ t. Improve t.count t.seed) (turns_of words)
+    else if bytes_eq word (codes "deluge") then option_map (λ t. Deluge t.count t.seed) (turns_of words)
     else if bytes_eq word (codes "recall") then alone Recall words
     else if bytes_eq word (codes "close") then option_map (λ c. Close c.room c.days c.start c.length c.weeks) (closing_of words)
     else if bytes_eq word (codes "reopen") then option_map Reopen (lone_id words)

@@ -49,8 +49,19 @@ pub enum Command {
         turns: u32,
         seed: u64,
     },
+    /// Search for more places, by at most 1,000,000 turns, in which each class weighs more the more often
+    /// it was taken out.
+    Place {
+        turns: u32,
+        seed: u64,
+    },
     /// Improve the timetable by at most 1,000,000 rounds on one class or one course of a student each.
     Improve {
+        rounds: u32,
+        seed: u64,
+    },
+    /// Lower the total by at most 1,000,000 rounds below a level that sinks.
+    Deluge {
         rounds: u32,
         seed: u64,
     },

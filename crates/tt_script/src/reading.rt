@@ -322,12 +322,21 @@ fn read_short(word: &[u8], words: Words<'_>) -> Option<Command>
     } else if word == b"repair".as_slice() {
         let Turns { count: turns, seed } = only_turns(words)?;
         Some(Command::Repair { turns, seed })
+    } else if word == b"place".as_slice() {
+        let Turns { count: turns, seed } = only_turns(words)?;
+        Some(Command::Place { turns, seed })
     } else if word == b"improve".as_slice() {
         let Turns {
             count: rounds,
             seed,
         } = only_turns(words)?;
         Some(Command::Improve { rounds, seed })
+    } else if word == b"deluge".as_slice() {
+        let Turns {
+            count: rounds,
+            seed,
+        } = only_turns(words)?;
+        Some(Command::Deluge { rounds, seed })
     } else if word == b"recall".as_slice() {
         only_word(Command::Recall, words)
     } else if word == b"close".as_slice() {
