@@ -3,7 +3,8 @@
 // FAIL_CALL=KIND    open, read, write (to a file other than the standard error) or tell (to that)
 // FAIL_AT=N         the Nth call of this kind fails, counted from 1 where main begins
 // FAIL_ERROR=E      with this number of errno.h
-// ONE_BYTE=1        each read and each write takes one byte at most
+// MOST_READ=N       each read gives N bytes at most
+// MOST_WRITTEN=N    each write takes N bytes at most
 // CHECK_REPORT=FD   at the end the number of calls of each kind is written there
 //
 // For programs of one thread that make no file.
@@ -21,7 +22,8 @@ enum kind { OPEN, READ, WRITE, TELL, KINDS };
 static const char *const names[KINDS] = {"open", "read", "write", "tell"};
 static unsigned long calls[KINDS];
 static int begun;
-static int one_byte;
+static size_t most_read;
+static size_t most_written;
 static enum kind failing = KINDS;
 static unsigned long fail_at;
 static int error;
@@ -40,7 +42,8 @@ __attribute__((constructor)) static void begin(void) {
     }
     fail_at = number_of("FAIL_AT");
     error = (int)number_of("FAIL_ERROR");
-    one_byte = number_of("ONE_BYTE") != 0;
+    most_read = number_of("MOST_READ");
+    most_written = number_of("MOST_WRITTEN");
     begun = 1;
 }
 
@@ -66,8 +69,9 @@ static int fails(enum kind kind) {
     return 1;
 }
 
-static size_t most_of(size_t count) {
-    return one_byte && count > 1 ? 1 : count;
+// So many bytes, or the most where that is a number.
+static size_t within(size_t most, size_t count) {
+    return most > 0 && count > most ? most : count;
 }
 
 int open(const char *path, int flags, ...) {
@@ -79,12 +83,12 @@ int openat(int folder, const char *path, int flags, ...) {
 }
 
 ssize_t read(int file, void *bytes, size_t count) {
-    return fails(READ) ? -1 : syscall(SYS_read, file, bytes, most_of(count));
+    return fails(READ) ? -1 : syscall(SYS_read, file, bytes, within(most_read, count));
 }
 
 ssize_t write(int file, const void *bytes, size_t count) {
     enum kind kind = file == STDERR_FILENO ? TELL : WRITE;
-    return fails(kind) ? -1 : syscall(SYS_write, file, bytes, most_of(count));
+    return fails(kind) ? -1 : syscall(SYS_write, file, bytes, within(most_written, count));
 }
 
 // The other names that the C library has for them.

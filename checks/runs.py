@@ -17,9 +17,13 @@ HERE = Path(__file__).resolve().parent
 PROGRAM = HERE.parent / "crates/uttab/out/uttab"
 DATA = HERE.parent / "crates/worked_cases/data"
 
+UNREADABLE = 5
+UNWRITABLE = 6
 NO_MEMORY = 7
 TOLD = (5, 6, 7, 8)  # the statuses that come with a line on the standard error
 SHOWN = 5  # wrong runs of one case that are written whole
+CALLS = ("open", "read", "write", "tell")  # kinds of calls on files: a write to the standard error is one that tells
+ERRORS = ("EIO", "ENOSPC", "EPIPE", "EISDIR", "EINTR")
 FEW = 100  # failures of one kind that are tried in a case, where there are more than can be tried
 
 
@@ -140,6 +144,18 @@ class Plain:
         if len(done.text) not in self.fronts:
             return "what it wrote ends within a reply"
         return told_fault(done.status, done.told)
+
+
+def failed_call_fault(plain: Plain, kind: str, error: str, done: Done) -> str | None:
+    """What is wrong with a run of which a call of this kind failed, in words. None where nothing is."""
+    if kind == "tell" or error == "EINTR":
+        return None if plain.is_like(done) else f"{status_in_words(done.status)}, or wrote another text"
+    status = UNWRITABLE if kind == "write" else UNREADABLE
+    if done.status != status:
+        return f"{status_in_words(done.status)}, not with {status}"
+    if kind == "write":
+        return told_fault(status, done.told) if plain.done.text.startswith(done.text) else "what it wrote is no front of the text"
+    return plain.early_fault(done)
 
 
 def told_fault(status: int | None, told: bytes) -> str | None:
