@@ -3,6 +3,7 @@
 import os
 import stat
 import subprocess
+import sys
 import tomllib
 from argparse import Namespace
 from pathlib import Path
@@ -26,6 +27,14 @@ def test_each_command_has_a_launcher_and_an_entry_point() -> None:
     files = {path.name for path in TOOLS.iterdir() if path.is_file() and os.access(path, os.X_OK)}
     assert files == {"launch", *COMMANDS}
     assert all((TOOLS / name).read_text().endswith(f'/launch" {name} "$@"\n') for name in COMMANDS)
+
+
+def test_a_command_that_is_installed_is_called_by_its_name_there(monkeypatch: pytest.MonkeyPatch) -> None:
+    kept = Command("close_it", "Closes it.\n\n    close_it WORDS\n", lambda parser: None, lambda given, output: 0)
+    assert kept.parser().format_help().startswith("usage: close_it ")
+    monkeypatch.setattr(sys, "argv", ["/usr/bin/uttab-close-it"])
+    assert kept.parser().format_help().startswith("usage: uttab-close-it ")
+    assert "\n    uttab-close-it WORDS\n" in kept.parser().format_help()
 
 
 @pytest.mark.parametrize("name", COMMANDS)

@@ -6,6 +6,7 @@ the standard output. So a command that fails leaves nothing that could be taken 
 import argparse
 import json
 import os
+import re
 import shutil
 import sys
 import tempfile
@@ -182,9 +183,16 @@ class Command:
     statuses: str = "0 all is written"
     has_forms: bool = False
 
+    @property
+    def called(self) -> str:
+        """The name by which the command is called: where it is installed another one than in a checkout."""
+        installed = f"uttab-{self.name.replace('_', '-')}"
+        return installed if Path(sys.argv[0]).name == installed else self.name
+
     def parser(self) -> argparse.ArgumentParser:
+        about = re.sub(rf"^    {self.name}\b", f"    {self.called}", self.about, flags=re.M)
         parser = argparse.ArgumentParser(
-            prog=self.name, description=self.about, formatter_class=argparse.RawDescriptionHelpFormatter,
+            prog=self.called, description=about, formatter_class=argparse.RawDescriptionHelpFormatter,
             epilog=f"status: {self.statuses}; {STATUSES}")
         self.words(parser)
         if not self.has_forms:
@@ -196,21 +204,21 @@ class Command:
         try:
             return self._run(words)
         except Fault as fault:
-            tell(self.name, str(fault))
+            tell(self.called, str(fault))
             return fault.status
         except BrokenPipeError:
             sys.stdout = None  # type: ignore[assignment]  # its flush at the end would fail too
             return NO_OUTPUT
         except OSError as error:
-            tell(self.name, f"the output failed: {error.strerror}")
+            tell(self.called, f"the output failed: {error.strerror}")
             return NO_OUTPUT
         except MemoryError:
-            tell(self.name, "there is no memory")
+            tell(self.called, "there is no memory")
             return NO_MEMORY
         except KeyboardInterrupt:
             return STOPPED
         except Exception as error:
-            tell(self.name, _crash(error))
+            tell(self.called, _crash(error))
             return CRASHED
 
     def _run(self, words: Sequence[str] | None) -> int:
