@@ -26,7 +26,8 @@ def start(folder: Path, kit: str, *words: str) -> subprocess.CompletedProcess[st
 
 
 @pytest.mark.parametrize("words, status", [
-    ("", 2), ("help", 2), ("run problem.json", 2), ("try", 2), ("make 1", 2), ("run problem.json absent", 5), ("try check absent", 5)])
+    ("", 2), ("help", 2), ("run problem.json", 2), ("try", 2), ("try desk", 2),
+    ("make 1", 2), ("run problem.json absent", 5), ("try check absent", 5)])
 def test_nothing_is_built_to_tell_of_a_slip(tmp_path: Path, words: str, status: int) -> None:
     done = start(tmp_path, FAILS, *words.split())
     assert (done.returncode, done.stdout) == (status, "")
@@ -40,6 +41,23 @@ def test_what_is_installed_is_run_also_after_try(tmp_path: Path, words: str, tol
     (tmp_path / "program").chmod(0o755)
     done = subprocess.run([tmp_path / "uttab", *words.split()], capture_output=True, text=True, check=False)
     assert (done.returncode, done.stdout, done.stderr.count("\n")) == (3, "check problem.json\n", told)
+
+
+@pytest.mark.parametrize("words, program", [("desk problem.json", "uttab"), ("try desk problem.json", "tried")])
+def test_the_desk_is_opened_over_what_is_built(tmp_path: Path, words: str, program: str) -> None:
+    (tmp_path / "tools").mkdir()
+    (tmp_path / "tools/desk").write_text('#!/bin/sh\necho "$@ ${UTTAB##*/}"\n')
+    (tmp_path / "tools/desk").chmod(0o755)
+    built = tmp_path / "crates/uttab/out" / program
+    built.parent.mkdir(parents=True)
+    built.touch(0o755)
+    for name in ("uttab", "crates.txt"):
+        (tmp_path / name).write_bytes((TOP / "uttab").read_bytes() if name == "uttab" else b"")
+    (tmp_path / "uttab").chmod(0o755)
+    os.utime(tmp_path / "crates.txt", (1, 1))
+    told = {name: value for name, value in os.environ.items() if name != "UTTAB"}
+    done = subprocess.run([tmp_path / "uttab", *words.split()], env=told, capture_output=True, text=True, check=False)
+    assert done.stdout == f"--open problem.json {'tried' if program == 'tried' else ''}\n"
 
 
 @pytest.mark.parametrize("words", ["check problem.json", "check -", "try check problem.json", "make 1 1"])
