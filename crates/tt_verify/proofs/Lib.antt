@@ -3,6 +3,7 @@ pub mod SumLemmas
 pub mod SweepLemmas
 pub mod WalkLemmas
 pub mod BlockLemmas
+pub mod CutLemmas
 pub mod PairLemmas
 pub mod PlanLemmas
 pub mod HardLemmas

@@ -204,7 +204,7 @@ pub fn rule_amount(
         DistKind::MaxDays { most } => Ok(days_over(most, &placed)),
         DistKind::MaxWeeks { most } => Ok(weeks_over(most, &placed)),
         DistKind::MaxDayLoad { most } => Ok(load_over(most, weeks, &placed)),
-        DistKind::MaxBreaks { breaks, gap } => breaks_over(breaks, gap, weeks, placed),
-        DistKind::MaxBlock { most, gap } => long_blocks(most, gap, weeks, placed),
+        DistKind::MaxBreaks { breaks, gap } => breaks_over(alloc, breaks, gap, weeks, placed),
+        DistKind::MaxBlock { most, gap } => long_blocks(alloc, most, gap, weeks, placed),
     }
 }

@@ -4,7 +4,7 @@
 //! of the classes, with the closures of a session (`found`), and that is as much as the totals count
 //! (`hard`); `add_lines` and `add_count` write what was found. All is counted from nothing, by lists
 //! of this crate's own: its code calls nothing of the score, the rosters or the groups of the desk,
-//! which no clause can say.
+//! nor what these count blocks by, which no clause can say.
 #![tactic(auto)]
 
 mod amounts;
