@@ -1,5 +1,5 @@
-//! Tests of what looks for a better timetable: the least enrolment, descent, the search, the repair
-//! and `recall`. It has no code of its own.
+//! Tests of what looks for a better timetable: the least enrolment, descent, the search, the repair,
+//! `place` and `recall`. It has no code of its own.
 #![tactic(auto)]
 
 #[cfg(test)]

@@ -9,7 +9,7 @@ use tt_fields::FileFault;
 use tt_io::{Progress, Silent};
 use tt_problem::Problem;
 use tt_read::read;
-use tt_search::{recall, repair, search};
+use tt_search::{place, recall, repair, search};
 use tt_solution::{Published, read_published};
 use tt_state::State;
 
@@ -35,6 +35,22 @@ const ONE_ROOM: &str = r#"{"nrDays":1,"nrWeeks":1,"slotsPerDay":288,
         {"id":2,"rooms":[{"id":1,"penalty":0}],"times":[
             {"days":"1","start":10,"length":4,"weeks":"1","penalty":0},
             {"days":"1","start":11,"length":4,"weeks":"1","penalty":3}]}]}]}]}]}"#;
+
+/// A class with one time, which has a penalty, and no room.
+const ONE_TIME: &str = r#"{"nrDays":1,"nrWeeks":1,"slotsPerDay":288,
+    "optimization":{"time":2,"room":1,"distribution":1,"student":1},
+    "courses":[{"id":1,"configs":[{"subparts":[{"classes":[{"id":1,"room":false,"times":[
+        {"days":"1","start":10,"length":4,"weeks":"1","penalty":4}]}]}]}]}]}"#;
+
+/// Two classes of which only one can be placed, in their one room at their one time.
+const ONE_OF_TWO: &str = r#"{"nrDays":5,"nrWeeks":5,"slotsPerDay":288,
+    "optimization":{"time":1,"room":1,"distribution":1,"student":1},
+    "rooms":[{"id":1}],
+    "courses":[{"id":1,"configs":[{"subparts":[{"classes":[
+        {"id":1,"rooms":[{"id":1,"penalty":0}],"times":[
+            {"days":"11000","start":100,"length":12,"weeks":"11111","penalty":0}]},
+        {"id":2,"rooms":[{"id":1,"penalty":0}],"times":[
+            {"days":"11000","start":100,"length":12,"weeks":"11111","penalty":0}]}]}]}]}]}"#;
 
 // The timetable that is published for a problem.
 fn published(alloc: Global, problem: &Problem) -> Result<Published, FileFault>
@@ -166,6 +182,46 @@ fn a_search_pushes_no_locked_class_out(rt: HostRuntime) -> Result<(), Fail> {
     assert!(rt; search(rt.alloc(), &mut state, 5, 1, &mut watcher) == Ok(5));
     assert!(rt; watcher.times == 5);
     assert!(rt; totals(&state) == (9, 1));
+    assert!(rt; state.is_locked(0));
+    drop(state);
+    Ok(())
+}
+
+#[test]
+fn a_class_is_placed_by_turns_that_learn(rt: HostRuntime) -> Result<(), Fail> {
+    let mut state = state_of(rt.alloc(), ONE_TIME.as_bytes())?;
+    assert!(rt; place(rt.alloc(), &mut state, 5, 1, &mut Silent) == Ok(1));
+    assert!(rt; totals(&state) == (8, 0));
+    drop(state);
+    Ok(())
+}
+
+#[test]
+fn turns_that_learn_are_told_and_undone(rt: HostRuntime) -> Result<(), Fail> {
+    let mut state = state_of(rt.alloc(), ONE_OF_TWO.as_bytes())?;
+    let mut watcher = Counting::new();
+    assert!(rt; place(rt.alloc(), &mut state, 3, 1, &mut watcher) == Ok(3));
+    let last = Progress::Turns {
+        made: 3,
+        of: 3,
+        unplaced: 1,
+    };
+    assert!(rt; watcher.times == 3);
+    assert!(rt; watcher.last == Some(last));
+    assert!(rt; totals(&state) == (0, 1));
+    assert!(rt; state.undo());
+    assert!(rt; totals(&state) == (0, 2));
+    drop(state);
+    Ok(())
+}
+
+#[test]
+fn turns_that_learn_push_no_locked_class_out(rt: HostRuntime) -> Result<(), Fail> {
+    let mut state = state_of(rt.alloc(), ONE_OF_TWO.as_bytes())?;
+    assert!(rt; assigns(&mut state, 0, 1, Some(1)));
+    assert!(rt; locks(&mut state, 0));
+    assert!(rt; place(rt.alloc(), &mut state, 5, 1, &mut Silent) == Ok(5));
+    assert!(rt; totals(&state) == (0, 1));
     assert!(rt; state.is_locked(0));
     drop(state);
     Ok(())

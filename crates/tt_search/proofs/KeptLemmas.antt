@@ -1,10 +1,11 @@
 -- A class that is locked stays where it is, and locked, on the whole way of a search.
 use Rattle.std.proofs.Common.{◌≡◌, ◌≢◌, ℕ, zero, suc, Bool, true, false, Option, Some, None, List, [], ◌∷◌, length, refl, ap, sym, ◌∙◌, arith}
-use Rattle.std.specs.Prelude.{All, is_none, is_some, option_map, slice_get, slice_index_or}
-use Rattle.std.specs.List.{best_of, filter, range_with_len}
+use Rattle.std.specs.Prelude.{All, IfSome, is_none, is_some, map, not, option_map, slice_get, slice_index_or}
+use Rattle.std.specs.List.{best_of, list_any, range_with_len}
 use Rattle.std.proofs.lemmas.Bool.{and_parts}
 use Rattle.std.proofs.lemmas.Cmp.{nat_list_cmp_total}
-use Rattle.std.proofs.lemmas.List.Elements.{filter_passes}
+use Rattle.std.proofs.lemmas.List.{get_or_default}
+use Rattle.std.proofs.lemmas.List.Elements.{All-filter, filter_passes}
 use Rattle.std.proofs.lemmas.List.MinMax.{ranks_by, IsFirstBest-from_best_of}
 use Rattle.std.proofs.lemmas.Option.{slice_get_within, get_or_from_slice_get}
 use Rattle.rand_core.specs.Stream.{Stream, next_u32}
@@ -12,16 +13,20 @@ use Rattle.tt_base.specs.Lists.{first_least, is_less}
 use Rattle.tt_bits.specs.declared.times.Value.{Value}
 use Rattle.tt_draw.specs.Words.{drawn, random_words}
 use Rattle.tt_problem.specs.declared.parts.Parts.{Parts}
-use Rattle.tt_plan.specs.Domain.{domain_of}
+use Rattle.tt_plan.specs.Domain.{IsOfDomain, domain_of}
+use Rattle.tt_plan.proofs.DomainLaws.{IsOfDomain_iff}
 use Rattle.tt_solution.specs.Timetable.{Timetable}
 use Rattle.tt_state.specs.Snapshots.{Snapshot, StaysLocked, is_locked_in, value_in}
 use Rattle.tt_state.specs.Values.{obstacle_of}
 use Rattle.tt_state.specs.Forced.{forced}
 use Rattle.tt_state.proofs.FitsLemmas.{forced_locks, forced_stays}
-use Rattle.tt_search.specs.Turns.{after_turn, candidates, chosen_value, forced_if, has_open_value, is_available, is_candidate, is_unplaced, price_of, turn_of}
-use Rattle.tt_search.specs.Searched.{after_turns, onward, search_end, then_on, way_of}
+use Rattle.tt_search.specs.Turns.{after_turn, available_values, candidates, chosen_value, forced_if, has_open_value, is_available, is_candidate, is_unplaced, price_of, turn_of}
+use Rattle.tt_search.specs.Searched.{after_turns, onward, rank_of, search_end, then_on}
+use Rattle.tt_search.specs.PlaceTurns.{Moment, TurnWords, after_forcing, after_places, all_least, burden_of, least_values, place_end, place_turn, places_after, two_words}
+use Rattle.tt_search.specs.Least.{IsFirstLeast}
+use Rattle.tt_search.specs.Numbers.{IsAvailable}
 use Rattle.tt_search.proofs.ChoiceLemmas.{free_of}
-use Rattle.tt_search.proofs.FirstLemmas.{ends_at_first}
+use Rattle.tt_search.proofs.FirstLemmas.{ends_at_first, place_ends_at_first}
 
 -- what all of a list have, each that stands at a place has
 each_at : {A : Type 0} (P : A → Type 0) (xs : List A) (k : ℕ) (x : A) → All P xs → slice_get xs k ≡ Some x → P x
@@ -80,29 +85,101 @@ forced_has p start s class v has unplaced none = record {
     was : (d : ℕ) → is_locked_in (forced p s class v) d ≡ true → is_locked_in s d ≡ true
     was d locked = ap (λ (l : List Bool). slice_index_or l d false) (sym (forced_locks p s class v)) ∙ locked
 
+-- and so does forcing it to one, if there is one
+forced_if_has : (p : Parts) (start s : Snapshot) (class : ℕ) (o : Option Value) → HasLocksOf start s → is_unplaced s.plan class ≡ true → IfSome o (λ v. obstacle_of p s class v ≡ None) → HasLocksOf start (forced_if p s class o)
+forced_if_has p start s class None has unplaced none = has
+forced_if_has p start s class (Some v) has unplaced none = forced_has p start s class v has unplaced none
+
+-- a candidate that is drawn is unplaced
+drawn_unplaced : (p : Parts) (s : Snapshot) (word class : ℕ) → drawn word (candidates p s) ≡ Some class → is_unplaced s.plan class ≡ true
+drawn_unplaced p s word class from =
+    let candidate = each_at (λ c. is_candidate p s c ≡ true) (candidates p s) _ class (filter_passes (is_candidate p s) (range_with_len 0 (length p.classes))) from in
+    (and_parts (is_unplaced s.plan class) (has_open_value p s.closures class) candidate).0
+
+-- the chosen value is available
+chosen_free : (p : Parts) (published : Option Timetable) (s : Snapshot) (class : ℕ) (o : Option Value) → chosen_value p published s class ≡ o → IfSome o (λ v. obstacle_of p s class v ≡ None)
+unfolding chosen_value
+chosen_free p published s class None from = tt
+chosen_free p published s class (Some v) from =
+    free_of p s class v (least_has (λ w. is_available p s class w ≡ true) (price_of p published s class) (available_values p s class) v (filter_passes (is_available p s class) (domain_of p class)) from)
+
 -- a turn leaves the classes that are locked
 turn_has : (p : Parts) (published : Option Timetable) (start : Snapshot) (word : ℕ) (s t : Snapshot) → HasLocksOf start s → turn_of p published word s ≡ Some t → HasLocksOf start t
-unfolding turn_of chosen_value
+unfolding turn_of
 turn_has p published start word s t has is = by (drawn word (candidates p s)) refl is
   where
-    chosen : (class : ℕ) → is_unplaced s.plan class ≡ true → (o : Option Value) → chosen_value p published s class ≡ o → HasLocksOf start (forced_if p s class o)
-    chosen class unplaced None from = has
-    chosen class unplaced (Some v) from =
-        forced_has p start s class v has unplaced
-        (free_of p s class v (least_has (λ w. is_available p s class w ≡ true) (price_of p published s class) (filter (is_available p s class) (domain_of p class)) v (filter_passes (is_available p s class) (domain_of p class)) from))
-
     by : (o : Option ℕ) → drawn word (candidates p s) ≡ o → option_map (after_turn p published s) o ≡ Some t → HasLocksOf start t
     by None from is = absurd (cc)
     by (Some class) from is =
-        let candidate = each_at (λ c. is_candidate p s c ≡ true) (candidates p s) _ class (filter_passes (is_candidate p s) (range_with_len 0 (length p.classes))) from in
         let after : after_turn p published s class ≡ t = cc in
-        rw after at (chosen class (and_parts (is_unplaced s.plan class) (has_open_value p s.closures class) candidate).0 (chosen_value p published s class) refl)
+        rw after at (forced_if_has p start s class (chosen_value p published s class) has (drawn_unplaced p s word class from) (chosen_free p published s class (chosen_value p published s class) refl))
+
+all_of_domain : (p : Parts) (class : ℕ) → All (IsOfDomain p class) (domain_of p class)
+all_of_domain p class k d within = (IsOfDomain_iff p class (slice_index_or (domain_of p class) k d)).1 (k, within, get_or_default (domain_of p class) k (slice_index_or (domain_of p class) k d) d within)
+
+-- the available values that are least are available
+pub least_available : (p : Parts) (s : Snapshot) (class : ℕ) (numbers : Value → List ℕ) → All (IsAvailable p s class) (all_least numbers (available_values p s class))
+least_available p s class numbers =
+    All-filter (λ v. not (list_any (λ w. is_less numbers w v) (available_values p s class))) (IsAvailable p s class) (available_values p s class)
+    (λ k d within. record {
+      domain = All-filter (is_available p s class) (IsOfDomain p class) (domain_of p class) (all_of_domain p class) k d within;
+      free = free_of p s class _ (filter_passes (is_available p s class) (domain_of p class) k d within);
+    })
+
+-- and so is the one that a word draws of such values
+pub drawn_available : (p : Parts) (s : Snapshot) (class word : ℕ) (values : List Value) (o : Option Value) → All (IsAvailable p s class) values → drawn word values ≡ o → IfSome o (IsAvailable p s class)
+drawn_available p s class word values None all from = tt
+drawn_available p s class word values (Some v) all from = each_at (IsAvailable p s class) values _ v all from
+
+drawn_free : (p : Parts) (m : Moment) (class word : ℕ) (o : Option Value) → drawn word (least_values p m class) ≡ o → IfSome o (λ v. obstacle_of p m.snapshot class v ≡ None)
+unfolding least_values
+drawn_free p m class word None from = tt
+drawn_free p m class word (Some v) from = (drawn_available p m.snapshot class word (all_least (burden_of p m class) (available_values p m.snapshot class)) (Some v) (least_available p m.snapshot class (burden_of p m class)) from).free
+
+-- the snapshot after a class is forced, if there is a value
+snapshot_after : (p : Parts) (m : Moment) (class : ℕ) (o : Option Value) → (after_forcing p m class o).snapshot ≡ forced_if p m.snapshot class o
+snapshot_after p m class None = refl
+snapshot_after p m class (Some v) = refl
+
+-- a turn that learns leaves the classes that are locked
+place_turn_has : (p : Parts) (start : Snapshot) (words : TurnWords) (m n : Moment) → HasLocksOf start m.snapshot → place_turn p words m ≡ Some n → HasLocksOf start n.snapshot
+unfolding place_turn
+place_turn_has p start words m n has is = by (drawn words.class (candidates p m.snapshot)) refl is
+  where
+    forces : (class : ℕ) → Option Value → Moment
+    forces class o = after_forcing p m class o
+
+    by : (o : Option ℕ) → drawn words.class (candidates p m.snapshot) ≡ o → option_map (λ class. after_forcing p m class (drawn words.value (least_values p m class))) o ≡ Some n → HasLocksOf start n.snapshot
+    by None from is = absurd (cc)
+    by (Some class) from is =
+        let value = drawn words.value (least_values p m class) in
+        let after : forces class value ≡ n = cc in
+        let kept = forced_if_has p start m.snapshot class value has (drawn_unplaced p m.snapshot words.class class from) (drawn_free p m class words.value value refl) in
+        rw after at (rw (sym (snapshot_after p m class value)) at kept)
+
+-- where all snapshots of a way leave the locked classes, so does where it ends
+ends_locked : (numbers : Snapshot → List ℕ) (s : Snapshot) (rest : List Snapshot) (t : Snapshot) → HasLocksOf s s → All (HasLocksOf s) rest → ((place : ℕ) × IsFirstLeast numbers (s ∷ rest) place t) → (class : ℕ) → StaysLocked s t class
+ends_locked numbers s rest t start all first = (each_at (HasLocksOf s) (s ∷ rest) first.0 t (all_cons (HasLocksOf s) s rest start all) first.1.at).stays
+
+-- at first all locked classes are where they are
+starts_locked : (s : Snapshot) → ((class : ℕ) → is_locked_in s class ≡ true → is_some (value_in s class) ≡ true) → HasLocksOf s s
+starts_locked s placed = record { placed = placed; stays = λ class locked. (refl, locked) }
 
 -- where a search ends, each class that was locked is where it was, and locked
 pub locked_stay : (p : Parts) (published : Option Timetable) (n seed : ℕ) (s t : Snapshot) → ((class : ℕ) → is_locked_in s class ≡ true → is_some (value_in s class) ≡ true) → search_end p published n seed s ≡ t
     → (class : ℕ) → StaysLocked s t class
 locked_stay p published n seed s t placed is =
-    let start : HasLocksOf s s = record { placed = placed; stays = λ class locked. (refl, locked) } in
+    let start = starts_locked s placed in
     let all = all_onward (HasLocksOf s) next_u32 (turn_of p published) (λ word a b. turn_has p published s word a b) n (random_words seed) s start in
-    let first = ends_at_first p published n seed s t is in
-    (each_at (HasLocksOf s) (way_of p published n seed s) first.0 t (all_cons (HasLocksOf s) s (after_turns p published n (random_words seed) s) start all) first.1.at).stays
+    ends_locked (rank_of p published) s (after_turns p published n (random_words seed) s) t start all (ends_at_first p published n seed s t is)
+
+all_of_map : {A B : Type 0} (P : B → Type 0) (f : A → B) (xs : List A) → All (λ x. P (f x)) xs → All P (map f xs)
+all_of_map P f [] all = λ k d lt. absurd (omega (arith, lt))
+all_of_map P f (x ∷ xs) all = all_cons P (f x) (map f xs) (all 0 x (omega arith)) (all_of_map P f xs (λ k d lt. all (suc k) d (omega (arith, lt))))
+
+-- and so where turns that learn end
+pub place_locked_stay : (p : Parts) (n seed : ℕ) (s t : Snapshot) → ((class : ℕ) → is_locked_in s class ≡ true → is_some (value_in s class) ≡ true) → place_end p n seed s ≡ t → (class : ℕ) → StaysLocked s t class
+place_locked_stay p n seed s t placed is =
+    let start = starts_locked s placed in
+    let all = all_onward (λ m. HasLocksOf s m.snapshot) two_words (place_turn p) (λ words a b. place_turn_has p s words a b) n (random_words seed) (record { snapshot = s; outs = [] }) start in
+    ends_locked (rank_of p None) s (places_after p n seed s) t start (all_of_map (HasLocksOf s) (λ m. m.snapshot) (after_places p n seed s) all) (place_ends_at_first p n seed s t is)

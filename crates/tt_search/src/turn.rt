@@ -34,12 +34,11 @@ pub(crate) struct Offer {
 
 /// Finds the conflict set of a class at a value that isn't blocked, unless it has more classes than a
 /// weight, and so weighs more. Whether it was found.
-#[tactic(auto, unfolding(tt_state::specs::Weights::weight_of), using(crate::proofs::ChoiceLemmas::few_weigh))]
-fn find_lighter(state: &mut State, class: u32, value: Value, weight: u128) -> bool
+pub(crate) fn find_lighter(state: &mut State, class: u32, value: Value, weight: u128) -> bool
     requires value { IsOfDomain state.old.problem class value }
     requires open { blocked_of state.old.problem state.old.present.closures class value ≡ None }
     ensures found { IsTrue result → state.new ≡ with_taken state.old (conflicts_of state.old.problem state.old.present class value) }
-    ensures heavier { result ≡ false → weight < weight_of state.old.problem state.old.present class value }
+    ensures heavier { result ≡ false → weight < length (conflicts_of state.old.problem state.old.present class value) }
     ensures problem { state.new.problem ≡ state.old.problem }
     ensures present { state.new.present ≡ state.old.present }
     ensures entries { state.new.entries ≡ state.old.entries }

@@ -4,9 +4,8 @@ use Rattle.rand_core.specs.Steps.{stream_of, steps_u32}
 use Rattle.rand_pcg.specs.Pcg.{pcg32}
 use Rattle.tt_state.specs.History.{IsWithinStep, trail, with_taken}
 use Rattle.tt_search.specs.Searched.{after_turns, turns_made, rank_of, search_end}
-use Rattle.tt_search.specs.Drawing.{AreCandidates}
-use Rattle.tt_search.specs.MovedNow.{AreMoved}
 use Rattle.tt_search.specs.UnderWay.{IsUnderWay}
+use Rattle.tt_search.specs.WayNow.{IsWayAt}
 use Rattle.tt_search.proofs.seeking.walk.Given as goal
 
 abbrev pub invariant-loop-made : goal.invariant-loop-made
@@ -15,7 +14,6 @@ invariant-loop-made g l =
     let aim = option_copied l.published in
     record {
       step : IsWithinStep (with_taken start []) (with_taken l.state []);
-      candidates : AreCandidates l.state.problem l.state.present l.candidates [];
-      moved : AreMoved start.problem aim l.state.present.plan l.moved [];
-      way : IsUnderWay (rank_of start.problem aim) (trail l.state) (after_turns start.problem aim (l.turns - l.made) (stream_of (steps_u32 pcg32) l.words) l.state.present) l.best l.made (search_end start.problem aim l.turns l.seed start.present) (turns_made start.problem aim l.turns l.seed start.present);
+      at : IsWayAt start.problem aim l.state.present l.way;
+      way : IsUnderWay (rank_of start.problem aim) (trail l.state) (after_turns start.problem aim (l.turns - l.made) (stream_of (steps_u32 pcg32) l.words) l.state.present) l.way.best l.made (search_end start.problem aim l.turns l.seed start.present) (turns_made start.problem aim l.turns l.seed start.present);
     }

@@ -1,0 +1,42 @@
+use Rattle.std.proofs.Common.{◌≡◌, take, ap, arith}
+use Rattle.std.proofs.lemmas.List.{take_all}
+use Rattle.tt_plan.specs.Domain.{domain_of}
+use Rattle.tt_state.specs.History.{Held}
+use Rattle.tt_search.specs.PlacingNow.{burden_by}
+use Rattle.tt_search.specs.Turns.{is_available}
+use Rattle.tt_search.proofs.LeastLemmas.{few_least, one_further}
+use Rattle.tt_search.proofs.least.LeastValues.find.Goals as goal
+
+pub loop-k-init : goal.loop-k-init
+loop-k-init c =
+    let same = c.conflicts_without-others.ensures.same in
+    record {
+      problem = ap (λ (s : Held). s.problem) same;
+      present = ap (λ (s : Held). s.present) same;
+      entries = ap (λ (s : Held). s.entries) same;
+      least = c.clear.ensures _;
+    }
+
+pub loop-k-preserved : goal.loop-k-preserved
+loop-k-preserved c =
+    let start = c.args.state.now in
+    let problem = c.loop-k.invariant.problem in
+    let present = c.loop-k.invariant.present in
+    let at = rw (c.problem-in-loop-k.ensures, problem) at c.value_at-value.ensures.value in
+    let looked = rw (problem, present) at c.in_ok-look_at.ensures.least in
+    record {
+      problem = cc;
+      present = cc;
+      entries = cc;
+      least = one_further (burden_by start.problem start.present c.args.weights.now.outs.items c.args.class) (is_available start.problem start.present c.args.class) (domain_of start.problem c.args.class) c.loop-k.k c.value_at-value.result c.look_at.new.self
+          at (looked _ c.loop-k.invariant.least);
+    }
+
+pub returns-clause-few : goal.returns-clause-few
+returns-clause-few c =
+    let start = c.args.state.now in
+    let domain = domain_of start.problem c.args.class in
+    let problem : c.conflicts_without-others.new.self.problem ≡ start.problem = ap (λ (s : Held). s.problem) c.conflicts_without-others.ensures.same in
+    let size = rw (c.problem.ensures, problem) at c.domain_size-k-end.ensures.size in
+    let all : take c.loop-k.k domain ≡ domain = take_all c.loop-k.k domain (omega (arith, size)) in
+    omega (arith, size, c.domain_size-k-end.ensures.small, few_least _ _ domain c.loop-k.self (rw all at c.loop-k.invariant.least))

@@ -1,0 +1,148 @@
+ghost use Rattle.std.specs.Prelude.{◌≡◌, ◌<◌, ◌∷◌, [], None, ℕ, List, IfOk, IfSome, OnOk, OnErr, length};
+ghost use Rattle.std.specs.Option.{option_map};
+ghost use Rattle.tt_state.specs.History.{IsWithinStep, desk_of, earlier, stepped, trail, with_taken};
+ghost use Rattle.tt_state.specs.Snapshots.{StaysLocked};
+ghost use Rattle.tt_search.specs.Least.{IsFirstLeast};
+ghost use Rattle.tt_search.specs.Searched.{rank_of};
+ghost use Rattle.tt_search.specs.PlaceTurns.{all_placed, place_end, place_turn, place_way, places_after};
+ghost use Rattle.tt_search.specs.Drawing.{AreCandidates};
+ghost use Rattle.tt_search.specs.Numbers.{MayMake};
+ghost use Rattle.tt_search.specs.UnderWay.{IsUnderWay};
+ghost use Rattle.tt_search.specs.WayNow.{BeginsAt};
+ghost use Rattle.tt_search.specs.PlacingNow.{CountsOuts, moment_after};
+
+use crate::drawing::Candidates;
+use crate::least::LeastValues;
+use crate::turn::Move;
+use crate::way::Way;
+use crate::weights::ClassWeights;
+use rand_core::Rng;
+use rand_pcg::Lcg64Xsh32;
+use std::alloc::{AllocError, Global};
+use tt_io::Watcher;
+use tt_state::State;
+
+/// What moves are chosen by.
+#[derive(Drop)]
+struct Chooser {
+    weights: ClassWeights,
+    least: LeastValues,
+}
+
+impl Chooser {
+    /// Before the first turn.
+    fn new(alloc: Global, state: &State) -> Result<Chooser, AllocError>
+        ensures { IfOk result (λ chooser. CountsOuts state.now.problem [] chooser.weights) }
+    {
+        let weights = ClassWeights::new(alloc, state)?;
+        let least = LeastValues::new(alloc);
+        Ok(Chooser { weights, least })
+    }
+
+    /// The class of the turn with two random words, and the value that it is forced to, if it has an
+    /// available one. None where there is no candidate.
+    fn next_move(
+        &mut self,
+        state: &mut State,
+        candidates: &Candidates,
+        class_word: u32,
+        value_word: u32,
+    ) -> Result<Option<Move>, AllocError>
+        requires candidates { AreCandidates state.old.problem state.old.present candidates.now [] }
+        requires whole { length self.old.weights.outs.items ≡ length state.old.problem.classes }
+        ensures problem { state.new.problem ≡ state.old.problem }
+        ensures present { state.new.present ≡ state.old.present }
+        ensures entries { state.new.entries ≡ state.old.entries }
+        ensures weights { self.new.weights ≡ self.old.weights }
+        ensures turn { IfOk result (λ next. (outs : List ℕ) → CountsOuts state.old.problem outs self.old.weights
+            → place_turn state.old.problem (record { class = class_word; value = value_word }) (record { snapshot = state.old.present; outs = outs }) ≡ option_map (moment_after state.old.problem state.old.present outs) next) }
+        ensures may { IfOk result (λ next. IfSome next (MayMake state.old.problem state.old.present)) }
+    {
+        let Some(class) = candidates.drawn(class_word) else {
+            return Ok(None);
+        };
+        self.least.find(state, &self.weights, class)?;
+        let value = self.least.drawn(value_word);
+        Ok(Some(Move { class, value }))
+    }
+}
+
+/// Makes turns in the last step, until so many are made or there is no candidate. The watcher is told
+/// of each. The answer is the number of turns.
+fn walk<W: Watcher>(
+    state: &mut State,
+    way: &mut Way,
+    chooser: &mut Chooser,
+    turns: u32,
+    seed: u64,
+    watcher: &mut W,
+) -> Result<u32, AllocError>
+    requires begins { BeginsAt state.old.problem None state.old.present way.old }
+    requires counts { CountsOuts state.old.problem [] chooser.old.weights }
+    requires step { 0 < length (earlier state.old) }
+    requires trail { trail state.old ≡ state.old.present ∷ [] }
+    ensures step { IsWithinStep (with_taken state.old []) (with_taken state.new []) }
+    ensures way { IfOk result (λ made. let start = state.old in IsUnderWay (rank_of start.problem None) (trail state.new) [] way.new.best made (place_end start.problem turns seed start.present) (length (places_after start.problem turns seed start.present))) }
+{
+    let mut words = Lcg64Xsh32::new(seed, 1);
+    for made in 0..turns {
+        let class_word = words.next_u32();
+        let value_word = words.next_u32();
+        let Some(next) = chooser.next_move(state, &way.candidates, class_word, value_word)? else {
+            return Ok(made);
+        };
+        way.go(state, None, next)?;
+        chooser.weights.count_out(state, next);
+        watcher.tell(way.progress(made + 1, turns));
+    }
+    Ok(turns)
+}
+
+/// Places as one step. Where memory runs out, the step is undone.
+fn place_on<W: Watcher>(
+    alloc: Global,
+    state: &mut State,
+    turns: u32,
+    seed: u64,
+    watcher: &mut W,
+) -> Result<u32, AllocError>
+    ensures problem { state.new.problem ≡ state.old.problem }
+    ensures earlier { OnOk result (earlier state.new ≡ state.old.present ∷ earlier state.old) }
+    ensures end { OnOk result (place_end state.old.problem turns seed state.old.present ≡ state.new.present) }
+    ensures made { IfOk result (λ made. made ≡ length (places_after state.old.problem turns seed state.old.present)) }
+    ensures present { OnErr result (state.new.present ≡ state.old.present) }
+    ensures entries { OnErr result (state.new.entries ≡ state.old.entries) }
+{
+    let mut way = Way::new(alloc, state, None)?;
+    let mut chooser = Chooser::new(alloc, state)?;
+    state.begin()?;
+    let made = walk(state, &mut way, &mut chooser, turns, seed, watcher);
+    way.end(state, made)
+}
+
+/// Makes turns that learn which classes are hard, from the present snapshot until so many are made or
+/// there is no candidate, and ends at the first snapshot on the way that is least by unplaced classes,
+/// hard conflicts and total, all as one step. In a turn a random word draws one of the unplaced classes
+/// that have a value which isn't blocked. Among its values that push out no locked class those are
+/// kept whose conflict set weighs least, where a class weighs 1 and 1 more for each turn that took it
+/// out; among these those with the least total; and a second random word draws the one that the class
+/// is forced to. Where it has none, the turn changes nothing. So each locked class stays where it is.
+/// The answer is the number of turns. Where memory is wanting, only the conflict set found last may
+/// differ. The watcher is told of each turn.
+#[tactic(auto, using(crate::proofs::FirstLemmas::place_ends_at_first))]
+pub fn place<W: Watcher>(
+    alloc: Global,
+    state: &mut State,
+    turns: u32,
+    seed: u64,
+    watcher: &mut W,
+) -> Result<u32, AllocError>
+    ensures desk { OnOk result (desk_of state.new ≡ stepped (desk_of state.old) state.new.present) }
+    ensures end { IfOk result (λ made. all_placed state.old.problem turns seed state.old.present ≡ (state.new.present, made)) }
+    ensures first { OnOk result ((place : ℕ) × IsFirstLeast (rank_of state.old.problem None) (place_way state.old.problem turns seed state.old.present) place state.new.present) }
+    ensures locked { OnOk result ((class : ℕ) → StaysLocked state.old.present state.new.present class) }
+    ensures err { OnErr result (with_taken state.new [] ≡ with_taken state.old []) }
+{
+    state.soundness();
+    place_on(alloc, state, turns, seed, watcher)
+}

@@ -1,0 +1,161 @@
+ghost use Rattle.std.specs.Prelude.{◌≡◌, ◌+◌, ◌<◌, ◌∷◌, ◌++◌, [], IfOk, IfSome, OnOk, OnErr, length, Option, slice_get, if◌then◌else◌};
+ghost use Rattle.std.specs.Option.{option_copied, ForSome};
+ghost use Rattle.tt_solution.specs.Published.{moved_in};
+ghost use Rattle.tt_solution.specs.Timetable.{IsTimetableOf, Timetable};
+ghost use Rattle.tt_state.specs.History.{IsWithinStep, before_step, desk_of, earlier, moved_to, trail, with_taken};
+ghost use Rattle.tt_state.specs.Values.{conflicts_of};
+ghost use Rattle.tt_base.specs.Lists.{comes_before};
+ghost use Rattle.tt_search.specs.Searched.{rank_of};
+ghost use Rattle.tt_search.specs.Late.{KeepsOthers};
+ghost use Rattle.tt_search.specs.Numbers.{MayMake, after_move, rank_numbers};
+ghost use Rattle.tt_search.specs.UnderWay.{LeadsOn};
+ghost use Rattle.tt_search.specs.WayNow.{BeginsAt, IsWayAt};
+
+use crate::drawing::Candidates;
+use crate::moving::MovedClasses;
+use crate::price::{Rank, rank_now};
+use crate::turn::Move;
+use std::alloc::{AllocError, Global};
+use tt_io::Progress;
+use tt_solution::Published;
+use tt_state::State;
+
+/// The best moment so far: its rank, and its place in the trail of the last step.
+#[derive(Clone, Copy, Debug, PartialEq, Eq)]
+pub(crate) struct Best {
+    pub rank: Rank,
+    pub mark: u64,
+}
+
+/// How far turns have come in the last step: what is kept of the present snapshot, and the best moment
+/// so far.
+#[derive(Drop)]
+pub(crate) struct Way {
+    pub candidates: Candidates,
+    moved: MovedClasses,
+    pub best: Best,
+}
+
+/// The present moment, where so many published classes are moved.
+fn moment(state: &State, moved: u32) -> Best
+    ensures rank { (published : Option Timetable) → moved ≡ moved_in state.now.problem published state.now.present.plan
+        → rank_numbers result.rank ≡ rank_of state.now.problem published state.now.present }
+    ensures mark { result.mark + 1 ≡ length (trail state.now) }
+{
+    Best {
+        rank: rank_now(state, moved),
+        mark: state.mark_now(),
+    }
+}
+
+/// The later moment, where its rank is below that of the earlier one, and otherwise the earlier one.
+fn better(best: Best, now: Best) -> Best
+    ensures { result ≡ (if comes_before (rank_numbers now.rank) (rank_numbers best.rank) then now else best) }
+{
+    if now.rank.is_below(&best.rank) {
+        now
+    } else {
+        best
+    }
+}
+
+/// Forces the class of a move to its value, in the last step. Where it has none, a moment is added in
+/// which nothing changes.
+fn make(state: &mut State, next: Move) -> Result<(), AllocError>
+    requires may { MayMake state.old.problem state.old.present next }
+    requires step { 0 < length (earlier state.old) }
+    ensures desk { OnOk result (desk_of state.new ≡ moved_to (desk_of state.old) (after_move state.old.problem state.old.present next)) }
+    ensures trail { OnOk result (trail state.new ≡ trail state.old ++ state.new.present ∷ []) }
+    ensures taken { OnOk result (IfSome next.value (λ v. state.new.taken ≡ conflicts_of state.old.problem state.old.present next.class v)) }
+    ensures others { OnOk result (KeepsOthers state.old.present state.new.present (next.class ∷ state.new.taken)) }
+    ensures step { IsWithinStep (with_taken state.old []) (with_taken state.new []) }
+{
+    match next.value {
+        Some(value) => state.force_step(next.class, value),
+        None => state.stay_step(),
+    }
+}
+
+impl Way {
+    /// The way from the present snapshot, before the step in which turns are made.
+    pub(crate) fn new(
+        alloc: Global,
+        state: &State,
+        published: Option<&Published>,
+    ) -> Result<Way, AllocError>
+        requires { ForSome (option_copied published) (IsTimetableOf state.now.problem) }
+        ensures { IfOk result (BeginsAt state.now.problem (option_copied published.entry) state.now.present) }
+    {
+        let candidates = Candidates::new(alloc, state)?;
+        let moved = MovedClasses::new(alloc, state, published)?;
+        let rank = rank_now(state, moved.count);
+        let best = Best { rank, mark: 0 };
+        Ok(Way {
+            candidates,
+            moved,
+            best,
+        })
+    }
+
+    /// Makes a turn in the last step: makes the move, looks again at what changed, and keeps the best
+    /// moment.
+    pub(crate) fn go(
+        &mut self,
+        state: &mut State,
+        published: Option<&Published>,
+        next: Move,
+    ) -> Result<(), AllocError>
+        requires belongs { ForSome (option_copied published) (IsTimetableOf state.old.problem) }
+        requires at { IsWayAt state.old.problem (option_copied published) state.old.present self.old }
+        requires may { MayMake state.old.problem state.old.present next }
+        requires step { 0 < length (earlier state.old) }
+        ensures at { OnOk result (IsWayAt state.old.problem (option_copied published.entry) state.new.present self.new) }
+        ensures present { OnOk result (state.new.present ≡ after_move state.old.problem state.old.present next) }
+        ensures taken { OnOk result (IfSome next.value (λ v. state.new.taken ≡ conflicts_of state.old.problem state.old.present next.class v)) }
+        ensures best { OnOk result (LeadsOn (rank_of state.old.problem (option_copied published.entry)) (trail state.old) (trail state.new) state.new.present self.old.best self.new.best) }
+        ensures step { IsWithinStep (with_taken state.old []) (with_taken state.new []) }
+    {
+        make(state, next)?;
+        self.candidates.follow(state, next.class);
+        self.moved.follow(state, published, next.class);
+        self.best = better(self.best, moment(state, self.moved.count));
+        Ok(())
+    }
+
+    /// What a watcher is told after so many turns of so many.
+    pub(crate) fn progress(&self, made: u32, of: u32) -> Progress {
+        Progress::Turns {
+            made,
+            of,
+            unplaced: self.best.rank.unplaced,
+        }
+    }
+
+    /// Ends the last step at the best moment once so many turns were made. Where memory was wanting, the
+    /// step is taken back.
+    pub(crate) fn end(
+        &self,
+        state: &mut State,
+        made: Result<u32, AllocError>,
+    ) -> Result<u32, AllocError>
+        requires step { 0 < length (earlier state.old) }
+        requires best { OnOk made (self.now.best.mark < length (trail state.old)) }
+        ensures made { result ≡ made }
+        ensures problem { state.new.problem ≡ state.old.problem }
+        ensures earlier { OnOk result (earlier state.new ≡ earlier state.old) }
+        ensures present { OnOk result (slice_get (trail state.old) self.now.best.mark ≡ Some state.new.present) }
+        ensures back { OnErr result (earlier state.old ≡ state.new.present ∷ earlier state.new) }
+        ensures entries { OnErr result (state.new.entries ≡ before_step state.old.entries) }
+    {
+        match made {
+            Ok(made) => {
+                state.roll_back(self.best.mark);
+                Ok(made)
+            }
+            Err(error) => {
+                state.take_back();
+                Err(error)
+            }
+        }
+    }
+}
