@@ -1,5 +1,5 @@
 -- Turns that learn which classes are hard: what each class weighs, what the words draw, and how far the turns have come.
-use Rattle.std.proofs.Common.{◌≡◌, ℕ, zero, suc, ◌+◌, ◌*◌, ◌-◌, ◌^◌, ◌<◌, ◌≤◌, Bool, true, false, cond, Option, Some, None, List, [], ◌∷◌, ◌++◌, length, map, length-append, refl, ap, sym, ◌∙◌, ◌⊎◌, inl, inr, ◌≢◌, arith}
+use Rattle.std.proofs.Common.{◌≡◌, ℕ, ◌+◌, ◌*◌, ◌-◌, ◌^◌, ◌<◌, ◌≤◌, Bool, true, false, cond, Option, Some, None, List, [], ◌∷◌, ◌++◌, length, map, length-append, refl, ap, ◌∙◌, ◌⊎◌, inl, inr, ◌≢◌, arith}
 use Rattle.std.specs.Prelude.{IfSome, count_by, drop, nat_eq, slice_get, slice_index_or}
 use Rattle.std.specs.Option.{option_map_or}
 use Rattle.std.specs.List.{sum_by}
@@ -17,7 +17,7 @@ use Rattle.tt_search.specs.declared.way.Best.{Best}
 use Rattle.tt_search.specs.declared.weights.ClassWeights.{ClassWeights}
 use Rattle.tt_search.specs.Numbers.{after_move, rank_numbers}
 use Rattle.tt_search.specs.PlaceTurns.{Moment, TurnWords, after_forcing, all_least, burden_of, class_weight, least_values, place_end, place_turn, places_after, two_words}
-use Rattle.tt_search.specs.PlacingNow.{CountsOuts, AreLeast, burden_by, moment_after, taken_by, weight_by}
+use Rattle.tt_search.specs.PlacingNow.{CountsOuts, burden_by, moment_after, taken_by, weight_by}
 use Rattle.tt_search.specs.Searched.{onward, rank_of}
 use Rattle.tt_search.specs.Turns.{available_values, candidates, forced_if}
 use Rattle.tt_search.specs.UnderWay.{IsUnderWay, LeadsOn}

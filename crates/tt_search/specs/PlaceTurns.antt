@@ -1,5 +1,5 @@
 -- Theorem. Turns that learn which classes are hard: a class weighs more each time that it is taken out.
-use Rattle.std.specs.Prelude.{ℕ, ◌+◌, Bool, not, nat_eq, List, [], ◌∷◌, ◌++◌, Option, Some, None, count_by, length, map}
+use Rattle.std.specs.Prelude.{ℕ, ◌+◌, not, nat_eq, List, [], ◌∷◌, ◌++◌, Option, Some, None, count_by, length, map}
 use Rattle.std.specs.List.{best_of, filter, list_any, sum_by}
 use Rattle.std.specs.Option.{option_map}
 use Rattle.rand_core.specs.Stream.{Stream, next_u32}

@@ -1,5 +1,5 @@
 -- Proof. What the code of turns keeps of the present snapshot.
-use Rattle.std.specs.Prelude.{ℕ, ◌≡◌, [], Option}
+use Rattle.std.specs.Prelude.{◌≡◌, [], Option}
 use Rattle.tt_problem.specs.declared.parts.Parts.{Parts}
 use Rattle.tt_solution.specs.Timetable.{Timetable}
 use Rattle.tt_state.specs.Snapshots.{Snapshot}

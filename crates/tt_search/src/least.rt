@@ -42,13 +42,7 @@ impl Burden {
 
 /// The total with a class at a value, and none where it is above a bound. `others` are the student
 /// conflicts without the class.
-fn total_up_to(
-    state: &mut State,
-    class: u32,
-    value: Value,
-    others: u64,
-    most: u128,
-) -> Option<u128>
+fn total_up_to(state: &mut State, class: u32, value: Value, others: u64, most: u128) -> Option<u128>
     requires value { IsOfDomain state.old.problem class value }
     requires others { others ≡ conflicts_without state.old.problem state.old.present class }
     ensures same { state.new ≡ state.old }

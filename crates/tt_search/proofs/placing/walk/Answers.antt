@@ -1,8 +1,6 @@
 use Rattle.std.proofs.Common.{◌≡◌, ℕ, ◌^◌, ◌<◌, ◌≤◌, ◌∙◌, [], refl, subst, sym, arith}
 use Rattle.std.specs.Prelude.{slice_index_or}
 use Rattle.tt_search.specs.declared.weights.ClassWeights.{ClassWeights}
-use Rattle.rand_core.specs.Steps.{stream_of, steps_u32}
-use Rattle.rand_pcg.specs.Pcg.{pcg32}
 use Rattle.tt_state.specs.History.{earlier, trail, with_taken}
 use Rattle.tt_draw.proofs.WordLemmas.{words_from}
 use Rattle.tt_state.proofs.StepLemmas.{within_next, within_same, within_still}

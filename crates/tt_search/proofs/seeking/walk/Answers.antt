@@ -3,7 +3,7 @@ use Rattle.std.specs.Option.{option_copied}
 use Rattle.rand_core.specs.Steps.{stream_of, steps_u32}
 use Rattle.rand_core.specs.Stream.{next_u32}
 use Rattle.rand_pcg.specs.Pcg.{pcg32}
-use Rattle.tt_state.specs.History.{IsWithinStep, earlier, trail, with_taken}
+use Rattle.tt_state.specs.History.{earlier, trail, with_taken}
 use Rattle.tt_search.specs.Turns.{turn_of}
 use Rattle.tt_draw.specs.Words.{random_words}
 use Rattle.tt_draw.proofs.WordLemmas.{words_from}

@@ -1,4 +1,4 @@
-use Rattle.std.proofs.Common.{◌≡◌, ◌∙◌, ap, []}
+use Rattle.std.proofs.Common.{◌≡◌, []}
 use Rattle.std.specs.Option.{option_copied}
 use Rattle.tt_search.specs.MovedNow.{AreMoved}
 use Rattle.tt_search.specs.Searched.{rank_of}
