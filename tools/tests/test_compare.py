@@ -10,6 +10,8 @@ import pytest
 from conftest import PROGRAM, TOP, Tool, Write, needs_program, uttab
 from test_page import Page
 
+from uttab_tools.changes import Change
+
 FACULTY = TOP / "examples/a_faculty"
 TERM, AFTER = FACULTY / "term.json", FACULTY / "after_week_4.json"
 
@@ -41,8 +43,9 @@ Compare = Callable[..., str]
 
 @pytest.fixture
 def compare(tool: Tool, write: Write) -> Compare:
-    def run(new: str, *words: object, old: str = OLD) -> str:
-        out, told = tool("compare", write("problem.json", json.dumps(problem())), write("old.json", old), write("new.json", new), *words)
+    def run(new: str, *words: object, old: str = OLD, of: dict[str, Any] | None = None) -> str:
+        files = write("problem.json", json.dumps(of or problem())), write("old.json", old), write("new.json", new)
+        out, told = tool("compare", *files, *words)
         assert told == ""
         return out
     return run
@@ -142,3 +145,31 @@ def test_costs_are_those_of_the_program(tool: Tool) -> None:
         assert f"{name}: {first}\n" in out
     assert "sum time 25" in tool(*words, "--as", "page")[0]
     assert "--costs: reads the files once more" in tool("compare", "-", TERM, AFTER, "--costs", status=2)[1]
+
+
+def test_a_change_of_many_is_put_into_words_once(compare: Compare, monkeypatch: pytest.MonkeyPatch) -> None:
+    """Two timetables of thousands of students are compared in a second or two, since few of their changes differ."""
+    made = []
+    begin = Change.__init__
+
+    def counted(self: Change, *words: str) -> None:
+        made.append(words)
+        begin(self, *words)
+    monkeypatch.setattr(Change, "__init__", counted)
+    value = problem()
+    value["students"] = [{"id": number, "courses": [1]} for number in range(7, 1007)]
+    everyone = list(range(7, 1007))
+    old = timetable((1, "10", 96, 1, everyone), (2, "10", 120, 1, everyone), (3, "10", 132, 1, []))
+    new = timetable((1, "01", 96, 2, everyone), (2, "10", 120, 1, []), (3, "10", 132, 1, everyone))
+    assert compare(new, "--as", "page", old=old, of=value).count("<dd>") == 2000
+    assert len(made) == 2
+
+
+def test_faults_of_students_name_their_place(tool: Tool, write: Write) -> None:
+    files = write("problem.json", json.dumps(problem())), write("old.json", OLD)
+    for students, words in (("[7, 7, 10]", "/classes/0/students/2: the problem has no student 10"),
+                            ('[7, {"id": "10"}]', "/classes/0/students/1: the problem has no student 10"),
+                            ("[7, true]", "/classes/0/students/1: true is no number"),
+                            ("[7, 4294967296]", "/classes/0/students/1: 4294967296 isn't within 0 to 4294967295")):
+        new = write("new.json", OLD.replace("[7, 8]", students, 1))
+        assert tool("compare", *files, new, status=3)[1] == f"compare: {new}: {words}\n"

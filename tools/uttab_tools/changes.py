@@ -21,9 +21,10 @@ class ClassChange:
     students: int
 
 
-@dataclass(frozen=True, slots=True)
+@dataclass(frozen=True, slots=True, eq=False)
 class Change:
-    """What changes for a person: in words, and in columns."""
+    """What changes for a person: in words, and in columns. It is one object for all to whom it happens, and equal to itself
+    alone."""
 
     course: str
     class_name: str
@@ -54,7 +55,9 @@ class Changes:
     def __init__(self, old: Timetable, new: Timetable) -> None:
         self.old, self.new = old, new
         self.classes = [change for of_class in new.problem.classes.values() if (change := self._class_change(of_class))]
-        self.moved = {change.of_class.id: change for change in self.classes}
+        self.gone = {change.of_class.id for change in self.classes if change.kind == "gone"}
+        self.moved = {change.of_class.id: self._moved(change) for change in self.classes}
+        self._group_changes: dict[tuple[int | None, int | None], Change] = {}
         self.students = [person for student in new.problem.students if (person := self._student(student)).changes]
         self.teachers = self._teachers()
 
@@ -96,8 +99,8 @@ class Changes:
         left, joined = [one for one in before if one not in after], [one for one in after if one not in before]
         for one in before:
             # A class that is gone has no list any more: that it is gone is what changes.
-            if one in self.moved and (one in after or self.moved[one].kind == "gone"):
-                person.changes.append(self._moved(self.moved[one]))
+            if one in self.moved and (one in after or one in self.gone):
+                person.changes.append(self.moved[one])
         person.changes += self._groups([one for one in left if one in self.new.meetings], joined)
         return person
 
@@ -110,19 +113,29 @@ class Changes:
         rest = list(joined)
         classes = self.new.problem.classes
         for one in left:
-            group = classes[one]
-            other = next((two for two in rest if self._part(classes[two]) == self._part(group)), None)
-            was = f"{self._label(group)}, {self.place(self.old, self.old.meetings[one])}"
-            if other is None:
-                changes.append(Change(self._course(group), "", "group left", was, ""))
-                continue
-            rest.remove(other)
-            now = f"{self._label(classes[other])}, {self.place(self.new, self.new.meetings[other])}"
-            changes.append(Change(self._course(group), "", "other group", was, now))
-        for one in rest:
-            now = f"{self._label(classes[one])}, {self.place(self.new, self.new.meetings[one])}"
-            changes.append(Change(self._course(classes[one]), "", "group joined", "", now))
-        return changes
+            other = next((two for two in rest if self._part(classes[two]) == self._part(classes[one])), None)
+            if other is not None:
+                rest.remove(other)
+            changes.append(self._group(one, other))
+        return changes + [self._group(None, one) for one in rest]
+
+    def _group(self, left: int | None, joined: int | None) -> Change:
+        """A group that is left, joined, or another one than before."""
+        known = self._group_changes.get((left, joined))
+        if known is None:
+            what = "group joined" if left is None else "group left" if joined is None else "other group"
+            own = left if left is not None else joined
+            assert own is not None
+            course = self._course(self.new.problem.classes[own])
+            known = Change(course, "", what, self._label_and_place(self.old, left), self._label_and_place(self.new, joined))
+            self._group_changes[left, joined] = known
+        return known
+
+    def _label_and_place(self, timetable: Timetable, number: int | None) -> str:
+        """A group of a timetable with when and where it meets, in words."""
+        if number is None:
+            return ""
+        return f"{self._label(timetable.problem.classes[number])}, {self.place(timetable, timetable.meetings[number])}"
 
     @staticmethod
     def _part(of_class: Class) -> tuple[int, str, str]:
@@ -132,7 +145,7 @@ class Changes:
         people = []
         for teacher in self.new.teachers:
             own: Iterable[int] = teacher.classes
-            changes = [self._moved(self.moved[one]) for one in own if one in self.moved]
+            changes = [self.moved[one] for one in own if one in self.moved]
             if changes:
                 people.append(PersonChange(None, teacher.name, changes))
         return people

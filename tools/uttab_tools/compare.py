@@ -12,6 +12,7 @@ each class, as `told` one for each person and change, such as for letters. With 
 
 from argparse import ArgumentParser, Namespace
 from collections.abc import Iterator
+from functools import cache
 from pathlib import Path
 
 from jinja2 import Environment, FileSystemLoader, StrictUndefined
@@ -83,8 +84,12 @@ def told_rows(changes: Changes, without_students: bool) -> Iterator[list[object]
 
 def page(changes: Changes, costs: list[tuple[str, str]], without_students: bool) -> str:
     environment = Environment(loader=FileSystemLoader(DATA), autoescape=True, undefined=StrictUndefined)
+    line = environment.get_template("compare_change.html.jinja")
+    # Many have the same change, which is put into words once.
+    line_of = cache(lambda change: line.render(one=change))
     return environment.get_template("compare.html.jinja").render(
-        changes=changes, summary=summary(changes), costs=costs, with_students=not without_students,
+        changes=changes, lines_of=lambda person: Markup("\n".join(map(line_of, person.changes))),
+        summary=summary(changes), costs=costs, with_students=not without_students,
         problem=changes.new.problem, names=changes.new.names, timetable=changes.new,
         style=Markup((DATA / "timetable.css").read_text(encoding="utf-8")))
 

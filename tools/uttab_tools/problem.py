@@ -134,8 +134,7 @@ class Problem:
 
     def _read_student(self, reader: Reader, item: object, path: str) -> None:
         student_id = self._new_id(reader, item, path, self.students)
-        courses = [reader.reference(course, course_path)
-                   for course, course_path in reader.items(item, "courses", path, limits.COURSES_OF_A_STUDENT, True)]
+        courses = reader.references(item, "courses", path, limits.COURSES_OF_A_STUDENT, True)
         self.students[student_id] = Student(student_id, reader.name_of(reader.fields(item, path)), list(dict.fromkeys(courses)))
 
 

@@ -60,12 +60,11 @@ def _placed_classes(reader: Reader, value: object, problem: Problem | None) -> I
 
 
 def _students_of(reader: Reader, item: object, path: str, problem: Problem | None) -> list[int]:
-    students: dict[int, bool] = {}
-    for student, student_path in reader.items(item, "students", path, limits.STUDENTS_OF_A_CLASS):
-        number = reader.reference(student, student_path)
-        if problem and number not in problem.students:
-            reader.fault(student_path, f"the problem has no student {number}")
-        students[number] = True
+    listed = reader.references(item, "students", path, limits.STUDENTS_OF_A_CLASS)
+    students = dict.fromkeys(listed)
+    if problem and not students.keys() <= problem.students.keys():
+        place, unknown = next((place, one) for place, one in enumerate(listed) if one not in problem.students)
+        reader.fault(f"{path}/students/{place}", f"the problem has no student {unknown}")
     return list(students)
 
 

@@ -137,6 +137,14 @@ class Reader:
             return self.id_of(value, "id", path)
         return self.number(value, path, limits.ID)
 
+    def references(self, value: object, key: str, path: str, most: int, needed: bool = False) -> list[int]:
+        """The ids of a list of references. Most lists are of plain ids, and are taken as they stand."""
+        found = self.fields(value, path).get(key)
+        if isinstance(found, list) and 0 < len(found) <= most and set(map(type, found)) == {int}:
+            if min(found) in limits.ID and max(found) in limits.ID:
+                return list(found)
+        return [self.reference(one, place) for one, place in self.items(value, key, path, most, needed)]
+
     def set_of(self, value: object, key: str, path: str, count: int | None = None) -> int:
         """A set of days or weeks as a whole number."""
         text, inner_path = self.part(value, key, path)

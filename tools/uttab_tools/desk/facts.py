@@ -30,7 +30,7 @@ def rules_of(problem: Problem) -> list[Rule]:
     rules = []
     for value, path in reader.items(problem.value, "distributions", "", limits.DISTRIBUTIONS):
         item = reader.fields(value, path)
-        classes = [reader.reference(one, place) for one, place in reader.items(item, "classes", path, limits.CLASSES, True)]
+        classes = reader.references(item, "classes", path, limits.CLASSES, True)
         rules.append(Rule(reader.name_of(item), str(item.get("type")), reader.truth(item, "required", path, False),
                           list(dict.fromkeys(classes))))
     return rules
