@@ -198,3 +198,60 @@ def test_closures_are_written_into_the_problem(tool: Tool, files: tuple[str, str
 def test_verify_knows_the_closures(tool: Tool, files: tuple[str, str], write: Write) -> None:
     closed = write("closed.json", tool("close_rooms", files[0], write("closures.txt", "close 1 01 0 24 000011\n"))[0])
     assert "closed 3" in uttab("verify", closed, files[1]).splitlines()
+
+
+def draft(*left_out: int) -> str:
+    classes = OLD["classes"]
+    assert isinstance(classes, list)
+    return json.dumps({"classes": [one for one in classes if one["id"] not in left_out]})
+
+
+def session(folder: Path, *lines: str) -> str:
+    """The timetable that a session on the rest ends with."""
+    replies = uttab("run", folder / "problem.json", "-", folder / "published.json", text="\n".join(lines) + "\n").splitlines()
+    assert not [line for line in replies if line.startswith("refused")], replies
+    return next(line for line in replies if line.startswith("{"))
+
+
+@needs_program
+def test_a_draft_of_the_term(tool: Tool, write: Write, tmp_path: Path) -> None:
+    """A class that isn't placed when the term begins is placed in the middle of it."""
+    rules = PROBLEM["distributions"]
+    assert isinstance(rules, list)
+    # Class 1 is over when class 4 is placed, so nothing is asked of both.
+    more = {"type": "SameDays", "required": True, "classes": [1, 4]}
+    files = write("problem.json", json.dumps(PROBLEM | {"distributions": [*rules, more]})), write("draft.json", draft(4))
+    _, told = tool("midterm", "rest", *files, "--from", 3, "--to", tmp_path / "rest")
+    assert "midterm: 1 classes aren't placed yet: 4; `recall` gives no classes to who lacks one of them, and `enrol all`" in told
+    new = write("new.json", session(tmp_path / "rest", "recall", "assign 3 1 2", "assign 4 2 1", "enrol all", "publish"))
+    assert placed(json.loads(Path(new).read_text()))[4]["students"] == [1]
+    _, told = tool("midterm", "whole", *files, new, "--from", 3, "--to", tmp_path / "whole")
+    assert told == "midterm: 1 classes are two now: 3 (6 from week 3 on)\n"
+    words = tmp_path / "whole/problem.json", tmp_path / "whole/published.json"
+    found = uttab("verify", *words).splitlines()
+    assert placed(loads(words[1]))[4]["weeks"] == "001111" and found[-1] == "valid", found
+
+
+@needs_program
+def test_a_draft_of_the_rest(tool: Tool, files: tuple[str, str], rest: Path, write: Write, tmp_path: Path) -> None:
+    new = write("new.json", session(rest, "recall", "unassign 4", "draft"))
+    _, told = tool("midterm", "whole", *files, new, "--from", 3, "--to", tmp_path / "whole", status=1)
+    assert told == "midterm: 1 classes aren't in the timetable any more: 4\n"
+    found = placed(loads(tmp_path / "whole/published.json"))
+    assert (found[4]["weeks"], found[3]["weeks"]) == ("110000", "111111")
+
+
+@needs_program
+def test_a_class_that_never_was(tool: Tool, write: Write, tmp_path: Path) -> None:
+    """It has no time left, and whoever needs it isn't left without all others."""
+    courses = PROBLEM["courses"]
+    assert isinstance(courses, list)
+    late = PROBLEM | {"courses": [courses[0], course(2, [one_class(4, ["110000"])]), courses[2]]}
+    files = write("problem.json", json.dumps(late)), write("draft.json", draft(4))
+    assert "1 classes were never placed and have no time left: 4" in tool(
+        "midterm", "rest", *files, "--from", 3, "--to", tmp_path / "rest", status=1)[1]
+    new = write("new.json", session(tmp_path / "rest", "recall", "enrol all", "search 10 1", "publish"))
+    told = tool("midterm", "whole", *files, new, "--from", 3, "--to", tmp_path / "whole", status=1)[1]
+    assert told == "midterm: 1 classes are in neither timetable: 4\n"
+    found = uttab("verify", tmp_path / "whole/problem.json", tmp_path / "whole/published.json").splitlines()
+    assert (found[:2], found[-1]) == (["class 4 missing", "student 1 invalid"], "violations 2")

@@ -3,8 +3,9 @@
     midterm rest PROBLEM PUBLISHED --from N --to FOLDER
     midterm whole PROBLEM PUBLISHED NEW --from N --to FOLDER
 
-`rest` writes the rest of the problem from week N on, and its published timetable. A session with these two files begins with
-`recall`; what it publishes at its end is NEW. `whole` puts the term together again: PUBLISHED up to the week before, NEW
+PUBLISHED and NEW are published files or drafts. `rest` writes the rest of the problem from week N on, and its published
+timetable. A session with these two files begins with `recall`, after a draft with `enrol all` behind it; what it publishes at
+its end, or its draft, is NEW. `whole` puts the term together again: PUBLISHED up to the week before, NEW
 from week N on, as a problem and its published timetable, of which page, table and calendars can be made and which `verify`
 checks. Both write `problem.json` and `published.json` into FOLDER."""
 
@@ -31,9 +32,9 @@ def words(parser: argparse.ArgumentParser) -> None:
                              ("whole", _whole, "puts the whole term together again")):
         form = forms.add_parser(name, help=text, description=text)
         form.add_argument("problem", metavar="PROBLEM", help="the problem of the whole term")
-        form.add_argument("published", metavar="PUBLISHED", help="its published timetable")
+        form.add_argument("published", metavar="PUBLISHED", help="its timetable, as `publish` or `draft` writes it")
         if does is _whole:
-            form.add_argument("new", metavar="NEW", help="the timetable of the rest, as it was published")
+            form.add_argument("new", metavar="NEW", help="the timetable of the rest, as `publish` or `draft` writes it")
             form.add_argument("--teachers", metavar="CSV", help="also write teachers.csv: who teaches the classes that became two")
         form.add_argument("--from", dest="first", metavar="N", type=int, required=True,
                           help="the first week to come, counted from 1; at least 2")
@@ -54,6 +55,9 @@ def _rest(given: argparse.Namespace, problem: Problem, published: Published) -> 
     _write(given.folder, {"problem.json": _json(rest.problem), "published.json": _json(rest.published)})
     if rest.over:
         tell("midterm", f"{len(rest.over)} classes are over, and kept apart: {_listed(rest.over)}")
+    if rest.waiting:
+        tell("midterm", f"{len(rest.waiting)} classes aren't placed yet: {_listed(rest.waiting)}; `recall` gives no classes to who lacks "
+                        "one of them, and `enrol all` after it does")
     if rest.never:
         tell("midterm", f"{len(rest.never)} classes were never placed and have no time left: {_listed(rest.never)}")
     if rest.shorter:
@@ -73,10 +77,12 @@ def _whole(given: argparse.Namespace, problem: Problem, published: Published) ->
         tell("midterm", f"{len(whole.halves)} classes are two now: {changed}")
     if whole.lost:
         tell("midterm", f"{len(whole.lost)} classes aren't in the timetable any more: {_listed(whole.lost)}")
+    if whole.never:
+        tell("midterm", f"{len(whole.never)} classes are in neither timetable: {_listed(whole.never)}")
     refused = list(lists_above(whole.problem))
     for line in refused:
         tell("midterm", f"uttab refuses: {line}")
-    return PARTLY if whole.lost or refused else DONE
+    return PARTLY if whole.lost or whole.never or refused else DONE
 
 
 def _listed(numbers: Iterator[str] | list[int]) -> str:

@@ -2,7 +2,8 @@
 
 The weeks gone by are taken out of the times of all classes, so that nothing can be placed in them any more. A class whose
 weeks are all gone by is over: it is kept apart, in a gone week, at a slot of its own, without a room and with as many seats
-as it has students. So its students go on having it, nobody else gets it, and it is in nobody's way."""
+as it has students. So its students go on having it, nobody else gets it, and it is in nobody's way. A class of a draft that
+was never placed, and has no time left, is kept apart with the seats that it has: whoever needs it for his course gets it."""
 
 from collections.abc import Iterator
 from dataclasses import dataclass, field
@@ -16,12 +17,14 @@ from uttab_tools.times import Time, set_text
 @dataclass(slots=True)
 class Rest:
     """The problem and its published timetable. `over` are the classes that are kept apart, `shorter` those that have a time
-    with fewer weeks left than the class has still to be taught, and `never` those that were never placed and can't be now."""
+    with fewer weeks left than the class has still to be taught, `waiting` those that aren't placed yet, and `never` those
+    that were never placed and can't be now."""
 
     problem: Value
     published: Value
     over: list[int] = field(default_factory=list)
     shorter: list[int] = field(default_factory=list)
+    waiting: list[int] = field(default_factory=list)
     never: list[int] = field(default_factory=list)
 
 
@@ -64,6 +67,8 @@ class _Cutting:
         times = {} if placed and is_over(placed, self.first) else cut_times(self.problem, value, of_class, to_come(self.first))
         if not times:
             return self._kept_apart(value, of_class, placed)
+        if placed is None:
+            self.found.waiting.append(of_class.id)
         wanted = (placed.weeks & to_come(self.first)).bit_count() if placed else 0
         if any(time.weeks.bit_count() < wanted for time in times):
             self.found.shorter.append(of_class.id)
@@ -75,7 +80,9 @@ class _Cutting:
         week, day = divmod(day, self.problem.days)
         time = self.apart[of_class.id] = Time(1 << day, 1 << week % (self.first - 1), slot, 1)
         kept = {key: inner for key, inner in value.items() if key != "rooms"}
-        return with_parts(kept, limit=len(placed.students) if placed else 0, room=False, times=[{
+        if placed:
+            kept["limit"] = len(placed.students)
+        return with_parts(kept, room=False, times=[{
             "days": set_text(time.days, self.problem.days), "start": time.start, "length": time.length,
             "weeks": set_text(time.weeks, self.problem.weeks), "penalty": 0}])
 

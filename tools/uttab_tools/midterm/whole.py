@@ -17,8 +17,8 @@ from uttab_tools.raw import Rule, Value, classes_of_course, parts, rules_of, wit
 from uttab_tools.times import Time
 
 # Types that look at weeks that classes share, or count over all weeks: both halves of a class may be in one rule. Any
-# other type is asked of the weeks gone by and of the weeks to come by a rule each, but for Precedence, which looks at the
-# first meeting alone.
+# other type is asked of what meets in the weeks gone by and of what meets in the weeks to come, by a rule each, but for
+# Precedence, which looks at the first meeting alone.
 BY_WEEKS = frozenset({"NotOverlap", "SameAttendees", "WorkDay", "MinGap", "DifferentWeeks", "MaxWeeks", "MaxDayLoad", "MaxBreaks",
                       "MaxBlock"})
 
@@ -37,13 +37,14 @@ class Half:
 
 @dataclass(slots=True)
 class Whole:
-    """The problem and the timetable of the whole term. `halves` are the classes that became two, by id the new one's, and
-    `lost` those of the weeks to come that the new timetable hasn't got."""
+    """The problem and the timetable of the whole term. `halves` are the classes that became two, by id the new one's, `lost`
+    those of the weeks to come that the new timetable hasn't got, and `never` those that never had a place."""
 
     problem: Value
     published: Value
     halves: dict[int, int] = field(default_factory=dict)
     lost: list[int] = field(default_factory=list)
+    never: list[int] = field(default_factory=list)
 
 
 def whole_of(problem: Problem, old: Published, new: Published, first: int) -> Whole:
@@ -102,8 +103,12 @@ class _Joining:
         old, new = self.old.get(of_class.id), self.new.get(of_class.id)
         if old and (is_over(old, self.first) or new and of_class.id not in self.parted and self._is_as_before(old, new)):
             return [Half(of_class.id, value, old, old.weeks, not old.weeks & self.gone)]
+        if new and not old and not cut_times(self.problem, value, of_class, self.to_come):
+            new = None  # It was kept apart.
         if new and new.weeks & self.gone:
             raise FileFault(f"{self.new_file}: class {of_class.id}: has weeks before week {self.first}")
+        if not old and not new:
+            self.found.never.append(of_class.id)
         if old and not new:
             self.found.lost.append(of_class.id)
         halves = []
@@ -179,14 +184,27 @@ class _Joining:
 
     def _rules(self, rule: Rule) -> Iterator[Value]:
         listed = [self.halves[number] for number in rule.classes if self.halves[number]]
-        if not self.found.halves.keys() & rule.classes:
+        if all(self._is_old(halves) for halves in listed):
             yield rule.value
         elif rule.kind in BY_WEEKS:
             yield rule.over([half.id for halves in listed for half in halves])
-        elif rule.kind == "SameWeeks":
-            for late in (False, True):
-                yield rule.over([half.id for halves in listed for half in halves if half.late == late])
+        elif rule.kind == "Precedence":
+            yield from self._precedence(rule, [halves[0] for halves in listed])
         else:
-            yield rule.over([halves[0].id for halves in listed])
-            if rule.kind != "Precedence":
-                yield rule.over([halves[-1].id for halves in listed])
+            for within in (self.gone, self.to_come):
+                yield rule.over([half.id for halves in listed for half in halves if half.weeks & within])
+
+    def _is_old(self, halves: list[Half]) -> bool:
+        """Whether a class is over the whole term as it was published."""
+        return len(halves) == 1 and halves[0].placed is self.old.get(halves[0].id) and halves[0].weeks == halves[0].placed.weeks
+
+    @staticmethod
+    def _precedence(rule: Rule, firsts: list[Half]) -> Iterator[Value]:
+        """What comes first, by the first half of each class. Where a class has begun before one that was to come before it,
+        the rule is asked of those that had begun, and of the others."""
+        lates = [half.late for half in firsts]
+        if lates == sorted(lates):
+            yield rule.over([half.id for half in firsts])
+        else:
+            for late in (False, True):
+                yield rule.over([half.id for half in firsts if half.late == late])
