@@ -232,3 +232,32 @@ def test_calcurse_reads_the_calendar(tool: Tool, tmp_path: Path) -> None:
         pytest.skip("there is no calcurse")
     assert done.returncode == 0, done.stderr
     assert (tmp_path / "data/apts").read_text(encoding="utf-8").count("\n") == 9
+
+
+def test_a_week_that_comes_again(make: Make) -> None:
+    """A timetable of one week, such as a school's, lasts a term; holidays and pauses are left out as in any."""
+    out = make("--weeks", 4, days="1010000", weeks="1")
+    event = events(out)["class-4"]
+    assert days_of(event) == meant("1010000", "1111", 108)
+    assert str(event["DESCRIPTION"]).splitlines()[1] == "Mon, Wed 09:00–11:00, all weeks"
+    out = make("--weeks", 4, days="1000000", weeks="1", holidays="holiday,2026-10-12\npause,2026-10-19,2026-10-25\n")
+    assert days_of(events(out)["class-4"]) == [datetime(2026, 10, 5, 9), datetime(2026, 10, 26, 9), datetime(2026, 11, 2, 9)]
+
+
+def test_weeks_that_come_by_turns(make: Make) -> None:
+    event = events(make("--weeks", 6, weeks="01"))["class-4"]
+    assert days_of(event) == meant("1000000", "010101", 108)
+    assert str(event["DESCRIPTION"]).splitlines()[1] == "Monday 09:00–11:00, even weeks"
+
+
+def test_one_week_alone_is_told(tool: Tool, write: Write) -> None:
+    time = {"days": "1000000", "weeks": "1", "start": 9, "length": 1, "penalty": 0}
+    problem = write("p.json", json.dumps({"nrDays": 7, "nrWeeks": 1, "slotsPerDay": 24, "courses": [
+        {"id": 1, "configs": [{"id": 1, "subparts": [{"id": 1, "classes": [{"id": 4, "room": False, "times": [time]}]}]}]}]}))
+    words = problem, write("q.json", json.dumps({"classes": [{"id": 4, "days": "1000000", "start": 9, "weeks": "1"}]}))
+    out, told = tool("calendars", *words, "--first-day", MONDAY)
+    assert told == f"calendars: {problem}: has one week, and so has the calendar; --weeks N repeats it\n"
+    assert days_of(events(out)["class-4"]) == [datetime(2026, 10, 5, 9)]
+    assert tool("calendars", *words, "--first-day", MONDAY, "--weeks", 2)[1] == ""
+    for weeks, said in (("0", "is at least 1"), ("x", "is at least 1"), ("1001", "--weeks 1001: is at most 1000")):
+        assert said in tool("calendars", *words, "--first-day", MONDAY, "--weeks", weeks, status=2)[1]

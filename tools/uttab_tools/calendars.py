@@ -4,8 +4,9 @@
     calendars PROBLEM PUBLISHED --first-day 2026-10-05 --folder calendars [--of student,room,course,teacher]
 
 --first-day is the first day of the term's first week. --holidays names a CSV file with lines `kind,first,last,name`: a
-holiday has no classes, and a pause is a time of whole weeks that don't count. With --zone times are of that time zone,
-such as Europe/Prague; without it they are of whatever place the reader is in.
+holiday has no classes, and a pause is a time of whole weeks that don't count. With --weeks the term has so many weeks, and
+those of the problem come again and again: a school's timetable of one week lasts a term. With --zone times are of that time
+zone, such as Europe/Prague; without it they are of whatever place the reader is in.
 
 A class is one event, with the same identifier in every calendar. Where the file to be written is there already, it is
 taken for an earlier edition of the same calendar: an event that changed gets the next number of sequence, and one that is
@@ -20,31 +21,32 @@ from pathlib import Path
 
 from icalendar import Calendar, Event
 
-from uttab_tools.given import add_timetable, timetable_given
+from uttab_tools.given import a_count, add_timetable, timetable_given
 from uttab_tools.parts import Part, add_part_words, files_of, kinds_of, part_given, parts
-from uttab_tools.program import DONE, Command, FileFault, Folder, Output, Usage
+from uttab_tools.program import DONE, Command, FileFault, Folder, Output, Usage, tell
 from uttab_tools.published import Meeting
 from uttab_tools.term import Term, a_date, read_term
-from uttab_tools.times import minutes
+from uttab_tools.times import again, minutes, weeks_in_words
 from uttab_tools.timetable import Timetable
 from uttab_tools.zone import zone_component, zone_of
 
 DAYS_OF_A_RULE = ("MO", "TU", "WE", "TH", "FR", "SA", "SU")
+MOST_WEEKS = 1000
 # What tells an event of today from one of an earlier edition.
 COMPARED = ("SUMMARY", "LOCATION", "DESCRIPTION", "DTSTART", "DTEND", "RRULE", "EXDATE", "RDATE", "STATUS")
 
 
 class CalendarMaker:
-    """Makes calendars of a timetable."""
+    """Makes calendars of a timetable, for a term of so many weeks."""
 
-    def __init__(self, timetable: Timetable, term: Term, zone: str | None) -> None:
-        self.timetable, self.term, self.zone = timetable, term, zone
+    def __init__(self, timetable: Timetable, term: Term, weeks: int, zone: str | None) -> None:
+        self.timetable, self.term, self.weeks, self.zone = timetable, term, weeks, zone
         self.zone_info = zone_of(zone) if zone else None
         name = re.sub(r"[^a-z0-9]+", "-", timetable.problem.name.lower()).strip("-") or "timetable"
         self.domain = f"{term.first:%Y%m%d}.{name}.uttab"
         self.stamp = datetime.fromtimestamp(int(os.environ.get("SOURCE_DATE_EPOCH") or datetime.now().timestamp()), timezone.utc)
         try:
-            last = term.first + timedelta(7 * timetable.problem.weeks + len(term.pauses) + 50)
+            last = term.first + timedelta(7 * weeks + len(term.pauses) + 50)
         except OverflowError:
             raise Usage(f"--first-day {term.first}: the term would end after the year 9999") from None
         self.component = zone_component(zone, term.first, last) if zone else None
@@ -69,7 +71,7 @@ class CalendarMaker:
         timetable, of_class = self.timetable, meeting.of_class
         slots = timetable.problem.slots
         later, minute = divmod(minutes(meeting.time.start, slots), 1440)
-        days = self.term.dates(meeting.time.days, meeting.time.weeks, later)
+        days = self.term.dates(meeting.time.days, self.weeks_of(meeting), later)
         if not days:
             return None
         length = timedelta(minutes=minutes(meeting.time.end, slots) - minutes(meeting.time.start, slots))
@@ -87,9 +89,14 @@ class CalendarMaker:
         event.add("description", self.description(meeting))
         return event
 
+    def weeks_of(self, meeting: Meeting) -> int:
+        """The weeks of the term in which a class meets."""
+        return again(meeting.time.weeks, self.timetable.problem.weeks, self.weeks)
+
     def description(self, meeting: Meeting) -> str:
-        of_class = meeting.of_class
-        lines = [f"Class {of_class.id}, {of_class.subpart}", self.timetable.when(meeting.time)]
+        of_class, time = meeting.of_class, meeting.time
+        when = f"{self.timetable.days(time.days)} {self.timetable.hours(time)}, {weeks_in_words(self.weeks_of(meeting), self.weeks)}"
+        lines = [f"Class {of_class.id}, {of_class.subpart}", when]
         teachers = ", ".join(teacher.name for teacher in self.timetable.teachers_of.get(of_class.id, ()))
         return "\n".join([*lines, teachers] if teachers else lines)
 
@@ -194,6 +201,8 @@ def words(parser: ArgumentParser) -> None:
     add_timetable(parser)
     parser.add_argument("--first-day", metavar="DATE", type=a_day, required=True, help="the first day of the first week, as 2026-10-05")
     parser.add_argument("--holidays", metavar="CSV", help="lines kind,first,last,name; the kinds are holiday and pause")
+    parser.add_argument("--weeks", metavar="N", type=a_count, help="the weeks of the term, in which those of the problem come again "
+                                                                   "and again (as many as the problem has)")
     parser.add_argument("--zone", metavar="ZONE", help="the time zone, such as Europe/Prague")
     add_part_words(parser)
 
@@ -201,7 +210,11 @@ def words(parser: ArgumentParser) -> None:
 def run(given: Namespace, output: Output) -> int:
     timetable = timetable_given(given)
     term = read_term(given.first_day, given.holidays, timetable.names.day(0))
-    maker = CalendarMaker(timetable, term, given.zone)
+    if (given.weeks or 1) > MOST_WEEKS:
+        raise Usage(f"--weeks {given.weeks}: is at most {MOST_WEEKS}")
+    if timetable.problem.weeks == 1 and given.weeks is None:
+        tell("calendars", f"{given.problem}: has one week, and so has the calendar; --weeks N repeats it")
+    maker = CalendarMaker(timetable, term, given.weeks or timetable.problem.weeks, given.zone)
     part = part_given(given, timetable)
     if given.folder:
         write_folder(maker, parts(timetable, kinds_of(given)), given.folder)

@@ -1,6 +1,6 @@
 """The words that commands over a timetable share, and the files that they name."""
 
-from argparse import ArgumentParser, Namespace
+from argparse import ArgumentParser, ArgumentTypeError, Namespace
 
 from uttab_tools.names import Names
 from uttab_tools.problem import Problem
@@ -21,6 +21,13 @@ def add_timetable(parser: ArgumentParser) -> None:
 def add_names(parser: ArgumentParser) -> None:
     parser.add_argument("--names", metavar="CSV", help="names of rooms, courses, classes, students and days")
     parser.add_argument("--teachers", metavar="CSV", help="the teachers and their classes")
+
+
+def a_count(word: str) -> int:
+    """A word that is a number of things, of which there is one at least."""
+    if not word.isdecimal() or int(word) < 1:
+        raise ArgumentTypeError("is at least 1")
+    return int(word)
 
 
 def named_problem(given: Namespace) -> tuple[Problem, Names, list[Teacher]]:

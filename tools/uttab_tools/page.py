@@ -10,14 +10,14 @@ With --without-students nothing of a student is in it but how many each class ha
 teacher has that week alone, and of students no more than their number. One of the files may be `-`, the standard input."""
 
 import json
-from argparse import ArgumentParser, ArgumentTypeError, Namespace
+from argparse import ArgumentParser, Namespace
 from collections.abc import Iterable
 from pathlib import Path
 
 from jinja2 import Environment, FileSystemLoader, StrictUndefined
 from markupsafe import Markup
 
-from uttab_tools.given import add_timetable, timetable_given
+from uttab_tools.given import a_count, add_timetable, timetable_given
 from uttab_tools.parts import Part, add_part_words, files_of, in_order, kinds_of, meetings_of, part_given, parts
 from uttab_tools.problem import Class, Room
 from uttab_tools.program import DONE, Command, Folder, Output, Usage
@@ -169,12 +169,6 @@ def write_folder(maker: PageMaker, chosen: Iterable[Part], name: str) -> None:
             if part.meetings:
                 folder.write(file, maker.part(part).encode())
     folder.tell_others("page")
-
-
-def a_count(word: str) -> int:
-    if not word.isdecimal() or int(word) < 1:
-        raise ArgumentTypeError("is at least 1")
-    return int(word)
 
 
 def words(parser: ArgumentParser) -> None:

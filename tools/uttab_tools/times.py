@@ -33,6 +33,11 @@ def set_text(bits: int, count: int) -> str:
     return f"{bits:0{count}b}"[::-1]
 
 
+def again(bits: int, count: int, most: int) -> int:
+    """A set of so many places that comes again and again, up to another number of places."""
+    return sum(1 << place for place in range(most) if bits >> place % count & 1)
+
+
 def minutes(slot: int, slots_per_day: int) -> int:
     """The minute, counted from midnight, at which a slot begins."""
     return slot * 1440 // slots_per_day

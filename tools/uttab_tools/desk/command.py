@@ -20,6 +20,7 @@ from uttab_tools.desk.log import Log
 from uttab_tools.desk.process import Ended
 from uttab_tools.desk.session import Session, published_text
 from uttab_tools.desk.web import Server
+from uttab_tools.given import a_count
 from uttab_tools.names import Names
 from uttab_tools.problem import Problem
 from uttab_tools.program import Command, Output, Refused, Usage
@@ -44,6 +45,7 @@ def words(parser: argparse.ArgumentParser) -> None:
     parser.add_argument("--teachers", metavar="CSV", help="teachers and their classes")
     parser.add_argument("--first-day", metavar="DATE", help="the first day of the term, as 2026-10-05: calendars can be made then")
     parser.add_argument("--holidays", metavar="CSV", help="holidays, for the calendars")
+    parser.add_argument("--weeks", metavar="N", type=a_count, help="the weeks of the term, for the calendars: the problem’s come again")
     parser.add_argument("--zone", metavar="ZONE", help="the time zone, for the calendars, such as Europe/Prague")
     parser.add_argument("--port", metavar="N", type=int, default=0, help="the port (any that is free)")
     parser.add_argument("--program", metavar="FILE", help="the program (the one built here, or the environment's UTTAB)")
@@ -94,7 +96,7 @@ def session_of(given: argparse.Namespace, problem: Problem) -> Session:
 def words_for(given: argparse.Namespace, *names: str) -> list[str]:
     """Those of these words that are given, as another command takes them."""
     found = [(name, getattr(given, name.replace("-", "_"))) for name in names]
-    return [word for name, value in found if value for word in (f"--{name}", value)]
+    return [word for name, value in found if value for word in (f"--{name}", str(value))]
 
 
 def run(given: argparse.Namespace, _: Output) -> int:
@@ -104,7 +106,7 @@ def run(given: argparse.Namespace, _: Output) -> int:
     problem = Problem(given.problem)
     teachers = read_teachers(given.teachers, problem) if given.teachers else []
     facts = Facts(problem, Names(problem, given.names), teachers)
-    term = words_for(given, "first-day", "holidays", "zone") if given.first_day else []
+    term = words_for(given, "first-day", "holidays", "weeks", "zone") if given.first_day else []
     maker = Maker(given.problem, words_for(given, "names", "teachers"), term)
     session = session_of(given, problem)
     try:
