@@ -133,6 +133,30 @@ def test_long_replies_are_cut_and_counted(desk: Desk) -> None:
     assert replies[0][-2] == "violations 263"
 
 
+def test_the_dearest_lines_of_a_long_reply(desk: Desk) -> None:
+    desk.post("do", lines=["enrol all", "search 60 11"])
+    largest = {"costs": {"rule": ["cost"], "class": ["conflicts", "time room"]}}
+    whole, some = (desk.post("ask", lines=["costs"], **more) for more in ({}, {"most": {"costs": 5}, "largest": largest}))
+    rows, (kept,), (left,) = whole["replies"][0], some["replies"], some["left"]  # type: ignore[index,misc]
+    classes = [line for line in rows if line.startswith("class ")]
+    assert [line for line in rows if line in kept] == kept and kept[-1] == rows[-1]
+    assert left["class"] == len(classes) - len([line for line in kept if line.startswith("class ")]) > 0
+
+    def dearest(*at: int) -> list[int]:
+        return sorted((sum(int(line.split(" ")[place]) for place in at) for line in classes), reverse=True)[:5]
+    for at in ((7,), (3, 5)):
+        numbers = sorted((sum(int(line.split(" ")[place]) for place in at) for line in kept if line in classes), reverse=True)
+        assert numbers[:5] == dearest(*at)
+
+
+@pytest.mark.parametrize("largest", [3, {"costs": {"class": 3}}, {"costs": {"class": [3]}}, {"costs": {"class": ["absent"]}},
+                                     {"costs": {"class": "conflicts"}}])
+def test_the_dearest_lines_have_numbers(desk: Desk, largest: object) -> None:
+    desk.post("do", lines=["enrol all", "search 60 11"])
+    body = json.dumps({"lines": ["costs"], "most": {"costs": 1}, "largest": largest})
+    assert desk.request("POST", "ask", body, Origin=f"http://{desk.host}", Content_Type="application/json")[0] == 400
+
+
 def test_a_search_is_stopped(tmp_path: Path) -> None:
     """A made problem, whose search finds no end."""
     problem = tmp_path / "made.json"

@@ -99,7 +99,7 @@ def test_clashes_and_closed_rooms(files: tuple[str, str], page: Make, changed: C
     assert "Clash" in made.text["r1"] and "clash with Class 5" in made.text["r1"]
     assert "--i:1;--n:2" in tool("page", files[0], name)[0]
     assert "Room closed" in made.text["r3"] and "closed 11:00–12:00" in made.text["r3"]
-    assert "Course 7: Class 1 and Course 8: Class 5 clash in Room 1" in made.text["summary"]
+    assert "Course 7: Class 1 and Course 8: Class 5 clash in Room 1, " in made.text["summary"]
     assert "clash with Course 7: Class 1" in made.text["k5"] and "room closed" in made.text["k2"]
 
 

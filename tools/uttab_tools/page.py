@@ -6,8 +6,9 @@ student's week. The page is whole in itself and asks for nothing from a network.
     page PROBLEM PUBLISHED --student 17 -o student_17.html
     page PROBLEM PUBLISHED --folder pages [--of student,room,course,teacher]
 
-With --without-students nothing of a student is in it but how many each class has. The page of one student, room, course or
-teacher has that week alone, and of students no more than their number. One of the files may be `-`, the standard input."""
+With --reasons the whole page says why a class isn't in the timetable, as `uttab` has it. With --without-students nothing of a
+student is in it but how many each class has. The page of one student, room, course or teacher has that week alone, and of
+students no more than their number. One of the files may be `-`, the standard input."""
 
 import json
 from argparse import ArgumentParser, Namespace
@@ -17,11 +18,12 @@ from pathlib import Path
 from jinja2 import Environment, FileSystemLoader, StrictUndefined
 from markupsafe import Markup
 
-from uttab_tools.given import a_count, add_timetable, timetable_given
+from uttab_tools.given import PROGRAM, a_count, add_timetable, timetable_given
 from uttab_tools.parts import Part, add_part_words, files_of, in_order, kinds_of, meetings_of, part_given, parts
 from uttab_tools.problem import Class, Room
 from uttab_tools.program import DONE, Command, Folder, Output, Usage
 from uttab_tools.published import Meeting
+from uttab_tools.reasons import reasons_of
 from uttab_tools.timetable import Timetable
 from uttab_tools.week import WeekMaker
 
@@ -58,15 +60,15 @@ class PageMaker:
             "style": Markup(texts("grid.css", "timetable.css")),
         }
 
-    def whole(self, with_students: bool) -> str:
+    def whole(self, looks: Looks, reasons: dict[int, str], with_students: bool) -> str:
+        """The whole page. `reasons` says of classes why they aren't in the timetable."""
         timetable = self.timetable
-        looks = Looks(timetable)
         rooms = timetable.rooms.values()
         used = [room for room in rooms if timetable.in_room[room.id]]
         script = texts("grid.js", "week.js", "timetable.js")
         return self.environment.get_template("page_whole.html.jinja").render(
             title=timetable.title, with_students=with_students,
-            figures=self.figures(looks, used), looks=looks, room_for_looks=LOOKS, used=used,
+            figures=self.figures(looks, used), looks=looks, reasons=reasons, room_for_looks=LOOKS, used=used,
             empty=[room for room in rooms if not timetable.in_room[room.id]],
             roomless=sum(one.room is None for one in timetable.meetings.values()), marks_of=self.marks_of,
             meetings_of=lambda classes: in_order(meetings_of(timetable, classes)),
@@ -175,6 +177,8 @@ def words(parser: ArgumentParser) -> None:
     add_timetable(parser)
     add_part_words(parser)
     parser.add_argument("--without-students", action="store_true", help="leave out all that is known of students, but their number")
+    parser.add_argument("--reasons", action="store_true", help="say why classes aren't in the timetable, as `uttab` has it")
+    parser.add_argument("--program", metavar="FILE", help=f"with --reasons: {PROGRAM}")
     parser.add_argument("--grids", metavar="N", type=a_count, default=2,
                         help="a room has a grid for each kind of weeks up to N of them, else one for all together (2); what is shown "
                              "alone, such as a student's week, has up to 4 at the least")
@@ -183,6 +187,8 @@ def words(parser: ArgumentParser) -> None:
 def run(given: Namespace, output: Output) -> int:
     if given.without_students and given.student is not None:
         raise Usage("--without-students and --student: nothing would be left")
+    if given.reasons and "-" in (given.problem, given.published):
+        raise Usage("--reasons: reads the files once more, so none of them may be `-`")
     timetable = timetable_given(given)
     maker = PageMaker(timetable, given.grids)
     part = part_given(given, timetable)
@@ -192,7 +198,10 @@ def run(given: Namespace, output: Output) -> int:
     elif part is not None:
         output.write(maker.part(part))
     else:
-        output.write(maker.whole(not given.without_students))
+        looks = Looks(timetable)
+        left = [one.id for one in looks.left[:LOOKS]]
+        reasons = reasons_of(given.problem, given.published, left, given.program) if given.reasons and left else {}
+        output.write(maker.whole(looks, reasons, not given.without_students))
     return DONE
 
 

@@ -141,6 +141,12 @@ class Timetable:
         """A time in words, such as `Mon, Wed 09:00–10:30, odd weeks`."""
         return f"{self.days(time.days)} {self.hours(time)}, {self.weeks(time.weeks)}"
 
+    @staticmethod
+    def shared(one: Time, other: Time) -> Time:
+        """What two times that overlap have in common."""
+        start = max(one.start, other.start)
+        return Time(one.days & other.days, one.weeks & other.weeks, start, min(one.end, other.end) - start)
+
     def remarks(self, meeting: Meeting) -> str:
         """How a meeting differs from what the problem allows, in words."""
         words = []

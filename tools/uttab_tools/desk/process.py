@@ -10,6 +10,9 @@ Reply = list[str]
 
 # What is written at once is less than a pipe holds, so that neither side waits for the other.
 MOST_AT_ONCE = 60_000
+READ_AT_ONCE = 2**18
+# How the last line of a reply begins, after the line before it.
+ACCEPTED, REFUSED = b"\nok ", b"\nrefused "
 
 
 class Ended(Exception):
@@ -37,6 +40,7 @@ class Process:
         assert self.running.stdin is not None and self.running.stdout is not None
         self.input, self.output = self.running.stdin, self.running.stdout
         self.said, self.sent = "", 0
+        self.read = bytearray(b"\n")  # what is read and not handed on, with a line feed before it
         self.listener = threading.Thread(target=self._listen, args=(ours,), daemon=True)
         self.listener.start()
         self.opening = self._line()
@@ -53,12 +57,23 @@ class Process:
         os.close(terminal)
 
     def _line(self) -> str:
-        line = self.output.readline()
-        if not line.endswith(b"\n"):
+        while (end := self.read.find(b"\n", 1)) < 0:
+            self._read()
+        return self._taken(end)[0]
+
+    def _read(self) -> None:
+        piece = os.read(self.output.fileno(), READ_AT_ONCE)
+        if not piece:
             status = self.running.wait()
             self.listener.join(1)
             raise Ended(f"uttab ended with status {status}. {self.said}".strip())
-        return line[:-1].decode(errors="replace")
+        self.read += piece
+
+    def _taken(self, end: int) -> list[str]:
+        """The lines up to the line feed at this place, which stays."""
+        lines = self.read[1:end].decode(errors="replace").split("\n")
+        del self.read[:end]
+        return lines
 
     def ask(self, lines: Sequence[str]) -> list[Reply]:
         """The reply to each line. Several lines are written at once."""
@@ -85,10 +100,16 @@ class Process:
             pass  # It has ended, as the next line shows.
 
     def _reply(self) -> Reply:
-        lines = [self._line()]
-        while not lines[-1].startswith(("ok ", "refused ")):
-            lines.append(self._line())
-        return lines
+        """The next lines, up to the first that ends a reply."""
+        looked = 0
+        while True:
+            accepted_at = self.read.find(ACCEPTED, looked)
+            refused_at = self.read.find(REFUSED, looked, accepted_at if accepted_at >= 0 else None)
+            last = accepted_at if refused_at < 0 else refused_at
+            if last >= 0 and (end := self.read.find(b"\n", last + 1)) >= 0:
+                return self._taken(end)
+            looked = last if last >= 0 else max(0, len(self.read) - len(REFUSED))
+            self._read()
 
     def kill(self) -> None:
         self.running.kill()

@@ -20,8 +20,8 @@ from uttab_tools import limits
 from uttab_tools.desk.facts import KINDS, Facts, students_of
 from uttab_tools.desk.files import KINDS as MADE
 from uttab_tools.desk.files import Maker
-from uttab_tools.desk.process import Reply
 from uttab_tools.desk.session import Session, Unasked, moved
+from uttab_tools.desk.shortening import shortened
 
 DATA = Path(__file__).resolve().parent / "data"
 SHARED = Path(__file__).resolve().parents[1] / "data"
@@ -116,10 +116,12 @@ class Server(ThreadingHTTPServer):
     def _ask(self, words: Words) -> Words:
         lines, classes = texts(words, "lines"), numbers(words, "locked")
         replies, locked = self.by_the_one(lambda: self.session.ask(lines, classes))
-        most = words.get("most", {})
-        if not isinstance(most, dict):
-            raise BadRequest("most is no object")
-        cut = [shortened(reply, most.get(line.split(" ")[0])) for line, reply in zip(lines, replies)]
+        most, largest = mapping(words, "most"), mapping(words, "largest")
+        try:
+            cut = [shortened(reply, most.get(word), largest.get(word))
+                   for reply, word in zip(replies, (line.split(" ")[0] for line in lines))]
+        except (ValueError, TypeError, AttributeError) as error:
+            raise BadRequest(f"largest: {error}") from None
         return {"replies": [lines for lines, _ in cut], "left": [left for _, left in cut], "locked": locked}
 
     def _do(self, words: Words) -> Words:
@@ -206,6 +208,13 @@ def number(words: Words, key: str) -> int:
     return value
 
 
+def mapping(words: Words, key: str) -> dict[str, object]:
+    value = words.get(key, {})
+    if not isinstance(value, dict):
+        raise BadRequest(f"{key} is no object")
+    return value
+
+
 def texts(words: Words, key: str) -> list[str]:
     value = words.get(key, [])
     if not isinstance(value, list) or len(value) > MOST_AT_ONCE or not all(isinstance(one, str) for one in value):
@@ -218,20 +227,6 @@ def numbers(words: Words, key: str) -> list[int]:
     if not isinstance(value, list) or len(value) > MOST_AT_ONCE or not all(type(one) is int and 0 <= one < 2**32 for one in value):
         raise BadRequest(f"{key} is no list of numbers")
     return value
-
-
-def shortened(reply: Reply, most: object) -> tuple[Reply, dict[str, int]]:
-    """A reply with at most so many lines of each first word, and how many lines of each are left out."""
-    if not isinstance(most, int) or len(reply) <= most:
-        return reply, {}
-    seen: dict[str, int] = {}
-    kept = []
-    for line in reply:
-        word = line.split(" ", 1)[0]
-        seen[word] = seen.get(word, 0) + 1
-        if seen[word] <= most:
-            kept.append(line)
-    return kept, {word: count - most for word, count in seen.items() if count > most}
 
 
 class Handler(BaseHTTPRequestHandler):

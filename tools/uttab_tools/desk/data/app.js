@@ -4,7 +4,9 @@ import { head, know, LOST, part, post } from "./talk.js";
 import * as W from "./words.js";
 
 export const MOST_LISTED = 200;
-const MOST = { violations: MOST_LISTED, values: 20_000 };
+// How many lines of a reply are handed over: the first, or those of the largest numbers.
+const MOST = { violations: MOST_LISTED, values: 20_000, costs: 50 };
+const LARGEST = { costs: R.COSTS };
 
 export const $ = id => document.getElementById(id);
 
@@ -170,7 +172,7 @@ const load = async ({ view, chosen, tab }, wanted) => {
   if (chosen !== null) lines.push(`values ${chosen}`, `meets ${chosen}`);
   if (tab === "unplaced" || tab === "look") lines.push("violations");
   if (tab === "costs") lines.push("costs");
-  const answer = wanted() ? await ask(lines, { most: MOST, locked: ids }) : null;
+  const answer = wanted() ? await ask(lines, { most: MOST, largest: LARGEST, locked: ids }) : null;
   if (!answer) return null;
   const { replies, left, locked } = answer;
   shown.explained = new Map(ids.map((id, at) => [id, R.explain(replies[at])]));
@@ -182,15 +184,22 @@ const load = async ({ view, chosen, tab }, wanted) => {
   }
   const last = replies[replies.length - 1];
   if (tab === "unplaced" || tab === "look") { shown.violations = R.violations(last); shown.left = left[left.length - 1]; }
-  if (tab === "costs") shown.costs = topCosts(R.costs(last));
+  if (tab === "costs") { shown.costs = topCosts(R.costs(last)); shown.left = left[left.length - 1]; }
+  if (tab === "look") shown.places = await placesOf([...shown.violations.clashes.map(pair => pair[0]), ...shown.violations.closed]);
   if (tab === "moved") shown.moved = (await request("moved", {}))?.moved ?? [];
   await know(named(shown));
   return shown;
 };
 
-const top = (list, key, most) => list.filter(key).sort((a, b) => key(b) - key(a)).slice(0, most);
+// Where some placed classes are.
+const placesOf = async classes => {
+  const ids = [...new Set(classes)], answer = ids.length ? await ask(ids.map(id => `explain ${id}`)) : null;
+  return new Map(answer ? ids.map((id, at) => [id, R.explain(answer.replies[at]).value]) : []);
+};
+
+const top = (list, key) => list.filter(key).sort((a, b) => key(b) - key(a)).slice(0, MOST.costs);
 const topCosts = ({ rules, classes }) => ({
-  rules: top(rules, one => one.cost, 50), conflicts: top(classes, one => one.conflicts, 50), penalties: top(classes, one => one.time + one.room, 50) });
+  rules: top(rules, one => one.cost), conflicts: top(classes, one => one.conflicts), penalties: top(classes, one => one.time + one.room) });
 
 // The parts that are named by what is shown.
 const named = shown => {

@@ -34,20 +34,22 @@ const pairItem = (list, words, [one, other], after = "") => {
   classLink(item, other);
   item.append(after);
 };
-const drawLook = (list, { violations, left }) => {
+const drawLook = (list, { violations, left, places }) => {
   const { clashes, closed, pairs, amounts, students } = violations;
-  section(list, "Clashes in a room", clashes, (made, pair) => pairItem(made, "", pair), left.clash);
-  section(list, "In a room while it is closed", closed, (made, id) => classItem(made, id, about(id)), left.closed);
+  const where = id => (places.get(id) ? W.whereOf(id, places.get(id)) : about(id));
+  section(list, "Clashes in a room", clashes, (made, pair) => pairItem(made, "", pair, `: ${where(pair[0])}`), left.clash);
+  section(list, "In a room while it is closed", closed, (made, id) => classItem(made, id, where(id)), left.closed);
   section(list, "Required rules that are broken", [...pairs, ...amounts], (made, one) => {
     if (one.classes) pairItem(made, `${W.ruleWords(one.k)}: `, one.classes); else ruleItem(made, one.k, `amount ${one.amount}`, "bad");
   }, left.rule);
   section(list, "Students without valid classes", students, (made, id) => link(add(made, "li"), "student", id), left.student);
 };
 
-const drawCosts = (list, { costs }) => {
+const drawCosts = (list, { costs, left }) => {
   section(list, "Most students in conflict", costs.conflicts, (made, one) => classItem(made, one.id, W.many(one.conflicts, "conflict")));
   section(list, "Dearest places", costs.penalties, (made, one) => classItem(made, one.id, `penalties: time ${one.time}, room ${one.room}`));
-  section(list, "Rules that cost", costs.rules, (made, rule) => ruleItem(made, rule.k, `costs ${rule.cost}`));
+  if (left.class) add(list, "p", `and ${W.many(left.class, "more class", "more classes")} with conflicts or penalties`, "soft");
+  section(list, "Rules that cost", costs.rules, (made, rule) => ruleItem(made, rule.k, `costs ${rule.cost}`), left.rule);
 };
 
 const dayBits = text => [...text].reduce((all, bit, day) => all + (bit === "1" ? 2 ** day : 0), 0);

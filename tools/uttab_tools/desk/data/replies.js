@@ -90,6 +90,9 @@ export const student = reply => {
 
 export const meets = reply => wordsOf(reply).map(([, id, count]) => ({ id: Number(id), count: Number(count) }));
 
+// By which numbers the lines of `costs` are large.
+export const COSTS = { rule: ["cost"], class: ["conflicts", "time room"] };
+
 export const costs = reply => {
   const found = { rules: [], classes: [] };
   for (const words of wordsOf(reply)) {

@@ -274,7 +274,11 @@ const drawHead = (panel, id, value) => {
   for (const [teacher, name] of one.teachers) { line.append(" · "); link(line, "teacher", teacher, name); }
   if (one.parent) { line.append(" · with "); classLink(line, ...one.parent); }
   const place = add(panel, "p", undefined, "place");
-  if (!value) { add(place, "strong", "Not placed", "bad"); return; }
+  if (!value) {
+    add(place, "strong", "Not placed", "bad");
+    if (!app.shown.valuesLeft) place.append(`: ${W.placesWords(app.shown.values)}`);
+    return;
+  }
   place.append(`${W.whenLong(one.times[value.t - 1])}, `);
   if (value.r === "-") place.append("no room"); else link(place, "room", value.r);
   if (app.shown.locked.has(id)) { place.append(" "); add(place, "b", "locked", "lock"); }

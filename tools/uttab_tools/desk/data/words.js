@@ -28,6 +28,18 @@ export const ruleWords = k => {
   return rule ? rule.name || `${rule.kind} over ${rule.classes.length} classes` : `rule ${k}`;
 };
 
+// What keeps a class from its places.
+export const placesWords = values => {
+  const all = [...values.values()], of = kind => all.filter(value => value.kind === kind);
+  const free = of("free").length, least = of("out").reduce((a, value) => Math.min(a, value.out), Infinity), is = number => (number === 1 ? "is" : "are");
+  const places = all.length === 1 ? "its one place" : `its ${count(all.length)} places`;
+  if (free) return all.length === 1 ? `${places} is free` : `${count(free)} of ${places} ${is(free)} free`;
+  const words = [["out", `taken, by ${many(least, "other class", "other classes")} at the least`], ["closed", "in a room that is closed then"],
+    ["rule", "against a required rule"], ["locked", "held by a locked class"]].map(([kind, told]) => [of(kind).length, told]).filter(([number]) => number);
+  if (words.length === 1) return all.length === 1 ? `${places} is ${words[0][1]}` : `all of ${places} are ${words[0][1]}`;
+  return `of ${places} ${words.map(([number, told]) => `${count(number)} ${is(number)} ${told}`).join(", ")}`;
+};
+
 const blockedWords = words => {
   if (words[0] === "closed") return "the room is closed then";
   if (words[0] === "locked") return `${say(Number(words[1]))} is locked`;

@@ -1,0 +1,39 @@
+"""Replies with the lines that the page shows alone, since some have tens of thousands."""
+
+from collections.abc import Sequence
+from heapq import nlargest
+
+from uttab_tools.desk.process import Reply
+
+
+def shortened(reply: Reply, most: object, largest: object = None) -> tuple[Reply, dict[str, int]]:
+    """A reply with at most so many lines of each first word, and how many lines of each are left out. The first lines stay,
+    or those of the largest numbers: `largest` has, by the first word, what these stand after, such as `conflicts`. Of
+    `time room` the sum counts, and lines that are largest by any of several stay."""
+    if not isinstance(most, int) or len(reply) <= most:
+        return reply, {}
+    by = largest if isinstance(largest, dict) else {}
+    groups: dict[str, list[str]] = {}
+    for line in reply:
+        groups.setdefault(line.split(" ", 1)[0], []).append(line)
+    kept, left = [], {}
+    for word, lines in groups.items():
+        some = lines if len(lines) <= most else largest_of(lines, by[word], most) if word in by else lines[:most]
+        kept += some
+        if len(some) < len(lines):
+            left[word] = len(lines) - len(some)
+    return kept, left
+
+
+def largest_of(lines: Sequence[str], keys: Sequence[str], most: int) -> list[str]:
+    """The lines of the largest numbers, by each of the keys, in their order. All lines have one form."""
+    words = " ".join(lines).split(" ")
+    form = lines[0].split(" ")
+    if len(words) != len(form) * len(lines):
+        raise ValueError("the lines have several forms")
+    kept = set[int]()
+    for key in keys:
+        columns = [map(int, words[form.index(word) + 1::len(form)]) for word in key.split(" ")]
+        numbers = list(map(sum, zip(*columns)))
+        kept.update(nlargest(most, range(len(lines)), key=numbers.__getitem__))
+    return [lines[place] for place in sorted(kept)]
