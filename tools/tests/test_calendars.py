@@ -13,6 +13,8 @@ from conftest import TOP, Tool, Write
 from dateutil.rrule import rruleset, rrulestr
 from icalendar import Calendar, Event
 
+from uttab_tools.calendars import CalendarMaker
+from uttab_tools.published import Meeting
 from uttab_tools.term import Term
 
 FACULTY = TOP / "examples/a_faculty"
@@ -261,3 +263,24 @@ def test_one_week_alone_is_told(tool: Tool, write: Write) -> None:
     assert tool("calendars", *words, "--first-day", MONDAY, "--weeks", 2)[1] == ""
     for weeks, said in (("0", "is at least 1"), ("x", "is at least 1"), ("1001", "--weeks 1001: is at most 1000")):
         assert said in tool("calendars", *words, "--first-day", MONDAY, "--weeks", weeks, status=2)[1]
+
+
+def test_a_class_is_one_text_in_all_calendars(tool: Tool, tmp_path: Path) -> None:
+    """Thousands of calendars take seconds, since each class is put into the form once; and each reads as it does alone."""
+    made = []
+    event = CalendarMaker.event
+
+    def counted(self: CalendarMaker, meeting: Meeting) -> Event | None:
+        made.append(meeting.of_class.id)
+        return event(self, meeting)
+    with pytest.MonkeyPatch.context() as patch:
+        patch.setattr(CalendarMaker, "event", counted)
+        tool("calendars", FACULTY / "problem.json", FACULTY / "term.json", "--first-day", MONDAY, "--folder", tmp_path / "all",
+             "--zone", "Europe/Prague")
+    assert len(made) == len(set(made)) == 63
+    alone, _ = tool("calendars", FACULTY / "problem.json", FACULTY / "term.json", "--first-day", MONDAY, "--student", 17,
+                    "--zone", "Europe/Prague")
+    written = (tmp_path / "all/student_17.ics").read_bytes().decode()
+    one, other = ([line for line in text.splitlines() if "DTSTAMP" not in line] for text in (written, alone))
+    assert one == other
+    assert [one.name for one in Calendar.from_ical(written).subcomponents][0] == "VTIMEZONE"

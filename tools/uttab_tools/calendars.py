@@ -17,6 +17,7 @@ import re
 from argparse import ArgumentParser, ArgumentTypeError, Namespace
 from collections.abc import Iterable
 from datetime import date, datetime, timedelta, timezone
+from functools import cache
 from pathlib import Path
 
 from icalendar import Calendar, Event
@@ -32,6 +33,7 @@ from uttab_tools.zone import zone_component, zone_of
 
 DAYS_OF_A_RULE = ("MO", "TU", "WE", "TH", "FR", "SA", "SU")
 MOST_WEEKS = 1000
+END = b"END:VCALENDAR\r\n"
 # What tells an event of today from one of an earlier edition.
 COMPARED = ("SUMMARY", "LOCATION", "DESCRIPTION", "DTSTART", "DTEND", "RRULE", "EXDATE", "RDATE", "STATUS")
 
@@ -49,7 +51,9 @@ class CalendarMaker:
             last = term.first + timedelta(7 * weeks + len(term.pauses) + 50)
         except OverflowError:
             raise Usage(f"--first-day {term.first}: the term would end after the year 9999") from None
-        self.component = zone_component(zone, term.first, last) if zone else None
+        self.zone_text: bytes = zone_component(zone, term.first, last).to_ical() if zone else b""
+        # A class is the same event in every calendar that has no earlier edition.
+        self.text_of = cache(self._text_of)
 
     def calendar(self, title: str, meetings: Iterable[Meeting], earlier: bytes | None, file: str) -> bytes:
         calendar = Calendar()
@@ -57,13 +61,20 @@ class CalendarMaker:
         calendar.add("version", "2.0")
         calendar.add("method", "PUBLISH")
         calendar.add("x-wr-calname", title)
-        if self.component is not None:
+        if self.zone:
             calendar.add("x-wr-timezone", self.zone)
-            calendar.add_component(self.component)
-        events = [event for meeting in meetings if (event := self.event(meeting)) is not None]
-        for event in after_an_edition(events, earlier, file, self.stamp) if earlier else events:
-            calendar.add_component(event)
-        text: bytes = calendar.to_ical()
+        if earlier:
+            events = [event for meeting in meetings if (event := self.event(meeting)) is not None]
+            texts = [event.to_ical() for event in after_an_edition(events, earlier, file, self.stamp)]
+        else:
+            texts = [self.text_of(meeting.of_class.id) for meeting in meetings]
+        whole: bytes = calendar.to_ical()
+        return whole.removesuffix(END) + self.zone_text + b"".join(texts) + END
+
+    def _text_of(self, number: int) -> bytes:
+        """The event of a class as it stands in a calendar, empty where it has none."""
+        event = self.event(self.timetable.meetings[number])
+        text: bytes = b"" if event is None else event.to_ical()
         return text
 
     def event(self, meeting: Meeting) -> Event | None:

@@ -205,5 +205,5 @@ def run(given: Namespace, output: Output) -> int:
     return DONE
 
 
-COMMAND = Command("page", __doc__ or "", words, run, "0 the page is written, or all pages of the folder")
+COMMAND = Command("page", __doc__ or "", words, run, "0 the page is written, or all pages of the folder; 1 --reasons: uttab didn’t answer")
 main = COMMAND.main
