@@ -241,6 +241,21 @@ def test_weeks_students_and_lists(browser: Browser, begin: Callable[..., Desk], 
     browser.command("violations", "class 701 missing")
 
 
+WATCHED = """window.seen = [];
+    new MutationObserver(() => window.seen.push(document.querySelector('#cell-unplaced').innerText.replace(/\\s+/g, ' ')))
+        .observe(document.querySelector('#totals'), {childList: true, subtree: true, characterData: true});"""
+
+
+def test_the_totals_say_what_the_last_command_changed(browser: Browser, begin: Callable[..., Desk]) -> None:
+    """At no moment does a number stand beside what an earlier command changed."""
+    begin()
+    browser.run(WATCHED)
+    for line, left in (("assign 701 5 1", 62), ("assign 101 1 2", 61), ("enrol all", 61), ("undo", 61), ("undo", 62)):
+        browser.await_("const app = await import('./app.js'); await (arguments[0] === 'undo' ? app.undo() : app.perform([arguments[0]], 'Done')); return 1", line)
+        browser.until_number("unplaced", left)
+    assert browser.run("return [...new Set(window.seen)]") == ["Unplaced 62 −1", "Unplaced 61 −1", "Unplaced 61", "Unplaced 62 +1"]
+
+
 def test_a_search_that_goes_on_without_its_page(browser: Browser, begin: Callable[..., Desk], tmp_path: Path) -> None:
     problem = tmp_path / "made.json"
     problem.write_bytes(subprocess.run([str(PROGRAM), "make", "7", "400"], capture_output=True, check=True).stdout)

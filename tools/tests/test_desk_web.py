@@ -12,7 +12,7 @@ from pathlib import Path
 
 import pytest
 from conftest import PROGRAM, TOOLS, TOP, needs_program
-from desk_help import Desk, commands, replayed, until
+from desk_help import FACULTY, PROBLEM, Desk, commands, replayed, until
 
 pytestmark = needs_program
 
@@ -131,6 +131,18 @@ def test_long_replies_are_cut_and_counted(desk: Desk) -> None:
     assert isinstance(replies, list) and isinstance(left, list)
     assert (len(replies[0]), left[0], left[1]) == (22, {"class": 53, "student": 190}, {})
     assert replies[0][-2] == "violations 263"
+
+
+def test_who_has_to_be_told_since_it_was_published(tmp_path: Path) -> None:
+    """The published file that the desk begins with has its students too."""
+    desk = Desk(tmp_path / "log.txt", PROBLEM, FACULTY / "term.json")
+    try:
+        for lines, words in ((["recall"], b"0 classes moved; 0 students to be told"), (["unassign 801"], b"1 no longer in the timetable; 45 students")):
+            desk.post("do", lines=lines)
+            status, page = desk.request("GET", "changes.html")
+            assert status == 200 and words in page
+    finally:
+        desk.end()
 
 
 def test_the_dearest_lines_of_a_long_reply(desk: Desk) -> None:

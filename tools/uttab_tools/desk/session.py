@@ -396,7 +396,8 @@ def closures(steps: Sequence[Step]) -> list[list[object]]:
 def published_text(published: Published) -> str:
     """A published file on one line, in the form in which `publish` writes one."""
     return json.dumps({"classes": [
-        {"id": one.id, "days": one.texts[0], "weeks": one.texts[1], "start": one.start, "room": one.room} for one in published.classes]})
+        {"id": one.id, "days": one.texts[0], "weeks": one.texts[1], "start": one.start, "room": one.room, "students": one.students}
+        for one in published.classes]})
 
 
 def moved(published: str, draft: str) -> list[dict[str, object]]:

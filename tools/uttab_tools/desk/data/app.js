@@ -54,9 +54,9 @@ export const ask = async (lines, more = {}) => {
 };
 
 // Sends what changes something, and shows what came of it. The words of a refusal stand at the top and in `where`.
-let underWay = 0;
+let underWay = 0, was = null;
 export const change = async (place, body, where) => {
-  const was = app.state.totals;
+  if (!underWay) was = app.state.totals;
   const slow = setTimeout(() => setBusy(true), 300);
   underWay += 1;
   const answer = await request(place, body);
@@ -110,7 +110,7 @@ export const adopt = next => {
   const old = app.state;
   app.state = next;
   if (next.search) app.earlier = R.totals(next.search.from);
-  else if (old && old.totals !== next.totals && !underWay) app.earlier = R.totals(old.totals);
+  else if (old && old.totals !== next.totals) app.earlier = R.totals(underWay ? was : old.totals);
   if (next.fault) tell(next.fault, "bad");
   else if (old?.search && !next.search && next.notice) sayNotice(next.notice);
   drawState();
