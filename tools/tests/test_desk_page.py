@@ -253,7 +253,8 @@ def test_the_totals_say_what_the_last_command_changed(browser: Browser, begin: C
     for line, left in (("assign 701 5 1", 62), ("assign 101 1 2", 61), ("enrol all", 61), ("undo", 61), ("undo", 62)):
         browser.await_("const app = await import('./app.js'); await (arguments[0] === 'undo' ? app.undo() : app.perform([arguments[0]], 'Done')); return 1", line)
         browser.until_number("unplaced", left)
-    assert browser.run("return [...new Set(window.seen)]") == ["Unplaced 62 −1", "Unplaced 61 −1", "Unplaced 61", "Unplaced 62 +1"]
+    seen = browser.run("return [...new Set(window.seen)].filter(one => one !== 'Unplaced 63')")
+    assert seen == ["Unplaced 62 −1", "Unplaced 61 −1", "Unplaced 61", "Unplaced 62 +1"]
 
 
 def test_a_search_that_goes_on_without_its_page(browser: Browser, begin: Callable[..., Desk], tmp_path: Path) -> None:
