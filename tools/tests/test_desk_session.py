@@ -227,6 +227,20 @@ def test_a_search_is_one_step_and_comes_again(session: Session, log: Path) -> No
 
 
 @needs_program
+@pytest.mark.parametrize("word, begin", [("place", ["enrol all"]), ("deluge", ["enrol all", "search 2000 11"])])
+def test_searches_that_a_program_may_lack(session: Session, log: Path, word: str, begin: list[str]) -> None:
+    if word not in session.knows:
+        with pytest.raises(Unasked, match="is no search"):
+            session.start(word, 1, 1)
+        pytest.skip(f"the program has no `{word}`")
+    session.do(begin, "")
+    steps, before = len(session.steps), session.totals
+    run_search(session, word, 2, 5)
+    assert len(session.steps) == steps + 1 and session.totals != before
+    assert session.totals == replayed(PROBLEM, log)
+
+
+@needs_program
 def test_nothing_is_changed_while_a_search_runs(session: Session) -> None:
     session.start("search", 60, 1)
     for call in (lambda: session.do(["enrol all"], ""), lambda: session.undo(1), session.publish, lambda: session.start("improve", 1, 1)):
