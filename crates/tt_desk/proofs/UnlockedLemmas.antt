@@ -2,13 +2,16 @@
 use Rattle.std.proofs.Common.{◌≡◌, ◌∙◌, ℕ, zero, suc, Bool, true, false, List, [], ◌∷◌, Option, Some, None, length, map, refl, sym, ap}
 use Rattle.std.specs.Prelude.{filter, option_map, is_none, is_some, not, ◌&&◌, slice_index_or, slice_set}
 use Rattle.std.specs.List.{find, range_with_len}
+use Rattle.std.specs.Option.{option_and_then}
 use Rattle.tt_base.specs.Lists.{first_least}
 use Rattle.tt_bits.specs.declared.times.Value.{Value}
 use Rattle.tt_clash.specs.declared.Block.{Block}
-use Rattle.tt_desk.specs.Unlocked.{IsWithoutLocks}
+use Rattle.tt_deluge.specs.ClassRounds.{among, exchanged, exchange_value}
+use Rattle.tt_desk.specs.Unlocked.{IsWithoutLocks, moment_of}
 use Rattle.tt_improve.specs.Objects.{movable_classes}
 use Rattle.tt_plan.specs.Domain.{domain_of}
 use Rattle.tt_problem.specs.declared.parts.Parts.{Parts}
+use Rattle.tt_search.specs.PlaceTurns.{all_least, burden_of, least_values}
 use Rattle.tt_search.specs.Recalled.{recalled_locks, stays_locked}
 use Rattle.tt_search.specs.Turns.{chosen_value, is_available, is_open, price_of}
 use Rattle.tt_solution.specs.Published.{published_value}
@@ -60,6 +63,13 @@ module _ (p : Parts) (s : Snapshot) (free : (class : ℕ) → is_locked_in s cla
   unfolding chosen_value
   choices published class = ap (first_least (price_of p published s class)) (alike (is_available p s class) (is_open p s.closures class) (available class) (domain_of p class))
 
+  placings : (outs : List ℕ) (class : ℕ) → least_values p (moment_of s outs) class ≡ all_least (burden_of p (moment_of s outs) class) (filter (is_open p s.closures class) (domain_of p class))
+  unfolding least_values
+  placings outs class = ap (all_least (burden_of p (moment_of s outs) class)) (alike (is_available p s class) (is_open p s.closures class) (available class) (domain_of p class))
+
+  exchanges : (class : ℕ) (v : Value) (other : ℕ) → among p s class v (other ∷ []) ≡ option_and_then (exchanged p s class v other) (exchange_value p s class other)
+  exchanges class v other = rw (free other) refl
+
   objects : movable_classes p s ≡ filter (λ class. is_some (value_in s class)) (range_with_len 0 (length p.classes))
   unfolding movable_classes
   objects =
@@ -74,4 +84,4 @@ module _ (p : Parts) (s : Snapshot) (free : (class : ℕ) → is_locked_in s cla
   recalled t class = none_mapped (λ class. stays_locked s class (published_value p t class)) (λ class. rw (free class) refl) (range_with_len 0 (length p.classes)) class
 
   pub without_locks : IsWithoutLocks p s
-  without_locks = record { obstacles = obstacles; choices = choices; objects = objects; unplaced = unplaced; recalled = recalled }
+  without_locks = record { obstacles = obstacles; choices = choices; placings = placings; objects = objects; exchanges = exchanges; unplaced = unplaced; recalled = recalled }

@@ -32,6 +32,9 @@ use Rattle.tt_solution.specs.Published.{timetable_of}
 use Rattle.tt_solution.specs.Text.{published_text}
 use Rattle.tt_enrol.specs.Enrolled.{AllEnrolled, enrolled, all_enrolled}
 use Rattle.tt_improve.specs.Rounds.{Improvement, improved}
+use Rattle.tt_deluge.specs.Deluged.{deluged}
+use Rattle.tt_deluge.specs.Deluged as deluge
+use Rattle.tt_search.specs.PlaceTurns.{all_placed}
 use Rattle.tt_search.specs.Recalled.{recalled}
 use Rattle.tt_search.specs.Searched.{searched, repaired}
 use Rattle.tt_suggest.specs.declared.suggestion.Move.{Move}
@@ -49,7 +52,7 @@ use Rattle.tt_explain.specs.Meets.{meets_lines}
 use Rattle.tt_explain.specs.Costs.{costs_lines}
 use Rattle.tt_explain.specs.Violations.{violations_lines}
 use Rattle.tt_script.specs.declared.command.Command.{Command}
-use Rattle.tt_script.specs.declared.command.Command.TheVariants.{Assign, Unassign, Force, Section, Drop, Enrol, EnrolAll, Search, Repair, Improve, Recall, Close, Reopen, Lock, LockAll, Unlock, UnlockAll, Undo, Publish, Draft, Totals, Violations, Costs, Explain, Why, Values, Meets, Student, Stats, Suggest, Quit}
+use Rattle.tt_script.specs.declared.command.Command.TheVariants.{Assign, Unassign, Force, Section, Drop, Enrol, EnrolAll, Search, Repair, Place, Improve, Deluge, Recall, Close, Reopen, Lock, LockAll, Unlock, UnlockAll, Undo, Publish, Draft, Totals, Violations, Costs, Explain, Why, Values, Meets, Student, Stats, Suggest, Quit}
 use Rattle.tt_text.specs.Fields.{field}
 use Rattle.tt_desk.specs.declared.refusal.Refusal.{Refusal}
 use Rattle.tt_desk.specs.declared.refusal.Refusal.TheVariants.{BadLine, NoSuchClass, NoSuchStudent, NoSuchTime, RoomNotListed, NoSuchRoom, NotPlaced, Blocked, Held, NoEnrolment, NoSeat, NotSectioned, NothingToUndo, NotReady, NothingPublished, BadTime, NothingClosed, TooManyTries, TooManyClosures, Locked, NotLocked}
@@ -204,9 +207,17 @@ with_search s (end, turns) = with_step s end (field (codes "turns ") turns ++ co
 abbrev pub with_all_enrolled : Session → AllEnrolled → Answer
 with_all_enrolled s all = with_step s all.snapshot (field (codes "enrolled ") all.enrolled ++ field (codes " left ") all.left ++ codes "\n")
 
--- one more step leads to where the rounds of improvement ended, with how many were made and how many changed something
+-- one more step leads to where rounds ended, with how many were made and how many changed something
+abbrev pub with_rounds : Session → (end : Snapshot) → (rounds changed : ℕ) → Answer
+with_rounds s end rounds changed = with_step s end (field (codes "rounds ") rounds ++ field (codes " changed ") changed ++ codes "\n")
+
+-- the same for the rounds of improvement
 abbrev pub with_improvement : Session → Improvement → Answer
-with_improvement s i = with_step s i.snapshot (field (codes "rounds ") i.rounds ++ field (codes " changed ") i.changed ++ codes "\n")
+with_improvement s i = with_rounds s i.snapshot i.rounds i.changed
+
+-- and for those of a deluge, of which the changes up to where it ended count
+abbrev pub with_deluge : Session → deluge.Deluge → Answer
+with_deluge s d = with_rounds s d.snapshot d.rounds d.changed
 
 -- one more step leads to where each placed class is locked
 abbrev pub with_all_locked : Session → Answer
@@ -289,7 +300,9 @@ carried_out s (Search turns seed) = Ok (with_search s (searched s.desk.problem t
 carried_out s (Repair turns seed) = do
   t ← published s
   Ok (with_search s (repaired s.desk.problem t turns seed s.desk.present))
+carried_out s (Place turns seed) = Ok (with_search s (all_placed s.desk.problem turns seed s.desk.present))
 carried_out s (Improve rounds seed) = Ok (with_improvement s (improved s.desk.problem rounds seed s.desk.present))
+carried_out s (Deluge rounds seed) = Ok (with_deluge s (deluged s.desk.problem rounds seed s.desk.present))
 carried_out s Recall = do
   t ← published s
   Ok (with_step s (recalled s.desk.problem t s.desk.present) [])

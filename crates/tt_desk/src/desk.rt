@@ -41,8 +41,12 @@ impl Session {
             Command::EnrolAll => Ok(self.enrol_all(alloc, reply, watcher)?),
             Command::Search { turns, seed } => Ok(self.search(alloc, turns, seed, reply, watcher)?),
             Command::Repair { turns, seed } => Ok(self.repair(alloc, turns, seed, reply, watcher)?),
+            Command::Place { turns, seed } => Ok(self.place(alloc, turns, seed, reply, watcher)?),
             Command::Improve { rounds, seed } => {
                 Ok(self.improve(alloc, rounds, seed, reply, watcher)?)
+            }
+            Command::Deluge { rounds, seed } => {
+                Ok(self.deluge(alloc, rounds, seed, reply, watcher)?)
             }
             Command::Recall => Ok(self.recall(alloc)?),
             Command::Close {

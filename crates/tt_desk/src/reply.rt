@@ -13,7 +13,6 @@ use crate::session::Session;
 use std::alloc::AllocError;
 use tt_enrol::Enrolled;
 use tt_explain::{add_block, add_value};
-use tt_improve::Improved;
 use tt_problem::Problem;
 use tt_score::Totals;
 use tt_solution::Published;
@@ -268,12 +267,12 @@ pub(crate) fn put_turns(reply: &mut Reply, made: u32)
 }
 
 /// How many rounds were made and how many changed something, in an empty reply.
-pub(crate) fn put_rounds(reply: &mut Reply, made: Improved)
+pub(crate) fn put_rounds(reply: &mut Reply, rounds: u32, changed: u32)
     requires { reply.old ≡ [] }
-    ensures { reply.new ≡ field (codes "rounds ") made.rounds ++ field (codes " changed ") made.changed ++ codes "\n" }
+    ensures { reply.new ≡ field (codes "rounds ") rounds ++ field (codes " changed ") changed ++ codes "\n" }
 {
-    reply.field("rounds ", u128::from(made.rounds)).unwrap();
-    reply.field(" changed ", u128::from(made.changed)).unwrap();
+    reply.field("rounds ", u128::from(rounds)).unwrap();
+    reply.field(" changed ", u128::from(changed)).unwrap();
     reply.text("\n").unwrap();
 }
 
