@@ -7,7 +7,7 @@ use Rattle.std.proofs.lemmas.List.Folds.{concat-append, list_any-append}
 use Rattle.std.proofs.Math.Seq.{take-append_seam}
 use Rattle.tt_io.specs.Causes.{Writes}
 use Rattle.tt_io.proofs.WrittenLemmas.{Writes-append, nothing_written}
-use Rattle.tt_script.specs.declared.command.Command.TheVariants.{Assign, Unassign, Force, Section, Drop, Enrol, EnrolAll, Search, Repair, Improve, Recall, Close, Reopen, Lock, LockAll, Unlock, UnlockAll, Undo, Publish, Draft, Totals, Violations, Costs, Explain, Why, Values, Meets, Student, Stats, Suggest, Quit}
+use Rattle.tt_script.specs.declared.command.Command.TheVariants.{Assign, Unassign, Force, Section, Drop, Enrol, EnrolAll, Search, Repair, Place, Improve, Deluge, Recall, Close, Reopen, Lock, LockAll, Unlock, UnlockAll, Undo, Publish, Draft, Totals, Violations, Costs, Explain, Why, Values, Meets, Student, Stats, Suggest, Quit}
 use Rattle.tt_script.specs.declared.script.Line.{Line}
 use Rattle.tt_script.specs.declared.script.Line.TheVariants.{Empty, Bad, Good}
 use Rattle.tt_script.specs.Script.{line_of}
@@ -42,7 +42,9 @@ quit_step d (Good (Enrol student)) = answered_on d (carried_out d (Enrol student
 quit_step d (Good EnrolAll) = answered_on d (carried_out d EnrolAll)
 quit_step d (Good (Search turns seed)) = answered_on d (carried_out d (Search turns seed))
 quit_step d (Good (Repair turns seed)) = answered_on d (carried_out d (Repair turns seed))
+quit_step d (Good (Place turns seed)) = answered_on d (carried_out d (Place turns seed))
 quit_step d (Good (Improve rounds seed)) = answered_on d (carried_out d (Improve rounds seed))
+quit_step d (Good (Deluge rounds seed)) = answered_on d (carried_out d (Deluge rounds seed))
 quit_step d (Good Recall) = answered_on d (carried_out d Recall)
 quit_step d (Good (Close room days start slots weeks)) = answered_on d (carried_out d (Close room days start slots weeks))
 quit_step d (Good (Reopen room)) = answered_on d (carried_out d (Reopen room))
