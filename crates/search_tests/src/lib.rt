@@ -1,9 +1,11 @@
-//! Tests of what looks for a better timetable: the least enrolment, descent, the search, the repair,
-//! `place` and `recall`. It has no code of its own.
+//! Tests of what looks for a better timetable: the least enrolment, descent, the great deluge, the
+//! search, the repair, `place` and `recall`. It has no code of its own.
 #![tactic(auto)]
 
 #[cfg(test)]
 mod counting;
+#[cfg(test)]
+mod deluge_tests;
 #[cfg(test)]
 mod enrol_tests;
 #[cfg(test)]

@@ -1,0 +1,15 @@
+pub mod WalkLemmas
+pub mod FrontLemmas
+pub mod LevelLemmas
+pub mod ExchangeLemmas
+pub mod ChangeLemmas
+pub mod SpotLemmas
+pub mod RoundLemmas
+pub mod FoundLemmas
+pub mod PourLemmas
+pub mod TotalLemmas
+pub mod WordLemmas
+pub mod PlaceLemmas
+pub mod ChoiceLemmas
+pub mod ObjectLemmas
+pub mod StudentLemmas

@@ -5,3 +5,6 @@ pub mod Deluged
 pub mod Standing
 pub mod Reading
 pub mod Views
+pub mod Places
+pub mod Pouring
+pub mod UnderWay

@@ -1,6 +1,5 @@
 -- Proof. The objects of a deluge as lists, and the courses with a choice.
 use Rattle.std.specs.Prelude.{◌≡◌, ℕ, ◌<◌, Bool, false, List, [], ◌∷◌, length, map, slice_index_or}
-use Rattle.std.specs.List.{flat_map}
 use Rattle.tt_problem.specs.declared.parts.Parts.{Parts}
 use Rattle.tt_improve.specs.declared.objects.Object.{Object}
 use Rattle.tt_improve.specs.declared.objects.Object.TheVariants.{Class, Course}

@@ -86,6 +86,8 @@ impl Objects {
         ensures few_classes { IfOk result (λ objects. length objects.classes.items ≤ 2 ^ 32) }
         ensures few_choices { IfOk result (λ objects. length objects.choices.items ≤ 2 ^ 32) }
     {
+        state.soundness();
+        state.problem().validity();
         let flags = choice_flags(alloc, state.problem())?;
         let all = objects_of(alloc, state)?;
         let mut objects = Objects {

@@ -117,6 +117,7 @@ fn draw_classes(
     ensures below { OnOk result (All (λ class. class < length problem.now.classes) choice.new.items) }
     ensures few { OnOk result (length choice.new.items ≤ 20000) }
 {
+    problem.validity();
     choice.clear();
     for place in config.first..config.after {
         let subpart = problem.subpart(place);
@@ -225,6 +226,8 @@ fn replace(
     ensures trail { OnOk result (BeginsWith (trail state.old) (trail state.new)) }
     ensures stands { OnOk result (StandsAs state.old.problem state.old.present state.new.present) }
 {
+    state.soundness();
+    state.problem().validity();
     if buffers.choice == buffers.own {
         return Ok(false);
     }

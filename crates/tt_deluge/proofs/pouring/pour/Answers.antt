@@ -1,0 +1,105 @@
+use Rattle.std.proofs.Common.{◌≡◌, ℕ, ◌+◌, ◌-◌, ◌≤◌, Bool, true, false, cond, List, [], Some, None, refl, ap, sym, ◌∙◌, subst, arith}
+use mir.Val.{bool_byte}
+use Rattle.tt_problem.specs.declared.parts.Parts.{Parts}
+use Rattle.tt_state.specs.History.{trail, with_taken}
+use Rattle.tt_state.specs.Snapshots.{Snapshot}
+use Rattle.tt_state.proofs.StepLemmas.{within_next, within_same}
+use Rattle.tt_draw.proofs.WordLemmas.{words_from}
+use Rattle.rand_core.specs.Stream.{Stream}
+use Rattle.tt_improve.specs.Classes.{total_of}
+use Rattle.tt_deluge.specs.declared.objects.Objects.{Objects as Kept}
+use Rattle.tt_deluge.specs.Deluged.{Moment, best_moment, first_moment, found_by, level_at, made_within, moments_after}
+use Rattle.tt_deluge.specs.Pouring.{IsMomentOf, IsPouring, moment_of}
+use Rattle.tt_deluge.specs.Reading.{words_of}
+use Rattle.tt_deluge.specs.Standing.{StandsAs}
+use Rattle.tt_deluge.specs.Views.{objects_in}
+use Rattle.tt_deluge.proofs.ChangeLemmas.{stands-next, stands-same}
+use Rattle.tt_deluge.proofs.PourLemmas.{last-moments, next-moments, pour-on, pour-start, round-leads}
+use Rattle.tt_deluge.proofs.pouring.pour.Goals as goal
+
+pub loop-made-init : goal.loop-made-init
+loop-made-init g c =
+    let start = c.args.state.now in
+    let kept = c.moment_now-start.result in
+    let changed = c.moment_now-start.ensures.changed in
+    let moment = c.moment_now-start.ensures.moment in
+    let words = words_from c.args.seed c.new-words.result c.new-words.ensures in
+    let begins : moment_of start.present 0 (words_of c.new-words.result) ≡ first_moment c.args.seed start.present = ap (λ (w : Stream). moment_of start.present 0 w) words in
+    record {
+      step = within_same (with_taken start []);
+      objects = refl;
+      few = omega (arith, changed);
+      moment = moment;
+      still = λ none. refl;
+      stands = stands-same start.problem start.present;
+      way = pour-start start.problem (objects_in c.args.work.now.objects) c.args.rounds c.args.seed kept.total start.present (trail start) (words_of c.new-words.result) kept c.requires.objects moment.total moment changed begins;
+    }
+
+byte_is : (b : Bool) → bool_byte b ≡ cond b 1 0
+byte_is true = refl
+byte_is false = refl
+
+byte_small : (b : Bool) → cond b 1 0 ≤ 1
+byte_small true = omega arith
+byte_small false = omega arith
+
+still_next : (s t u : Snapshot) (b : Bool) (n kept : ℕ) → kept ≡ n + cond b 1 0 → (b ≡ false → u ≡ t) → (n ≡ 0 → t ≡ s) → kept ≡ 0 → u ≡ s
+still_next s t u true n kept is same still none = absurd (omega (arith, is, none))
+still_next s t u false n kept is same still none = same refl ∙ still (omega (arith, is, none))
+
+pub loop-made-preserved : goal.loop-made-preserved
+loop-made-preserved g c =
+    let start = c.args.state.now in
+    let p = start.problem in
+    let s = start.present in
+    let before = c.loop-made.state in
+    let after = c.make_round.new.state in
+    let inv = c.loop-made.invariant in
+    let done = c.in_ok-changes.ensures in
+    let changes = c.in_ok-changes.changes in
+    let first = c.moment_now-start.result.total in
+    let i = c.loop-made.made in
+    let rounds = c.args.rounds in
+    let level = c.level_at-level.result in
+    let words = words_of c.loop-made.words in
+    let left = words_of c.make_round.new.words in
+    let kept = c.moment_now-now.result in
+    let o = objects_in c.args.work.now.objects in
+    let problem : before.problem ≡ p = inv.step.problem in
+    let objects : c.loop-made.work.objects ≡ c.args.work.now.objects = inv.objects in
+    let change : made_within p level (found_by p o before.present words).0 ≡ cond changes (Some after.present) None =
+    subst (λ (q : Parts). made_within q level (found_by q o before.present words).0 ≡ cond changes (Some after.present) None) problem
+    (subst (λ (k : Kept). made_within before.problem level (found_by before.problem (objects_in k) before.present words).0 ≡ cond changes (Some after.present) None) objects done.round.change) in
+    let words_are : left ≡ (found_by p o before.present words).1 =
+    subst (λ (q : Parts). left ≡ (found_by q o before.present words).1) problem
+    (subst (λ (k : Kept). left ≡ (found_by before.problem (objects_in k) before.present words).1) objects done.words) in
+    let stands : StandsAs p before.present after.present = subst (λ (q : Parts). StandsAs q before.present after.present) problem done.round.stands in
+    let counted : c.from.result ≡ cond changes 1 0 = c.from.ensures ∙ byte_is changes in
+    let changed_now : kept.changed ≡ c.loop-made.now.changed + cond changes 1 0 = c.moment_now-now.ensures.changed ∙ ap (λ (n : ℕ). c.loop-made.now.changed + n) counted in
+    let level_is : level ≡ level_at first rounds i (total_of p before.present) = c.level_at-level.ensures ∙ ap (level_at first rounds i) inv.moment.total in
+    let leads = round-leads p o first rounds i before.present after.present c.loop-made.now.changed level words left changes level_is change done.round.same words_are in
+    let next = leads ∙ ap (λ (n : ℕ). moment_of after.present n left) (sym changed_now) in
+    let ahead = next-moments p o first rounds i (moment_of before.present c.loop-made.now.changed words) (moment_of after.present kept.changed left) c.loop-made-test.true next in
+    let end = best_moment p rounds c.args.seed s in
+    let way = subst (λ (l : List Moment). IsPouring p s (trail before) l c.loop-made.best end) ahead inv.way in
+    let moment : IsMomentOf p after.present (trail after) kept = subst (λ (q : Parts). IsMomentOf q after.present (trail after) kept) (done.step.problem ∙ problem) c.moment_now-now.ensures.moment in
+    let still = still_next s before.present after.present changes c.loop-made.now.changed kept.changed changed_now done.round.same inv.still in
+    let all = stands-next p s before.present after.present inv.stands stands in
+    record {
+      step = within_next _ _ _ inv.step done.step;
+      objects = done.objects ∙ objects;
+      few = omega (arith, inv.few, changed_now, byte_small changes);
+      moment = moment;
+      still = still;
+      stands = all;
+      way = rw c.better-best.ensures (pour-on p s after.present (trail before) (trail after) (moments_after p o first rounds (rounds - (i + 1)) (i + 1) (moment_of after.present kept.changed left)) c.loop-made.best kept left end way done.round.front moment all still);
+    }
+
+pub returns-clause-way : goal.returns-clause-way
+returns-clause-way g c =
+    let start = c.args.state.now in
+    let p = start.problem in
+    let o = objects_in c.args.work.now.objects in
+    let first = c.moment_now-start.result.total in
+    let none = last-moments p o first c.args.rounds c.loop-made.made (moment_of c.loop-made.state.present c.loop-made.now.changed (words_of c.loop-made.words)) c.loop-made-test.false in
+    subst (λ (l : List Moment). IsPouring p start.present (trail c.loop-made.state) l c.loop-made.best (best_moment p c.args.rounds c.args.seed start.present)) none c.loop-made.invariant.way
