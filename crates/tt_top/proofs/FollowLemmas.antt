@@ -163,7 +163,7 @@ module _ (words : FileWords) (o : Outside) where
   }
 
   -- where the run ended in a phase before the script
-  pub asks_early : {A : Type 0} (phase : Phase A) (r : Result (Result A InputFault) End) (e : End) → (e ≢ Sink → o.now.written ≡ o.before.written) → (loads : Loads words phase o.before.asked o.now.asked r) → AsksInOrder words o loads.names (end_status e)
+  pub asks_early : {A : Type 0} {limit : ℕ} {holds : List ℕ → Option (List ℕ)} {left : Option (List ℕ)} (phase : Phase A) (r : Result (Result A InputFault) End) (e : End) → (e ≢ Sink → o.now.written ≡ o.before.written) → (loads : Loads words limit holds left phase o.before.asked o.now.asked r) → AsksInOrder words o loads.names (end_status e)
   asks_early phase r e quiet loads = record {
     asked = loads.asked;
     first = front_of_front loads.names (first_words words) (option_to_list words.script) loads.first;
@@ -175,7 +175,7 @@ module _ (words : FileWords) (o : Outside) where
   }
 
   -- with a fault
-  pub asks_faulty : {A : Type 0} (phase : Phase A) (f : InputFault) → (loads : Loads words phase o.before.asked o.now.asked (Ok (Err f))) → AsksInOrder words o loads.names (input_status f.input)
+  pub asks_faulty : {A : Type 0} {limit : ℕ} {holds : List ℕ → Option (List ℕ)} {left : Option (List ℕ)} (phase : Phase A) (f : InputFault) → (loads : Loads words limit holds left phase o.before.asked o.now.asked (Ok (Err f))) → AsksInOrder words o loads.names (input_status f.input)
   asks_faulty phase f loads = record {
     asked = loads.asked;
     first = front_of_front loads.names (first_words words) (option_to_list words.script) loads.first;
@@ -195,7 +195,7 @@ module _ (words : FileWords) (o : Outside) where
       two Published at is = at
 
   -- where there is no script, and all went well
-  pub asks_all : {A : Type 0} (phase : Phase A) (x : A) (status : ℕ) → words.script ≡ None → status ≤ 1 → (loads : Loads words phase o.before.asked o.now.asked (Ok (Ok x))) → AsksInOrder words o loads.names status
+  pub asks_all : {A : Type 0} {limit : ℕ} {holds : List ℕ → Option (List ℕ)} {left : Option (List ℕ)} (phase : Phase A) (x : A) (status : ℕ) → words.script ≡ None → status ≤ 1 → (loads : Loads words limit holds left phase o.before.asked o.now.asked (Ok (Ok x))) → AsksInOrder words o loads.names status
   asks_all phase x status none few loads = record {
     asked = loads.asked;
     first = front_of_front loads.names (first_words words) (option_to_list words.script) loads.first;
@@ -207,7 +207,7 @@ module _ (words : FileWords) (o : Outside) where
   }
 
   -- where the script was asked for, if there is one
-  pub asks_served : (phase : Phase Session) (mid : Option (List (List ℕ))) (session : Session) (r : Result Bool End) → (words.script ≡ None → IsOk r) → Loads words phase o.before.asked mid (Ok (Ok session)) → AsksAll mid o.now.asked (option_to_list words.script) → AsksInOrder words o (file_words words) (status_of (done_by r))
+  pub asks_served : {limit : ℕ} {holds : List ℕ → Option (List ℕ)} {left : Option (List ℕ)} (phase : Phase Session) (mid : Option (List (List ℕ))) (session : Session) (r : Result Bool End) → (words.script ≡ None → IsOk r) → Loads words limit holds left phase o.before.asked mid (Ok (Ok session)) → AsksAll mid o.now.asked (option_to_list words.script) → AsksInOrder words o (file_words words) (status_of (done_by r))
   asks_served phase mid session r done loads more = record {
     asked = asks_append _ mid _ (first_words words) (option_to_list words.script) (rw loads.each at loads.asked) more;
     first = whole_front (file_words words);

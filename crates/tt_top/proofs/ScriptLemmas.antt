@@ -73,7 +73,7 @@ line_served d script before mid_d mid rest d' now outcome at ends answers goes =
       answered = subst (λ (t : List (List ℕ)). HasAnswered d t before d' now) (sym lines_are) (answered_more d (lines_of at.done) before mid_d mid at.answered line now d' outcome answers goes);
     }
 
-counts_then : (script : List ℕ) (mid now past : ℕ) (left_mid left : Option (List ℕ)) → Counts 0 mid 0 (Some script) left_mid → Counts mid now past left_mid left → Counts 0 now past (Some script) left
+pub counts_then : (script : List ℕ) (mid now past : ℕ) (left_mid left : Option (List ℕ)) → Counts 0 mid 0 (Some script) left_mid → Counts mid now past left_mid left → Counts 0 now past (Some script) left
 counts_then script mid now past None left first second = absurd first
 counts_then script mid now past (Some xs) None first second = absurd second
 counts_then script mid now past (Some xs) (Some ys) first second = omega (arith, first, second)

@@ -1,6 +1,6 @@
 -- Proof. How the phases of a run end, and what each of them leaves.
-use Rattle.std.specs.Prelude.{◌≡◌, ◌≢◌, ◌≤◌, ◌<◌, ◌⊎◌, ℕ, Bool, true, false, ⊤, IfErr, IfSome, IsSome, List, [], ◌∷◌, ◌++◌, length, take, codes, None, Some, Option, Result, Ok, Err, if◌then◌else◌}
-use Rattle.std.specs.List.{concat}
+use Rattle.std.specs.Prelude.{◌≡◌, ◌≢◌, ◌≤◌, ◌<◌, ◌⊎◌, ℕ, Bool, true, false, ⊤, IfErr, IfSome, IsOk, IsSome, List, [], ◌∷◌, ◌++◌, length, take, codes, None, Some, Option, Result, Ok, Err, if◌then◌else◌}
+use Rattle.std.specs.List.{AllByRecursion, concat}
 use Rattle.tt_io.specs.Causes.{Writes, one_more, AsksAll}
 use Rattle.tt_io.specs.Whole.{WritesFront}
 use Rattle.tt_io.specs.Lines.{Reader, has_line_end, leading_line, after_line, to_come, StopsIn}
@@ -22,7 +22,7 @@ use Rattle.tt_top.specs.Opening.{FaultyFile, fault_line, opening_line, opened}
 use Rattle.tt_top.specs.Pieces.{whole_lines, has_quit, is_long_script, answered_part, taken_of}
 use Rattle.tt_top.specs.Wanting.{WantsAfter}
 use Rattle.tt_top.specs.PlainRun.{PlainRun, text_of, Phase, ends, read_phase}
-use Rattle.tt_top.specs.Run.{IsFront}
+use Rattle.tt_top.specs.Run.{IsFront, HasAtMost, ReadsWithin}
 
 -- ---- files with a fault
 
@@ -118,8 +118,9 @@ IsAsked words names (Ok (Ok x)) = names ≡ first_words words
 IsAsked words names (Ok (Err f)) = IsFaultyAt words names f.input
 IsAsked words names (Err end) = ⊤
 
--- The names asked for before the script are the first of these words, also of those that the plain run asks for.
-pub record Loads {A : Type 0} (words : FileWords) (phase : Phase A) (before now : Option (List (List ℕ))) (result : Result (Result A InputFault) End) : Type 0 where
+-- The names asked for before the script are the first of these words, also of those that the plain run asks for, and no
+-- more is read of them than may be.
+pub record Loads {A : Type 0} (words : FileWords) (limit : ℕ) (holds : List ℕ → Option (List ℕ)) (left : Option (List ℕ)) (phase : Phase A) (before now : Option (List (List ℕ))) (result : Result (Result A InputFault) End) : Type 0 where
   pub names : List (List ℕ)
   pub asked : AsksAll before now names
   pub some : 0 < length names
@@ -127,6 +128,8 @@ pub record Loads {A : Type 0} (words : FileWords) (phase : Phase A) (before now 
   pub each : IsAsked words names result
   pub within : IfErr phase (λ ended. IfSome ended (λ r. IsFront names r.names))
   pub agrees : Agrees names phase result
+  pub reads : result ≢ Err Files → ReadsWithin limit holds left names
+  pub fits : IsOk result → AllByRecursion (HasAtMost limit holds) names
 
 -- What reading the files before the script and writing the first line leave.
 abbrev pub Opens : Phase Session → (before now : Option (List ℕ)) → Result (Result Session InputFault) End → Type 0

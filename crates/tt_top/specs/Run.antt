@@ -1,5 +1,5 @@
 -- Theorem. The clauses of the top call.
-use Rattle.std.specs.Prelude.{◌≡◌, ◌≢◌, ◌≤◌, ◌<◌, ℕ, Bool, false, List, [], ◌∷◌, ◌++◌, ◌⊎◌, IfSome, IsSome, take, length, if◌then◌else◌, None, Some, Option, option_and_then}
+use Rattle.std.specs.Prelude.{◌≡◌, ◌≢◌, ◌≤◌, ◌<◌, ◌+◌, ⊤, ℕ, Bool, false, List, [], ◌∷◌, ◌++◌, ◌⊎◌, IfSome, IsSome, take, length, if◌then◌else◌, None, Some, Option, option_and_then}
 use Rattle.std.specs.List.{concat}
 use Rattle.tt_io.specs.Causes.{Writes, one_more, AsksAll}
 use Rattle.tt_make.specs.Text.{make_text}
@@ -83,6 +83,23 @@ pub record HasCauses (o : Outside) (status : ℕ) : Type 0 where
   pub files_same : status ≢ 5 → o.now.files ≡ o.before.files
   pub sink_same : status ≢ 6 → o.now.sink ≡ o.before.sink
 
+-- ---- what is read of long files
+
+-- The file of this name has at most so many bytes, where it is told what it holds.
+abbrev pub HasAtMost : (most : ℕ) → (holds : List ℕ → Option (List ℕ)) → (name : List ℕ) → Type 0
+HasAtMost most holds name = IfSome (holds name) (λ all. length all ≤ most)
+
+-- At most so many bytes of it are read, where it is also told what is left of it.
+abbrev pub IsReadAtMost : (most : ℕ) → (holds : List ℕ → Option (List ℕ)) → (left : Option (List ℕ)) → (name : List ℕ) → Type 0
+IsReadAtMost most holds left name = IfSome (holds name) (λ all. IfSome left (λ rest. length all ≤ length rest + most))
+
+-- Of the files with these names each but the last has no more bytes than the limit, and of the last at most 65,536 bytes beyond it
+-- are read.
+abbrev pub ReadsWithin : (limit : ℕ) → (holds : List ℕ → Option (List ℕ)) → (left : Option (List ℕ)) → (names : List (List ℕ)) → Type 0
+ReadsWithin limit holds left [] = ⊤
+ReadsWithin limit holds left (name ∷ []) = IsReadAtMost (limit + 65536) holds left name
+ReadsWithin limit holds left (name ∷ next ∷ names) = HasAtMost limit holds name × ReadsWithin limit holds left (next ∷ names)
+
 -- ---- what runs with files do
 
 -- Whatever the files tell, these names were asked for, which are the first of the file words.
@@ -105,12 +122,14 @@ pub record IsStatus (status : ℕ) : Type 0 where
   pub at_most : status ≤ 8
   pub no_usage : status ≢ 2
 
--- What a run does that asks for files, where this is the plain run if the files tell it.
-pub record UsesFiles (words : FileWords) (due : Option PlainRun) (o : Outside) (names : List (List ℕ)) (status : ℕ) : Type 0 where
+-- What a run does that asks for files, where this is the plain run if the files tell it, and a file has at most so many bytes.
+pub record UsesFiles (words : FileWords) (limit : ℕ) (due : Option PlainRun) (o : Outside) (names : List (List ℕ)) (status : ℕ) : Type 0 where
   pub plain : IfSome due (λ r. Follows r o names status)
   pub asks : AsksInOrder words o names status
   pub causes : HasCauses o status
   pub statuses : IsStatus status
+  -- unless a call on the files failed, at most 65,536 bytes beyond the limit are read of any file
+  pub reads : status ≢ 5 → ReadsWithin limit o.holds o.now.left names
 
 -- What is done before the script is opened, where this is the plain run that answers no line.
 pub record Begins (r : PlainRun) (words : FileWords) (o : Outside) (names : List (List ℕ)) (status : ℕ) : Type 0 where
@@ -131,7 +150,7 @@ pub record IsDeskText (text : List ℕ) : Type 0 where
 -- What a run does that answers a script, or checks a problem, where a file has at most so many bytes.
 pub record IsFileRun (words : FileWords) (limit : ℕ) (o : Outside) (status : ℕ) : Type 0 where
   pub names : List (List ℕ)
-  pub run : UsesFiles words (file_run limit o.holds words) o names status
+  pub run : UsesFiles words limit (file_run limit o.holds words) o names status
   -- where memory is wanting, it is so before the first line, or for the command of the first line that wasn't answered
   pub wanting : status ≡ 7 → IsWanting (served_phase limit o.holds words) o.before.written o.now.written
   -- what is done before the script is opened, whatever it holds
@@ -147,7 +166,7 @@ pub record IsFileRun (words : FileWords) (limit : ℕ) (o : Outside) (status : �
 -- What a run does that checks a solution file.
 pub record IsVerifyRun (problem solution : List ℕ) (limit : ℕ) (o : Outside) (status : ℕ) : Type 0 where
   pub names : List (List ℕ)
-  pub run : UsesFiles (verify_words problem solution) (verify_run limit o.holds problem solution) o names status
+  pub run : UsesFiles (verify_words problem solution) limit (verify_run limit o.holds problem solution) o names status
 
 -- ---- what runs without files do
 

@@ -1,9 +1,9 @@
-ghost use Rattle.std.specs.Prelude.{◌≡◌, ◌≢◌, ◌∷◌, [], ℕ, List, Err, IfOk, IfErr, Ok, OnOk};
+ghost use Rattle.std.specs.Prelude.{◌≡◌, ◌≢◌, ◌+◌, ◌∷◌, [], ℕ, List, Err, IfOk, IfErr, IsOk, Ok, OnOk};
 ghost use Rattle.tt_io.specs.Causes.{Asks, Writes};
 ghost use Rattle.tt_io.specs.Whole.{WritesFront};
 ghost use Rattle.tt_solution.specs.Timetable.{IsTimetableOf};
 ghost use Rattle.tt_top.specs.PlainRun.{check_phase, checking, solution_phase};
-ghost use Rattle.tt_top.specs.Run.{IsVerifyRun, moment};
+ghost use Rattle.tt_top.specs.Run.{HasAtMost, IsReadAtMost, IsVerifyRun, left_open, moment};
 ghost use Rattle.tt_top.specs.Ends.{Agrees, HasEndCause, Loads, done_status, status_of};
 ghost use Rattle.tt_top.specs.Checks.{check_run, check_seen, check_status, check_text};
 ghost use Rattle.tt_top.specs.Words.{verify_words};
@@ -46,6 +46,8 @@ fn check_solution<F: Files>(
 ) -> Result<Loaded<Check>, End>
     ensures agrees { (names : List (List ℕ)) → Agrees names (solution_phase limit (F.holds files.old) names problem.now solution.now) (check_seen names result) }
     ensures input { IfOk result (λ l. IfErr l (λ f. f.input ≡ Input.Published)) }
+    ensures reads { result ≢ Err End.Files → IsReadAtMost (limit + 65536) (F.holds files.old) (left_open (F.is_open files.new) (F.left files.new)) solution.now }
+    ensures fits { IsOk result → HasAtMost limit (F.holds files.old) solution.now }
     ensures no_sink { result ≢ Err End.Sink }
     ensures asks { Asks (F.asked files.old) (F.asked files.new) solution.now }
     ensures cause { HasEndCause End.Files (F.faults files.old) (F.faults files.new) result }
@@ -64,7 +66,7 @@ fn check_files<F: Files>(
     solution: &str,
     files: &mut F,
 ) -> Result<Loaded<Check>, End>
-    ensures checks { Loads (verify_words problem.now solution.now) (check_phase limit (F.holds files.old) problem.now solution.now) (F.asked files.old) (F.asked files.new) (check_seen (problem.now ∷ solution.now ∷ []) result) }
+    ensures checks { Loads (verify_words problem.now solution.now) limit (F.holds files.old) (left_open (F.is_open files.new) (F.left files.new)) (check_phase limit (F.holds files.old) problem.now solution.now) (F.asked files.old) (F.asked files.new) (check_seen (problem.now ∷ solution.now ∷ []) result) }
     ensures no_sink { result ≢ Err End.Sink }
     ensures cause { HasEndCause End.Files (F.faults files.old) (F.faults files.new) result }
 {

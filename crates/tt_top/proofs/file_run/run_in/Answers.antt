@@ -1,4 +1,4 @@
-use Rattle.std.proofs.Common.{Ok, Err}
+use Rattle.std.proofs.Common.{◌+◌, Ok, Err}
 use Rattle.tt_base.proofs.ResultLemmas.{handed_on}
 use Rattle.tt_top.specs.declared.end.End.TheVariants.{Files, Sink}
 use Rattle.tt_top.specs.declared.end.Done.TheVariants.{Faulty}
@@ -6,6 +6,7 @@ use Rattle.tt_top.specs.Run.{Moment, Outside, moment}
 use Rattle.tt_top.specs.Forms.{words_seen}
 use Rattle.tt_top.proofs.EndLemmas.{done_cause, has_causes, same_cause}
 use Rattle.tt_top.proofs.FileRunLemmas.{early_run, faulty_run, served_run, script_same}
+use Rattle.tt_top.proofs.ReadLemmas.{read_same}
 use Rattle.tt_top.proofs.file_run.run_in.Goals as goal
 
 pub returns-in_err-session : goal.returns-in_err-session
@@ -37,4 +38,4 @@ returns-in-Ok g c =
     let o : Outside = record { holds = g.F.Files.holds c.args.files.now; before = before; now = now } in
     rw c.served.ensures
     (served_run (words_seen c.args.words) c.args.workspace.now.limit o mid c.in-Ok.session e.loads e.opens e.files e.sink c.serve_script.result s.done
-    (λ t told. s.serves t (script_same o.holds _ _ c.begin.ensures.same told)) s.some s.grows s.asks s.files s.sink)
+    (λ t told. s.serves t (script_same o.holds _ _ c.begin.ensures.same told)) (read_same (c.args.workspace.now.limit + 65536) o.holds _ c.begin.ensures.same _ _ s.reads) s.some s.grows s.asks s.files s.sink)
