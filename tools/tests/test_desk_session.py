@@ -416,8 +416,9 @@ def test_a_thousand_commands_in_a_row(session: Session, log: Path) -> None:
 
 # The tutorial's steps, as the page makes them: what is typed is one command, a suggestion and what is taken out are one step.
 TUTORIAL = [
-    ["assign 701 5 1"], ["assign 1021 1 -"], ["enrol all"], ["search 61 11"], ["force 1401 8 5", "force 1301 2 11", "force 1311 10 13"],
-    ["improve 20000 6"], ["force 801 6 3", "force 1101 9 11", "force 1801 6 4"], ["improve 20000 7"], ["publish", "term.json"],
+    ["assign 701 5 1"], ["assign 1021 1 -"], ["enrol all"], ["search 61 11"], ["undo"], ["place 1000 11"], ["undo"], ["search 61 11"],
+    ["force 1401 8 5", "force 1301 2 11", "force 1311 10 13"], ["improve 20000 6"],
+    ["force 801 6 3", "force 1101 9 11", "force 1801 6 4"], ["improve 20000 7"], ["deluge 200000 9"], ["undo"], ["publish", "term.json"],
     ["close 3 11111 0 288 000011111111110"], ["unassign 801", "unassign 901", "unassign 1001", "unassign 1501", "unassign 1711"],
     ["repair 1000 3"], ["force 901 11 11", "force 1021 2 -", "force 1101 4 4"], ["improve 20000 8"], ["undo"], ["publish", "after_week_4.json"]]
 
