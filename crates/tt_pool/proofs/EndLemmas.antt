@@ -5,10 +5,10 @@ use Rattle.std.specs.List.{insert, remove, position_or_len}
 use Rattle.std.specs.List.Sorted.{IsNonDecreasing}
 use Rattle.std.proofs.lemmas.Bool.{cases_eq}
 use Rattle.std.proofs.lemmas.List.{get_or_append_left, get_or_push}
-use Rattle.tt_pool.specs.declared.Link.{Link}
-use Rattle.tt_pool.specs.declared.Node.{Node}
-use Rattle.tt_pool.specs.declared.Chain.{Chain}
-use Rattle.tt_pool.specs.declared.Place.{Place}
+use Rattle.tt_pool.specs.declared.chain.Link.{Link}
+use Rattle.tt_pool.specs.declared.chain.Node.{Node}
+use Rattle.tt_pool.specs.declared.chain.Chain.{Chain}
+use Rattle.tt_pool.specs.declared.places.Place.{Place}
 use Rattle.tt_pool.specs.Chains.{no_node, no_link, item_of, after, chain_of, uses, IsChain, IsPlace, back_of, LeadsBack}
 use Rattle.tt_pool.specs.Pools.{chains_of, chain_at, IsPool, IsBacked}
 use Rattle.tt_pool.proofs.Paths.{after_used, on_way, next_on_way, path-get_or, length-path}

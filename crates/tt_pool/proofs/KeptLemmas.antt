@@ -5,9 +5,9 @@ use Rattle.std.specs.List.{insert, remove, position_or_len}
 use Rattle.std.specs.List.Sorted.{IsNonDecreasing}
 use Rattle.std.proofs.lemmas.List.{length-replicate}
 use Rattle.std.proofs.lemmas.List.Sorted.{IsNonDecreasingBy-short}
-use Rattle.tt_pool.specs.declared.Link.{Link}
-use Rattle.tt_pool.specs.declared.Node.{Node}
-use Rattle.tt_pool.specs.declared.Chain.{Chain}
+use Rattle.tt_pool.specs.declared.chain.Link.{Link}
+use Rattle.tt_pool.specs.declared.chain.Node.{Node}
+use Rattle.tt_pool.specs.declared.chain.Chain.{Chain}
 use Rattle.tt_pool.specs.Chains.{no_link, item_of, chain_of, LeadsBack}
 use Rattle.tt_pool.specs.Pools.{chains_of, lists_of, no_chain, chain_at, IsPool, IsBacked, IsFresh, IsKept}
 use Rattle.tt_pool.proofs.PoolLemmas.{length-chains_of, chains_of-get_or, lists_of-get_or, lists_within, lists_of-empty, IsPool-fresh}

@@ -5,8 +5,8 @@ use Rattle.std.specs.List.{position_or_len}
 use Rattle.std.proofs.lemmas.Bool.{cases_eq, eq-eqb, ne_eqb}
 use Rattle.std.proofs.lemmas.List.{length-map, get_or-map}
 use Rattle.std.proofs.lemmas.List.Sums.{position_or_len_is}
-use Rattle.tt_pool.specs.declared.Node.{Node}
-use Rattle.tt_pool.specs.declared.Chain.{Chain}
+use Rattle.tt_pool.specs.declared.chain.Node.{Node}
+use Rattle.tt_pool.specs.declared.chain.Chain.{Chain}
 use Rattle.tt_pool.specs.Chains.{next_of, item_of, after, chain_of, uses, IsSearched}
 use Rattle.tt_pool.proofs.Paths.{uses_other, after_more, path-get_or, length-path}
 

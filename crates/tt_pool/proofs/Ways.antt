@@ -5,9 +5,9 @@ use Rattle.std.specs.List.{insert, remove, sum_by}
 use Rattle.std.proofs.lemmas.Bool.{cases_eq, cases_lt}
 use Rattle.std.proofs.lemmas.List.{length-set, get_or-map, get_or_append_left, get_or_push, length_push}
 use Rattle.std.proofs.lemmas.List.Sums.{sum_by-set, get_or-le-sum_by}
-use Rattle.tt_pool.specs.declared.Link.{Link}
-use Rattle.tt_pool.specs.declared.Node.{Node}
-use Rattle.tt_pool.specs.declared.Chain.{Chain}
+use Rattle.tt_pool.specs.declared.chain.Link.{Link}
+use Rattle.tt_pool.specs.declared.chain.Node.{Node}
+use Rattle.tt_pool.specs.declared.chain.Chain.{Chain}
 use Rattle.tt_pool.specs.Chains.{no_link, after, chain_of, uses, back_of, LeadsBack}
 use Rattle.tt_pool.specs.Pools.{IsBacked}
 use Rattle.tt_pool.proofs.Paths.{uses_here, uses_other, less_after_first, not_first, not_after_first, path-get_or, length-path}

@@ -1,0 +1,234 @@
+//! Chains of nodes, and what moves a node, and with it an item, into a list and out of it.
+
+ghost use Rattle.std.specs.Prelude.{◌≡◌, ℕ, ◌+◌, ◌<◌, ◌≤◌, [], ◌++◌, length, slice_index, slice_index_or, slice_set};
+ghost use Rattle.std.specs.List.{insert, remove};
+ghost use Rattle.tt_pool.specs.Chains.{after, chain_of, uses, IsChain, IsPlace, ArePair, KeepsOthers, KeepsItems};
+ghost use Rattle.tt_pool.specs.Pools.{chain_at, chains_of, lists_of, IsPool, IsBacked};
+
+use crate::places::{Place, back_from, next_place, node_at};
+
+/// The number of a node in a pool.
+#[derive(Clone, Copy)]
+pub struct Link(pub u32);
+
+#[derive(Clone, Copy)]
+pub struct Node {
+    pub item: u32,
+    pub next: Link,
+}
+
+/// So many nodes, from the first on.
+#[derive(Clone, Copy)]
+pub struct Chain {
+    pub first: Link,
+    pub len: u32,
+}
+
+/// The node that is so many steps from the first.
+#[tactic(auto, using(crate::proofs::Paths::after_more))]
+pub fn walk(nodes: &[Node], first: Link, steps: u32) -> Link
+    requires { (k : ℕ) → k ≤ steps → after nodes.now k first.0 < length nodes.now }
+    ensures { result.0 ≡ after nodes.now steps first.0 }
+{
+    let mut node = first;
+    for step in 0..steps {
+        node = nodes[node.0 as usize].next;
+    }
+    node
+}
+
+/// Puts a node into a chain.
+fn attach(nodes: &mut [Node], chain: Chain, place: Place, node: Link) -> Chain
+    requires chain { IsChain nodes.old (chain_of nodes.old chain) }
+    requires node { node.0 < length nodes.old }
+    requires new { uses node.0 (chain_of nodes.old chain) ≡ 0 }
+    requires place { IsPlace nodes.old chain place }
+    requires room { chain.len < 4294967295 }
+    ensures chain { chain_of nodes.new result ≡ insert (chain_of nodes.old chain) place.at node.0 }
+    ensures len { result.len ≡ chain.len + 1 }
+    ensures others { KeepsOthers (insert (chain_of nodes.old chain) place.at node.0) nodes.old nodes.new }
+    ensures items { KeepsItems nodes.old nodes.new }
+{
+    let Place { at, before } = place;
+    let len = chain.len + 1;
+    if at == 0 {
+        nodes[node.0 as usize].next = chain.first;
+        Chain { first: node, len }
+    } else {
+        nodes[node.0 as usize].next = nodes[before.0 as usize].next;
+        nodes[before.0 as usize].next = node;
+        Chain {
+            first: chain.first,
+            len,
+        }
+    }
+}
+
+/// Takes the node at a place out of a chain.
+fn detach(nodes: &mut [Node], chain: Chain, place: Place) -> (Chain, Link)
+    requires chain { IsChain nodes.old (chain_of nodes.old chain) }
+    requires place { IsPlace nodes.old chain place }
+    requires at { place.at < chain.len }
+    ensures chain { chain_of nodes.new result.0 ≡ remove (chain_of nodes.old chain) place.at }
+    ensures len { result.0.len + 1 ≡ chain.len }
+    ensures node { result.1.0 ≡ slice_index (chain_of nodes.old chain) place.at }
+    ensures others { KeepsOthers (chain_of nodes.old chain) nodes.old nodes.new }
+    ensures items { KeepsItems nodes.old nodes.new }
+{
+    let Place { at, before } = place;
+    let len = chain.len - 1;
+    if at == 0 {
+        let first = nodes[chain.first.0 as usize].next;
+        (Chain { first, len }, chain.first)
+    } else {
+        let node = nodes[before.0 as usize].next;
+        nodes[before.0 as usize].next = nodes[node.0 as usize].next;
+        (
+            Chain {
+                first: chain.first,
+                len,
+            },
+            node,
+        )
+    }
+}
+
+/// What two chains are after a node went from one into the other.
+#[derive(Clone, Copy)]
+struct Moved {
+    from: Chain,
+    to: Chain,
+    node: Link,
+}
+
+/// Moves the node at a place in one chain to a place in another.
+fn transfer(nodes: &mut [Node], from: Chain, place: Place, to: Chain, to_place: Place) -> Moved
+    requires chains { ArePair nodes.old (chain_of nodes.old from) (chain_of nodes.old to) }
+    requires from { IsPlace nodes.old from place }
+    requires to { IsPlace nodes.old to to_place }
+    requires at { place.at < from.len }
+    requires room { to.len < 4294967295 }
+    ensures from { chain_of nodes.new result.from ≡ remove (chain_of nodes.old from) place.at }
+    ensures to { chain_of nodes.new result.to ≡ insert (chain_of nodes.old to) to_place.at result.node.0 }
+    ensures less { result.from.len + 1 ≡ from.len }
+    ensures more { result.to.len ≡ to.len + 1 }
+    ensures node { result.node.0 ≡ slice_index (chain_of nodes.old from) place.at }
+    ensures others { KeepsOthers (chain_of nodes.old from ++ chain_of nodes.old to) nodes.old nodes.new }
+    ensures items { KeepsItems nodes.old nodes.new }
+{
+    let (from, node) = detach(nodes, from, place);
+    let to = attach(nodes, to, to_place, node);
+    Moved { from, to, node }
+}
+
+/// Puts an item into a list, in the first free node. Answers the other free nodes.
+fn put_in(
+    nodes: &mut [Node],
+    lists: &mut [Chain],
+    free: Chain,
+    list: u32,
+    place: Place,
+    item: u32,
+) -> Chain
+    requires pool { IsPool nodes.old lists.old free }
+    requires list { list < length lists.old }
+    requires place { IsPlace nodes.old (chain_at lists.old list) place }
+    requires spare { 1 ≤ free.len }
+    ensures pool { IsPool nodes.new lists.new result }
+    ensures lists { lists_of nodes.new lists.new ≡ slice_set (lists_of nodes.old lists.old) list (insert (slice_index_or (lists_of nodes.old lists.old) list []) place.at item) }
+    ensures chains { chains_of nodes.new lists.new ≡ slice_set (chains_of nodes.old lists.old) list (insert (slice_index_or (chains_of nodes.old lists.old) list []) place.at free.first.0) }
+    ensures spare { result.len + 1 ≡ free.len }
+{
+    let first = Place {
+        at: 0,
+        before: free.first,
+    };
+    let moved = transfer(nodes, free, first, lists[list as usize], place);
+    nodes[moved.node.0 as usize].item = item;
+    lists[list as usize] = moved.to;
+    moved.from
+}
+
+/// Takes an item out of a list. Answers the free nodes, now with its node, and the item.
+fn take_out(
+    nodes: &mut [Node],
+    lists: &mut [Chain],
+    free: Chain,
+    list: u32,
+    place: Place,
+) -> (Chain, u32)
+    requires pool { IsPool nodes.old lists.old free }
+    requires list { list < length lists.old }
+    requires place { IsPlace nodes.old (chain_at lists.old list) place }
+    requires at { place.at < (chain_at lists.old list).len }
+    ensures pool { IsPool nodes.new lists.new result.0 }
+    ensures lists { lists_of nodes.new lists.new ≡ slice_set (lists_of nodes.old lists.old) list (remove (slice_index_or (lists_of nodes.old lists.old) list []) place.at) }
+    ensures chains { chains_of nodes.new lists.new ≡ slice_set (chains_of nodes.old lists.old) list (remove (slice_index_or (chains_of nodes.old lists.old) list []) place.at) }
+    ensures item { result.1 ≡ slice_index (slice_index_or (lists_of nodes.old lists.old) list []) place.at }
+    ensures spare { result.0.len ≡ free.len + 1 }
+{
+    let first = Place {
+        at: 0,
+        before: free.first,
+    };
+    let moved = transfer(nodes, lists[list as usize], place, free, first);
+    lists[list as usize] = moved.from;
+    (moved.to, nodes[moved.node.0 as usize].item)
+}
+
+/// Puts an item into a list, and notes the way back.
+pub fn put(
+    nodes: &mut [Node],
+    lists: &mut [Chain],
+    backs: &mut [Link],
+    free: Chain,
+    list: u32,
+    place: Place,
+    item: u32,
+) -> Chain
+    requires pool { IsPool nodes.old lists.old free }
+    requires backs { IsBacked backs.old (length nodes.old) (chains_of nodes.old lists.old) }
+    requires list { list < length lists.old }
+    requires place { IsPlace nodes.old (chain_at lists.old list) place }
+    requires spare { 1 ≤ free.len }
+    ensures pool { IsPool nodes.new lists.new result }
+    ensures backs { IsBacked backs.new (length nodes.new) (chains_of nodes.new lists.new) }
+    ensures lists { lists_of nodes.new lists.new ≡ slice_set (lists_of nodes.old lists.old) list (insert (slice_index_or (lists_of nodes.old lists.old) list []) place.at item) }
+    ensures spare { result.len + 1 ≡ free.len }
+{
+    let end = nodes.len() + list as usize;
+    let behind = node_at(nodes, lists[list as usize], place, end);
+    let before = back_from(place);
+    backs[free.first.0 as usize] = before;
+    backs[behind] = free.first;
+    put_in(nodes, lists, free, list, place, item)
+}
+
+/// Takes an item out of a list, and notes the way back. Answers the free nodes, now with its node,
+/// and the item.
+pub fn take(
+    nodes: &mut [Node],
+    lists: &mut [Chain],
+    backs: &mut [Link],
+    free: Chain,
+    list: u32,
+    place: Place,
+) -> (Chain, u32)
+    requires pool { IsPool nodes.old lists.old free }
+    requires backs { IsBacked backs.old (length nodes.old) (chains_of nodes.old lists.old) }
+    requires list { list < length lists.old }
+    requires place { IsPlace nodes.old (chain_at lists.old list) place }
+    requires at { place.at < (chain_at lists.old list).len }
+    ensures pool { IsPool nodes.new lists.new result.0 }
+    ensures backs { IsBacked backs.new (length nodes.new) (chains_of nodes.new lists.new) }
+    ensures lists { lists_of nodes.new lists.new ≡ slice_set (lists_of nodes.old lists.old) list (remove (slice_index_or (lists_of nodes.old lists.old) list []) place.at) }
+    ensures item { result.1 ≡ slice_index (slice_index_or (lists_of nodes.old lists.old) list []) place.at }
+    ensures spare { result.0.len ≡ free.len + 1 }
+{
+    let end = nodes.len() + list as usize;
+    let next = next_place(nodes, lists[list as usize], place);
+    let behind = node_at(nodes, lists[list as usize], next, end);
+    let before = back_from(place);
+    backs[behind] = before;
+    take_out(nodes, lists, free, list, place)
+}
