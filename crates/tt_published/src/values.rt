@@ -1,7 +1,7 @@
 ghost use Rattle.std.specs.Prelude.{◌≡◌, ◌<◌, IfSome, length};
 ghost use Rattle.tt_plan.specs.Domain.{IsOfDomain};
-ghost use Rattle.tt_solution.specs.Timetable.{IsTimetableOf};
-ghost use Rattle.tt_solution.specs.Published.{published_value};
+ghost use Rattle.tt_published.specs.Timetable.{IsTimetableOf};
+ghost use Rattle.tt_published.specs.Published.{published_value};
 
 use crate::published::Published;
 use tt_bits::Value;

@@ -8,8 +8,8 @@ use Rattle.std.proofs.lemmas.List.FromFn.{length-range_with_len}
 use Rattle.std.proofs.lemmas.List.Sums.{count_by-le-length, sum_by-cons}
 use Rattle.tt_bits.specs.declared.times.Value.{Value}
 use Rattle.tt_problem.specs.declared.parts.Parts.{Parts}
-use Rattle.tt_solution.specs.Timetable.{Timetable, has_published}
-use Rattle.tt_solution.specs.Published.{is_moved, keeps, moved_of}
+use Rattle.tt_published.specs.Timetable.{Timetable, has_published}
+use Rattle.tt_published.specs.Published.{is_moved, keeps, moved_of}
 
 -- 1 for what holds, else 0
 abbrev flag : Bool → ℕ

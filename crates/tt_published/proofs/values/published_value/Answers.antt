@@ -1,7 +1,7 @@
 use Rattle.std.proofs.Common.{sym, ◌∙◌}
 use Rattle.tt_base.proofs.ListLemmas.{drop_at}
-use Rattle.tt_solution.proofs.ValueLemmas.{unpublished}
-use Rattle.tt_solution.proofs.values.published_value.Goals as goal
+use Rattle.tt_published.proofs.ValueLemmas.{unpublished}
+use Rattle.tt_published.proofs.values.published_value.Goals as goal
 
 pub returns-then-not-has-clause-value : goal.returns-then-not-has-clause-value
 returns-then-not-has-clause-value c =

@@ -4,9 +4,9 @@ use Rattle.std.specs.Prelude.{is_some}
 use Rattle.std.specs.List.{find}
 use Rattle.tt_problem.specs.declared.parts.Parts.{Parts}
 use Rattle.tt_plan.specs.Domain.{domain_of}
-use Rattle.tt_solution.specs.declared.meeting.Meeting.{Meeting}
-use Rattle.tt_solution.specs.Timetable.{Timetable, has_published, published_at}
-use Rattle.tt_solution.specs.Published.{is_same, published_value}
+use Rattle.tt_published.specs.declared.meeting.Meeting.{Meeting}
+use Rattle.tt_published.specs.Timetable.{Timetable, has_published, published_at}
+use Rattle.tt_published.specs.Published.{is_same, published_value}
 
 find_none : {A : Type 0} (test : A → Bool) (xs : List A) → ((x : A) → test x ≡ false) → find test xs ≡ None
 find_none test [] fails = refl
