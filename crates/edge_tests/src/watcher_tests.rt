@@ -4,7 +4,7 @@ use std::cell::Cell;
 use std::fmt::Display;
 use std::io;
 use std::test::Fail;
-use tt_io::{Progress, StdWatcher, Watcher};
+use tt_watch::{Progress, StdWatcher, Watcher};
 
 // A standard error that counts what it is handed.
 #[derive(Drop)]

@@ -3,8 +3,9 @@ ghost use Rattle.std.specs.Prelude.{◌||◌, is_some, None};
 
 use std::alloc::{AllocError, Global};
 use std::test::Fail;
-use tt_io::{Failed, Files, MemFiles, MemSink, Silent, SureFiles, SureSink};
+use tt_io::{Failed, Files, MemFiles, MemSink, SureFiles, SureSink};
 use tt_top::{run, run_within};
+use tt_watch::Silent;
 
 const ONE_CLASS: &str =
     r#"{"nrDays":1,"nrWeeks":1,"slotsPerDay":288,"optimization":{"time":2,"room":1,"distribution":1,"student":1},"courses":[{"id":1,"configs":[{"id":1,"subparts":[{"id":1,"classes":[{"id":1,"room":false,"times":[{"days":"1","start":10,"length":4,"weeks":"1","penalty":4}]}]}]}]}]}"#;

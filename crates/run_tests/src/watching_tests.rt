@@ -1,8 +1,9 @@
 // That the watcher of a run is the one that its commands tell.
 use std::alloc::{AllocError, Global};
 use std::test::Fail;
-use tt_io::{MemFiles, MemSink, Progress, Watcher};
+use tt_io::{MemFiles, MemSink};
 use tt_top::run_watched;
+use tt_watch::{Progress, Watcher};
 
 const ONE_CLASS: &str =
     r#"{"nrDays":1,"nrWeeks":1,"slotsPerDay":288,"optimization":{"time":2,"room":1,"distribution":1,"student":1},"courses":[{"id":1,"configs":[{"id":1,"subparts":[{"id":1,"classes":[{"id":1,"room":false,"times":[{"days":"1","start":10,"length":4,"weeks":"1","penalty":4}]}]}]}]}]}"#;

@@ -1,4 +1,4 @@
-use tt_io::{Progress, Watcher};
+use tt_watch::{Progress, Watcher};
 
 /// A watcher that counts what it is told, and keeps the last.
 #[derive(Drop)]

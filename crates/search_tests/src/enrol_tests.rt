@@ -3,8 +3,8 @@ use std::alloc::Global;
 use std::test::Fail;
 use test_help::{assigns, sections, state_of};
 use tt_enrol::{Enrolled, enrol, enrol_all};
-use tt_io::{Progress, Silent};
 use tt_state::State;
+use tt_watch::{Progress, Silent};
 
 /// A course with a subpart of two classes, and a course of a class with one seat that meets when the
 /// first of the two does; a student of the second course and then the first, and one of the second.

@@ -3,8 +3,8 @@ use std::alloc::Global;
 use std::test::Fail;
 use test_help::{assigns, sections, state_of};
 use tt_improve::{Improved, improve};
-use tt_io::{Progress, Silent};
 use tt_state::State;
+use tt_watch::{Progress, Silent};
 
 /// A class with two times, of which the second costs less.
 const TWO_TIMES: &str = r#"{"nrDays":1,"nrWeeks":1,"slotsPerDay":288,

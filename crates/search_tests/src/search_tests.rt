@@ -1,17 +1,18 @@
 ghost use Rattle.std.specs.Prelude.{◌≡◌, IfOk};
-ghost use Rattle.tt_solution.specs.Timetable.{IsTimetableOf};
+ghost use Rattle.tt_published.specs.Timetable.{IsTimetableOf};
 
 use crate::counting::Counting;
 use std::alloc::Global;
 use std::test::Fail;
 use test_help::{assigns, forces, small_problem, state_of};
 use tt_fields::FileFault;
-use tt_io::{Progress, Silent};
 use tt_problem::Problem;
+use tt_published::Published;
 use tt_read::read;
 use tt_search::{place, recall, repair, search};
-use tt_solution::{Published, read_published};
+use tt_solution::read_published;
 use tt_state::State;
+use tt_watch::{Progress, Silent};
 
 /// A class with two times, the first without a penalty, and a student of its course.
 const TWO_TIMES: &str = r#"{"nrDays":1,"nrWeeks":1,"slotsPerDay":288,

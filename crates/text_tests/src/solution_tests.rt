@@ -2,7 +2,8 @@ use std::alloc::Global;
 use std::test::Fail;
 use test_help::{assigns, problem, sections, state_of, value};
 use tt_problem::Problem;
-use tt_solution::{Published, moved, read_published, write_published};
+use tt_published::{Published, moved};
+use tt_solution::{read_published, write_published};
 use tt_state::State;
 use tt_text::Reply;
 

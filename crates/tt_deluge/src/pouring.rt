@@ -18,9 +18,9 @@ use crate::students::{StudentBuffers, student_round};
 use crate::words::draw_below;
 use rand_pcg::Lcg64Xsh32;
 use std::alloc::{AllocError, Global};
-use tt_io::{Progress, Watcher};
 use tt_plan::domain_size;
 use tt_state::State;
+use tt_watch::{Progress, Watcher};
 
 /// How many rounds were made, and how many changes led to where they end.
 #[derive(Clone, Copy, Debug, PartialEq, Eq)]

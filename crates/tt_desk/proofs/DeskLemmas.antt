@@ -16,9 +16,9 @@ use Rattle.tt_desk.specs.declared.refusal.Refusal.TheVariants.{NoSuchClass}
 use Rattle.std.specs.Prelude.{codes}
 use Rattle.tt_score.specs.Totals.{totals_of}
 use Rattle.tt_state.specs.Sound.{is_ready}
-use Rattle.tt_solution.specs.Published.{timetable_of}
+use Rattle.tt_published.specs.Published.{timetable_of}
 use Rattle.tt_solution.specs.Text.{published_text}
-use Rattle.tt_solution.specs.Timetable.{Timetable}
+use Rattle.tt_published.specs.Timetable.{Timetable}
 use Rattle.tt_desk.specs.Desk.{Session, Answer, carried_out, known_classes, step_from, with_published, not_ready}
 use Rattle.tt_base.specs.Chain.{◌>>=◌}
 use Rattle.std.specs.Prelude.{OnErr, IsOk}

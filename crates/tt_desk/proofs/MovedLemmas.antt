@@ -20,9 +20,9 @@ use Rattle.tt_clash.specs.ConflictSet.{conflict_set}
 use Rattle.tt_clash.specs.Forced.{IsOther}
 use Rattle.tt_clash.proofs.SetLemmas.{conflict_set-distinct, conflict_set-others, differ-valid}
 use Rattle.tt_score.specs.Forcing.{among}
-use Rattle.tt_solution.specs.Timetable.{Timetable, IsTimetableOf}
-use Rattle.tt_solution.specs.Published.{is_moved, moved_in}
-use Rattle.tt_solution.proofs.MovedLemmas.{moved_few, moved_same}
+use Rattle.tt_published.specs.Timetable.{Timetable, IsTimetableOf}
+use Rattle.tt_published.specs.Published.{is_moved, moved_in}
+use Rattle.tt_published.proofs.MovedLemmas.{moved_few, moved_same}
 use Rattle.tt_state.specs.Snapshots.{Snapshot, in_order, with_list}
 use Rattle.tt_state.specs.Values.{conflicts_of, obstacle_of}
 use Rattle.tt_state.specs.History.{Held, desk_of, stepped, with_taken}

@@ -14,8 +14,8 @@ use Rattle.tt_problem.specs.declared.parts.Parts.{Parts}
 use Rattle.tt_search.specs.PlaceTurns.{all_least, burden_of, least_values}
 use Rattle.tt_search.specs.Recalled.{recalled_locks, stays_locked}
 use Rattle.tt_search.specs.Turns.{chosen_value, is_available, is_open, price_of}
-use Rattle.tt_solution.specs.Published.{published_value}
-use Rattle.tt_solution.specs.Timetable.{Timetable}
+use Rattle.tt_published.specs.Published.{published_value}
+use Rattle.tt_published.specs.Timetable.{Timetable}
 use Rattle.tt_state.specs.declared.obstacle.Obstacle.{Obstacle}
 use Rattle.tt_state.specs.declared.obstacle.Obstacle.TheVariants.{Blocked, Held}
 use Rattle.tt_state.specs.Snapshots.{Snapshot, is_locked_in, may_lock, value_in, with_unplaced, with_value}

@@ -2,8 +2,8 @@
 use Rattle.std.specs.Prelude.{◌≡◌, ℕ, List, [], ◌∷◌, Option, Some, None, count_by}
 use Rattle.tt_bits.specs.declared.times.Value.{Value}
 use Rattle.tt_problem.specs.declared.parts.Parts.{Parts}
-use Rattle.tt_solution.specs.Timetable.{Timetable}
-use Rattle.tt_solution.specs.Published.{is_moved, moved_in}
+use Rattle.tt_published.specs.Timetable.{Timetable}
+use Rattle.tt_published.specs.Published.{is_moved, moved_in}
 use Rattle.tt_state.specs.Snapshots.{Snapshot}
 
 -- how many are moved now, and how many were before each of the newest steps, the newest first

@@ -12,7 +12,7 @@ use Rattle.tt_problem.specs.declared.parts.Parts.{Parts}
 use Rattle.tt_search.specs.PlaceTurns.{Moment, all_least, burden_of, least_values}
 use Rattle.tt_search.specs.Recalled.{recalled_locks}
 use Rattle.tt_search.specs.Turns.{chosen_value, is_open, price_of}
-use Rattle.tt_solution.specs.Timetable.{Timetable}
+use Rattle.tt_published.specs.Timetable.{Timetable}
 use Rattle.tt_state.specs.declared.obstacle.Obstacle.TheVariants.{Blocked}
 use Rattle.tt_state.specs.Snapshots.{Snapshot, value_in, with_unplaced, with_value}
 use Rattle.tt_state.specs.Values.{blocked_of, obstacle_of}

@@ -10,9 +10,9 @@ use crate::reply::put_refusal;
 use crate::session::Session;
 use crate::wanting::Wanting;
 use std::alloc::Global;
-use tt_io::Watcher;
 use tt_script::{Command, Line, read_line};
 use tt_text::Reply;
+use tt_watch::Watcher;
 
 impl Session {
     // Carries a command out, or says why it is refused. Its own lines are put into an empty reply.

@@ -4,8 +4,8 @@ ghost use Rattle.std.specs.Prelude.{◌≡◌, ◌+◌, ◌<◌, ◌≤◌, ◌^
 ghost use Rattle.tt_problem.specs.declared.parts.Parts.{Parts};
 ghost use Rattle.tt_problem.specs.Valid.{IsValid};
 ghost use Rattle.tt_plan.specs.Domain.{IsOfDomain};
-ghost use Rattle.tt_solution.specs.Published.{is_moved, moved_in};
-ghost use Rattle.tt_solution.specs.Timetable.{IsTimetableOf, Timetable};
+ghost use Rattle.tt_published.specs.Published.{is_moved, moved_in};
+ghost use Rattle.tt_published.specs.Timetable.{IsTimetableOf, Timetable};
 ghost use Rattle.tt_state.specs.History.{earlier, with_taken};
 ghost use Rattle.tt_state.specs.Snapshots.{Snapshot};
 ghost use Rattle.tt_state.specs.Values.{conflicts_of, obstacle_of};
@@ -14,7 +14,7 @@ ghost use Rattle.tt_desk.specs.MovedNow.{AreMovedIn, moved_among};
 use std::alloc::Global;
 use std::marker::Model;
 use tt_bits::Value;
-use tt_solution::{Published, is_moved, moved};
+use tt_published::{Published, is_moved, moved};
 use tt_state::State;
 
 /// How many published classes are moved, and how many were before each of the newest steps, as far

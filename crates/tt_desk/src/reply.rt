@@ -14,8 +14,8 @@ use std::alloc::AllocError;
 use tt_enrol::Enrolled;
 use tt_explain::{add_block, add_value};
 use tt_problem::Problem;
+use tt_published::Published;
 use tt_score::Totals;
-use tt_solution::Published;
 use tt_suggest::{Move, Suggested, Suggestion};
 use tt_text::Reply;
 

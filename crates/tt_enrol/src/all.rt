@@ -8,8 +8,8 @@ ghost use Rattle.tt_enrol.specs.Steps.{with_counts};
 use crate::enrolling::{Buffers, find};
 use std::alloc::{AllocError, Global};
 use tt_choice::seat;
-use tt_io::{Progress, Watcher};
 use tt_state::State;
+use tt_watch::{Progress, Watcher};
 
 /// How many students got an enrolment, and how many were left as they were.
 #[derive(Clone, Copy, Debug, PartialEq, Eq)]

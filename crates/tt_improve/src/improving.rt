@@ -16,8 +16,8 @@ use rand_core::Rng;
 use rand_pcg::Lcg64Xsh32;
 use std::alloc::{AllocError, Global};
 use tt_choice::ChoiceBuffers;
-use tt_io::{Progress, Watcher};
 use tt_state::State;
+use tt_watch::{Progress, Watcher};
 
 /// How many rounds were made, and how many of them changed something.
 #[derive(Clone, Copy, Debug, PartialEq, Eq)]

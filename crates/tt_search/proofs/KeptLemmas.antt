@@ -15,7 +15,7 @@ use Rattle.tt_draw.specs.Words.{drawn, random_words}
 use Rattle.tt_problem.specs.declared.parts.Parts.{Parts}
 use Rattle.tt_plan.specs.Domain.{IsOfDomain, domain_of}
 use Rattle.tt_plan.proofs.DomainLaws.{IsOfDomain_iff}
-use Rattle.tt_solution.specs.Timetable.{Timetable}
+use Rattle.tt_published.specs.Timetable.{Timetable}
 use Rattle.tt_state.specs.Snapshots.{Snapshot, StaysLocked, is_locked_in, value_in}
 use Rattle.tt_state.specs.Values.{obstacle_of}
 use Rattle.tt_state.specs.Forced.{forced}

@@ -5,8 +5,8 @@ use Rattle.std.specs.Option.{option_map_or}
 use Rattle.std.proofs.lemmas.List.FromFn.{length-map-range_with_len}
 use Rattle.tt_bits.specs.declared.times.Value.{Value}
 use Rattle.tt_problem.specs.declared.parts.Parts.{Parts}
-use Rattle.tt_solution.specs.Published.{published_plan, published_value}
-use Rattle.tt_solution.specs.Timetable.{Timetable}
+use Rattle.tt_published.specs.Published.{published_plan, published_value}
+use Rattle.tt_published.specs.Timetable.{Timetable}
 use Rattle.tt_state.specs.Snapshots.{Snapshot, is_locked_in, value_in}
 use Rattle.tt_state.specs.Values.{is_value}
 use Rattle.tt_search.specs.Changed.{placed_back, with_places}

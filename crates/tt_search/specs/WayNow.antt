@@ -1,7 +1,7 @@
 -- Proof. What the code of turns keeps of the present snapshot.
 use Rattle.std.specs.Prelude.{◌≡◌, [], Option}
 use Rattle.tt_problem.specs.declared.parts.Parts.{Parts}
-use Rattle.tt_solution.specs.Timetable.{Timetable}
+use Rattle.tt_published.specs.Timetable.{Timetable}
 use Rattle.tt_state.specs.Snapshots.{Snapshot}
 use Rattle.tt_search.specs.declared.way.Way.{Way}
 use Rattle.tt_search.specs.Drawing.{AreCandidates}

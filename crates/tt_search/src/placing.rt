@@ -19,8 +19,8 @@ use crate::weights::ClassWeights;
 use rand_core::Rng;
 use rand_pcg::Lcg64Xsh32;
 use std::alloc::{AllocError, Global};
-use tt_io::Watcher;
 use tt_state::State;
+use tt_watch::Watcher;
 
 /// What moves are chosen by.
 #[derive(Drop)]

@@ -1,6 +1,6 @@
 ghost use Rattle.std.specs.Prelude.{◌≡◌, ◌<◌, ◌∷◌, [], Some, IfOk, OnOk, OnErr, length, None, ℕ};
 ghost use Rattle.std.specs.Option.{option_copied, ForSome};
-ghost use Rattle.tt_solution.specs.Timetable.{IsTimetableOf};
+ghost use Rattle.tt_published.specs.Timetable.{IsTimetableOf};
 ghost use Rattle.tt_state.specs.History.{IsWithinStep, desk_of, earlier, stepped, trail, with_taken};
 ghost use Rattle.tt_state.specs.Snapshots.{StaysLocked};
 ghost use Rattle.tt_search.specs.Least.{IsFirstLeast};
@@ -13,9 +13,9 @@ use crate::way::Way;
 use rand_core::Rng;
 use rand_pcg::Lcg64Xsh32;
 use std::alloc::{AllocError, Global};
-use tt_io::Watcher;
-use tt_solution::Published;
+use tt_published::Published;
 use tt_state::State;
+use tt_watch::Watcher;
 
 /// Makes turns in the last step, until so many are made or there is no candidate. The watcher is told
 /// of each. The answer is the number of turns.

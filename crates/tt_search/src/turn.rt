@@ -3,7 +3,7 @@ ghost use Rattle.tt_state.specs.History.{with_taken};
 ghost use Rattle.std.specs.List.{filter};
 ghost use Rattle.std.specs.Option.{option_copied, option_map, ForSome};
 ghost use Rattle.tt_base.specs.Lists.{comes_before, least_after};
-ghost use Rattle.tt_solution.specs.Timetable.{IsTimetableOf};
+ghost use Rattle.tt_published.specs.Timetable.{IsTimetableOf};
 ghost use Rattle.tt_state.specs.Values.{blocked_of, conflicts_of, conflicts_without, total_with};
 ghost use Rattle.tt_state.specs.Weights.{weight_of};
 ghost use Rattle.tt_search.specs.Turns.{chosen_value, is_available, price_of, turn_of};
@@ -15,7 +15,7 @@ use crate::drawing::{Candidates, is_open};
 use crate::price::{Price, is_stray};
 use tt_bits::Value;
 use tt_plan::{domain_size, value_at};
-use tt_solution::Published;
+use tt_published::Published;
 use tt_state::State;
 
 /// The class of a turn, and the value that it is forced to, if it has an available one.

@@ -1,7 +1,7 @@
 ghost use Rattle.std.specs.Prelude.{◌≡◌, ◌+◌, ◌<◌, ◌∷◌, ◌++◌, [], IfOk, IfSome, OnOk, OnErr, length, Option, slice_get, if◌then◌else◌};
 ghost use Rattle.std.specs.Option.{option_copied, ForSome};
-ghost use Rattle.tt_solution.specs.Published.{moved_in};
-ghost use Rattle.tt_solution.specs.Timetable.{IsTimetableOf, Timetable};
+ghost use Rattle.tt_published.specs.Published.{moved_in};
+ghost use Rattle.tt_published.specs.Timetable.{IsTimetableOf, Timetable};
 ghost use Rattle.tt_state.specs.History.{IsWithinStep, before_step, desk_of, earlier, moved_to, trail, with_taken};
 ghost use Rattle.tt_state.specs.Values.{conflicts_of};
 ghost use Rattle.tt_base.specs.Lists.{comes_before};
@@ -16,9 +16,9 @@ use crate::moving::MovedClasses;
 use crate::price::{Rank, rank_now};
 use crate::turn::Move;
 use std::alloc::{AllocError, Global};
-use tt_io::Progress;
-use tt_solution::Published;
+use tt_published::Published;
 use tt_state::State;
+use tt_watch::Progress;
 
 /// The best moment so far: its rank, and its place in the trail of the last step.
 #[derive(Clone, Copy, Debug, PartialEq, Eq)]

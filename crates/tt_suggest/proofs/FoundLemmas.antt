@@ -9,8 +9,8 @@ use Rattle.tt_base.specs.Lists.{is_less, least_after}
 use Rattle.tt_base.proofs.ListLemmas.{least_after_none}
 use Rattle.tt_bits.specs.declared.times.Value.{Value}
 use Rattle.tt_problem.specs.declared.parts.Parts.{Parts}
-use Rattle.tt_solution.specs.Published.{moved_in}
-use Rattle.tt_solution.specs.Timetable.{Timetable}
+use Rattle.tt_published.specs.Published.{moved_in}
+use Rattle.tt_published.specs.Timetable.{Timetable}
 use Rattle.tt_state.specs.declared.obstacle.Obstacle.{Obstacle}
 use Rattle.tt_state.specs.Snapshots.{Snapshot, is_locked_in, with_value}
 use Rattle.tt_state.specs.Values.{conflicts_of, obstacle_of, total_with}

@@ -4,9 +4,9 @@ use Rattle.std.specs.Prelude.{slice_set}
 use Rattle.std.specs.Int.{from_bool}
 use Rattle.tt_bits.specs.declared.times.Value.{Value}
 use Rattle.tt_problem.specs.declared.parts.Parts.{Parts}
-use Rattle.tt_solution.specs.Timetable.{Timetable}
-use Rattle.tt_solution.specs.Published.{is_moved, moved_of}
-use Rattle.tt_solution.proofs.MovedLemmas.{moved_changed}
+use Rattle.tt_published.specs.Timetable.{Timetable}
+use Rattle.tt_published.specs.Published.{is_moved, moved_of}
+use Rattle.tt_published.proofs.MovedLemmas.{moved_changed}
 
 -- 1 for what holds, else 0
 abbrev flag : Bool → ℕ

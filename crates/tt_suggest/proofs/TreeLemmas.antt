@@ -9,7 +9,7 @@ use Rattle.tt_base.proofs.ListLemmas.{drop_at, least_after_append, least_after_n
 use Rattle.tt_bits.specs.declared.times.Value.{Value}
 use Rattle.tt_problem.specs.declared.parts.Parts.{Parts}
 use Rattle.tt_plan.specs.Domain.{domain_of}
-use Rattle.tt_solution.specs.Timetable.{Timetable}
+use Rattle.tt_published.specs.Timetable.{Timetable}
 use Rattle.tt_state.specs.Snapshots.{Snapshot}
 use Rattle.tt_suggest.specs.declared.branch.Branch.{Branch}
 use Rattle.tt_suggest.specs.declared.suggestion.Suggested.{Suggested}

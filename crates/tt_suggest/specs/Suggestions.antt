@@ -3,8 +3,8 @@ use Rattle.std.specs.Prelude.{ℕ, List, [], ◌∷◌, Option, map}
 use Rattle.tt_base.specs.Lists.{first_least}
 use Rattle.tt_problem.specs.declared.parts.Parts.{Parts}
 use Rattle.tt_score.specs.Totals.{totals_of}
-use Rattle.tt_solution.specs.Timetable.{Timetable}
-use Rattle.tt_solution.specs.Published.{moved_in}
+use Rattle.tt_published.specs.Timetable.{Timetable}
+use Rattle.tt_published.specs.Published.{moved_in}
 use Rattle.tt_state.specs.Snapshots.{Snapshot}
 use Rattle.tt_suggest.specs.declared.suggestion.Suggestion.{Suggestion}
 use Rattle.tt_suggest.specs.declared.suggestion.Suggested.{Suggested}

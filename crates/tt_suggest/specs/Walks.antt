@@ -4,8 +4,8 @@ use Rattle.std.specs.List.{flat_map, sum_by}
 use Rattle.tt_base.specs.Lists.{least_after}
 use Rattle.tt_bits.specs.declared.times.Value.{Value}
 use Rattle.tt_problem.specs.declared.parts.Parts.{Parts}
-use Rattle.tt_solution.specs.Published.{moved_in}
-use Rattle.tt_solution.specs.Timetable.{Timetable}
+use Rattle.tt_published.specs.Published.{moved_in}
+use Rattle.tt_published.specs.Timetable.{Timetable}
 use Rattle.tt_state.specs.History.{Held, IsWithinStep, trail, with_taken}
 use Rattle.tt_state.specs.Snapshots.{Snapshot}
 use Rattle.tt_suggest.specs.declared.branch.Branch.{Branch}

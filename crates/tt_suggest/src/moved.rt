@@ -1,13 +1,13 @@
 ghost use Rattle.std.specs.Prelude.{◌≡◌, ◌<◌, slice_set, Option};
 ghost use Rattle.std.specs.Option.{option_copied, ForSome};
-ghost use Rattle.tt_solution.specs.Published.{is_moved, keeps, moved_in, moved_of};
-ghost use Rattle.tt_solution.specs.Timetable.{IsTimetableOf};
+ghost use Rattle.tt_published.specs.Published.{is_moved, keeps, moved_in, moved_of};
+ghost use Rattle.tt_published.specs.Timetable.{IsTimetableOf};
 ghost use Rattle.tt_state.specs.Snapshots.{with_value};
 ghost use Rattle.tt_state.specs.Values.{MayHave};
 
 use tt_bits::Value;
 use tt_problem::Problem;
-use tt_solution::{Published, is_moved, moved};
+use tt_published::{Published, is_moved, moved};
 use tt_state::State;
 
 /// How many published classes are moved at present; 0 where nothing is published.
@@ -37,7 +37,7 @@ fn keeps(problem: &Problem, published: &Published, class: u32, value: Option<Val
 }
 
 /// Whether a class is moved once it has this value or none.
-#[tactic(auto, using(tt_solution::proofs::MovedLemmas::moved_at))]
+#[tactic(auto, using(tt_published::proofs::MovedLemmas::moved_at))]
 fn will_be_moved(state: &State, published: &Published, class: u32, value: Option<Value>) -> bool
     requires belongs { IsTimetableOf state.now.problem published.now }
     requires may { MayHave state.now.problem class value }

@@ -1,8 +1,8 @@
 ghost use Rattle.std.specs.Prelude.{◌≡◌, ◌+◌, ◌<◌, ◌≤◌, All, IfOk, OnOk, None, false, length};
 ghost use Rattle.std.specs.Option.{option_copied, ForSome};
 ghost use Rattle.tt_plan.specs.Domain.{IsOfDomain};
-ghost use Rattle.tt_solution.specs.Published.{moved_in};
-ghost use Rattle.tt_solution.specs.Timetable.{IsTimetableOf};
+ghost use Rattle.tt_published.specs.Published.{moved_in};
+ghost use Rattle.tt_published.specs.Timetable.{IsTimetableOf};
 ghost use Rattle.tt_state.specs.History.{earlier};
 ghost use Rattle.tt_state.specs.Snapshots.{is_locked_in, with_value};
 ghost use Rattle.tt_state.specs.Values.{MayHave, conflicts_of};
@@ -13,7 +13,7 @@ use crate::branch::Branch;
 use crate::moved::moved_with;
 use std::alloc::{AllocError, Global};
 use tt_bits::Value;
-use tt_solution::Published;
+use tt_published::Published;
 use tt_state::State;
 
 /// Gives a class a value, or none where it isn't locked, in the last step. The answer is how many

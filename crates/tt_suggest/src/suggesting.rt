@@ -2,8 +2,8 @@ ghost use Rattle.std.specs.Prelude.{◌≡◌, ◌≢◌, ◌↔◌, ◌+◌, �
 ghost use Rattle.std.specs.Option.{option_copied, ForSome};
 ghost use Rattle.tt_base.specs.Lists.{least_after};
 ghost use Rattle.tt_plan.specs.Domain.{IsOfDomain};
-ghost use Rattle.tt_solution.specs.Published.{moved_in};
-ghost use Rattle.tt_solution.specs.Timetable.{IsTimetableOf};
+ghost use Rattle.tt_published.specs.Published.{moved_in};
+ghost use Rattle.tt_published.specs.Timetable.{IsTimetableOf};
 ghost use Rattle.tt_state.specs.History.{IsWithinStep, earlier, with_taken};
 ghost use Rattle.tt_state.specs.Snapshots.{with_value};
 ghost use Rattle.tt_state.specs.Values.{conflicts_of, total_with};
@@ -19,7 +19,7 @@ use crate::suggestion::{Moves, Rank, SuggestEnd, Suggested, Suggestion};
 use std::alloc::{AllocError, Global};
 use tt_bits::Value;
 use tt_plan::{domain_size, value_at};
-use tt_solution::Published;
+use tt_published::Published;
 use tt_state::State;
 
 /// The most values that are tried.

@@ -4,7 +4,7 @@ use Rattle.tt_problem.specs.declared.parts.Parts.{Parts}
 use Rattle.tt_fields.specs.Answer.{Fault}
 use Rattle.tt_fields.specs.Faults.{fault_number}
 use Rattle.tt_read.specs.Tables.{problem_of}
-use Rattle.tt_solution.specs.Timetable.{Timetable}
+use Rattle.tt_published.specs.Timetable.{Timetable}
 use Rattle.tt_solution.specs.Tables.{published_of}
 use Rattle.tt_text.specs.Fields.{field}
 use Rattle.tt_base.specs.Chain.{◌>>=◌}

@@ -3,7 +3,7 @@ use Rattle.std.specs.Prelude.{ℕ, nat_lt, ◌==◌, List, [], ◌∷◌, ◌++�
 use Rattle.std.specs.List.{concat}
 use Rattle.tt_problem.specs.declared.parts.Parts.{Parts}
 use Rattle.tt_read.specs.Tables.{problem_of}
-use Rattle.tt_solution.specs.Timetable.{Timetable}
+use Rattle.tt_published.specs.Timetable.{Timetable}
 use Rattle.tt_solution.specs.Tables.{published_of}
 use Rattle.tt_make.specs.Text.{make_text}
 use Rattle.tt_text.specs.Fields.{field}

@@ -11,7 +11,8 @@ use crate::plain_run::{demo, make};
 use crate::serve::hand_on;
 use crate::verify_run::verify_files;
 use std::alloc::Global;
-use tt_io::{Files, Silent, Sink, Watcher};
+use tt_io::{Files, Sink};
+use tt_watch::{Silent, Watcher};
 
 // The most bytes of a file.
 const FILE_LIMIT: u64 = 134_217_728;

@@ -1,7 +1,7 @@
 ghost use Rattle.std.specs.Prelude.{◌≡◌, ◌≢◌, ◌+◌, ◌∷◌, [], ℕ, List, Err, IfOk, IfErr, IsOk, Ok, OnOk};
 ghost use Rattle.tt_io.specs.Causes.{Asks, Writes};
 ghost use Rattle.tt_io.specs.Whole.{WritesFront};
-ghost use Rattle.tt_solution.specs.Timetable.{IsTimetableOf};
+ghost use Rattle.tt_published.specs.Timetable.{IsTimetableOf};
 ghost use Rattle.tt_top.specs.PlainRun.{check_phase, checking, solution_phase};
 ghost use Rattle.tt_top.specs.Run.{HasAtMost, IsReadAtMost, IsVerifyRun, left_open, moment};
 ghost use Rattle.tt_top.specs.Ends.{Agrees, HasEndCause, Loads, done_status, status_of};
@@ -15,7 +15,7 @@ use crate::serve::hand_on;
 use std::alloc::{AllocError, Global};
 use tt_io::{Files, Sink};
 use tt_problem::Problem;
-use tt_solution::Published;
+use tt_published::Published;
 use tt_text::Reply;
 use tt_verify::verify;
 

@@ -27,8 +27,8 @@ use Rattle.tt_score.specs.Totals.{totals_of}
 use Rattle.tt_score.proofs.PlanLemmas.{spot_in}
 use Rattle.tt_verify.specs.declared.violation.Violation.{Violation}
 use Rattle.tt_verify.specs.declared.violation.Violation.TheVariants as what
-use Rattle.tt_solution.specs.Published.{published_plan, published_value}
-use Rattle.tt_solution.specs.Timetable.{Timetable}
+use Rattle.tt_published.specs.Published.{published_plan, published_value}
+use Rattle.tt_published.specs.Timetable.{Timetable}
 use Rattle.tt_verify.specs.Hard.{AreAsManyAsHard}
 use Rattle.tt_verify.specs.Verified.{totals_in}
 use Rattle.tt_verify.specs.Pairs.{are_related, related_pairs}

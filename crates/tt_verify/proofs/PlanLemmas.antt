@@ -17,8 +17,8 @@ use Rattle.tt_roster.specs.Lists.{Ascends}
 use Rattle.tt_score.specs.Members.{AreSpotsOf}
 use Rattle.tt_score.specs.Plans.{IsPlanOf}
 use Rattle.tt_score.proofs.PlanLemmas.{spot_in, length-spots_from}
-use Rattle.tt_solution.specs.Published.{published_plan, published_value}
-use Rattle.tt_solution.specs.Timetable.{Timetable}
+use Rattle.tt_published.specs.Published.{published_plan, published_value}
+use Rattle.tt_published.specs.Timetable.{Timetable}
 
 -- the spots of the classes before place i are these, and fit the problem
 pub record AreSpotsTo (p : Parts) (plan : List (Option Value)) (i : ℕ) (done : List (Option Spot)) : Type 0 where

@@ -2,7 +2,7 @@
 use Rattle.std.proofs.Common.{◌≡◌, ℕ, List, ◌++◌, length, refl}
 use Rattle.tt_problem.specs.declared.parts.Parts.{Parts}
 use Rattle.tt_verify.specs.declared.sums.Sums.{Sums}
-use Rattle.tt_solution.specs.Timetable.{Timetable}
+use Rattle.tt_published.specs.Timetable.{Timetable}
 use Rattle.tt_verify.specs.declared.violation.Violation.{Violation}
 use Rattle.tt_verify.specs.Lines.{lines_of, sum_line, verdict_line}
 use Rattle.tt_verify.specs.Verified.{sums_of, totals_in, verified_text}

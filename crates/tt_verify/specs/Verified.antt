@@ -3,8 +3,8 @@ use Rattle.std.specs.Prelude.{ℕ, List, [], ◌++◌, length}
 use Rattle.tt_problem.specs.declared.parts.Parts.{Parts}
 use Rattle.tt_score.specs.declared.totals.Totals.{Totals}
 use Rattle.tt_score.specs.Totals.{totals_of}
-use Rattle.tt_solution.specs.Published.{published_plan}
-use Rattle.tt_solution.specs.Timetable.{Timetable}
+use Rattle.tt_published.specs.Published.{published_plan}
+use Rattle.tt_published.specs.Timetable.{Timetable}
 use Rattle.tt_verify.specs.declared.sums.Sums.{Sums}
 use Rattle.tt_verify.specs.declared.violation.Violation.{Violation}
 use Rattle.tt_verify.specs.Violations.{violations_of}

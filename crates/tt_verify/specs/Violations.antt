@@ -18,8 +18,8 @@ use Rattle.tt_occupancy.specs.Clashes.{clash}
 use Rattle.tt_plan.specs.Domain.{spots_of}
 use Rattle.tt_roster.specs.Lists.{list_of}
 use Rattle.tt_score.specs.Amounts.{rule_amount}
-use Rattle.tt_solution.specs.Published.{published_plan}
-use Rattle.tt_solution.specs.Timetable.{Timetable, has_published}
+use Rattle.tt_published.specs.Published.{published_plan}
+use Rattle.tt_published.specs.Timetable.{Timetable, has_published}
 use Rattle.tt_struct.specs.Enrolments.{is_enrolment}
 use Rattle.tt_verify.specs.declared.violation.Violation.{Violation}
 use Rattle.tt_verify.specs.declared.violation.Violation.TheVariants as what

@@ -1,6 +1,6 @@
 ghost use Rattle.std.specs.Prelude.{◌≡◌, ◌++◌, IfOk, OnOk, length, vec_len};
 ghost use Rattle.tt_score.specs.Members.{AreSpotsOf};
-ghost use Rattle.tt_solution.specs.Timetable.{IsTimetableOf};
+ghost use Rattle.tt_published.specs.Timetable.{IsTimetableOf};
 ghost use Rattle.tt_verify.specs.Hard.{AreAsManyAsHard};
 ghost use Rattle.tt_verify.specs.Lines.{lines_of, sum_line, verdict_line};
 ghost use Rattle.tt_verify.specs.Verified.{sums_of, totals_in, verified_text};
@@ -18,7 +18,7 @@ use std::alloc::{AllocError, Global};
 use tt_bits::{Spot, Value};
 use tt_clash::Closures;
 use tt_problem::Problem;
-use tt_solution::Published;
+use tt_published::Published;
 use tt_text::Reply;
 
 /// Adds what is wrong with the listed classes and with the students' lists.

@@ -3,7 +3,7 @@ ghost use Rattle.std.specs.List.{list_any};
 ghost use Rattle.tt_bits.specs.Times.{overlaps};
 ghost use Rattle.tt_clash.specs.Blocked.{is_closed};
 ghost use Rattle.tt_score.specs.Members.{AreSpotsOf};
-ghost use Rattle.tt_solution.specs.Timetable.{IsTimetableOf};
+ghost use Rattle.tt_published.specs.Timetable.{IsTimetableOf};
 ghost use Rattle.tt_verify.specs.Counts.{limit_faults_by};
 ghost use Rattle.tt_verify.specs.Violations.{class_fault, class_faults, closed_fault, closed_faults, limit_fault_with};
 
@@ -12,7 +12,7 @@ use std::alloc::AllocError;
 use tt_bits::{Spot, Time, Value};
 use tt_clash::Closures;
 use tt_problem::Problem;
-use tt_solution::Published;
+use tt_published::Published;
 
 /// Adds a class that isn't listed, or is listed and has no value.
 #[tactic(auto, unfolding(crate::specs::Violations::class_fault))]

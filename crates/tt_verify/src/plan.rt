@@ -2,14 +2,14 @@ ghost use Rattle.std.specs.Prelude.{◌≡◌, ◌<◌, IfOk, IfSome, length, op
 ghost use Rattle.tt_plan.specs.Domain.{IsOfDomain, IsSpotOf, spot_at_value, spots_of};
 ghost use Rattle.tt_score.specs.Members.{AreSpotsOf};
 ghost use Rattle.tt_score.specs.Plans.{IsPlanOf};
-ghost use Rattle.tt_solution.specs.Published.{published_plan};
-ghost use Rattle.tt_solution.specs.Timetable.{IsTimetableOf};
+ghost use Rattle.tt_published.specs.Published.{published_plan};
+ghost use Rattle.tt_published.specs.Timetable.{IsTimetableOf};
 
 use std::alloc::{AllocError, Global};
 use tt_bits::{Spot, Value};
 use tt_plan::spot;
 use tt_problem::Problem;
-use tt_solution::{Published, published_value};
+use tt_published::{Published, published_value};
 
 /// The value of each class with which it meets as published, or none.
 pub fn published_plan(

@@ -6,7 +6,7 @@ ghost use Rattle.tt_score.specs.Members.{AreSpotsOf};
 ghost use Rattle.tt_score.specs.Placed.{over_placed};
 ghost use Rattle.tt_score.specs.Plans.{IsPlanOf};
 ghost use Rattle.tt_score.specs.Weighted.{weighted};
-ghost use Rattle.tt_solution.specs.Timetable.{IsTimetableOf};
+ghost use Rattle.tt_published.specs.Timetable.{IsTimetableOf};
 ghost use Rattle.tt_score.specs.Totals.{totals_of};
 ghost use Rattle.tt_verify.specs.Costs.{cost_at};
 ghost use Rattle.tt_verify.specs.Verified.{sums_of};
@@ -17,8 +17,8 @@ use std::alloc::{AllocError, Global};
 use tt_bits::{Spot, Value};
 use tt_plan::{room_penalty, time_penalty};
 use tt_problem::{DistKind, Problem, Rule, Weights};
+use tt_published::Published;
 use tt_score::Penalties;
-use tt_solution::Published;
 
 /// The penalties of a plan and of the lists of the students, and their total.
 #[derive(Clone, Copy)]

@@ -13,8 +13,9 @@ use reason::{Reason, shown_name, words_of};
 use std::alloc::Global;
 use std::io::{Error, IsTerminal};
 use std::process::ExitCode;
-use tt_io::{RealFiles, StdSink, StdWatcher};
+use tt_io::{RealFiles, StdSink};
 use tt_top::run_watched;
+use tt_watch::StdWatcher;
 
 // Says on standard error how a run ended whose output doesn't say it, where this is the name that was
 // asked for last, and this the error of the call that failed. Where standard error takes nothing, the

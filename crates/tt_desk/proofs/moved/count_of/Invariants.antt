@@ -1,5 +1,5 @@
 use Rattle.std.proofs.Common.{◌≡◌, ◌≤◌, count_by, take}
-use Rattle.tt_solution.specs.Published.{is_moved}
+use Rattle.tt_published.specs.Published.{is_moved}
 use Rattle.tt_desk.proofs.moved.count_of.Given as goal
 
 abbrev pub invariant-loop-class : goal.invariant-loop-class

@@ -1,4 +1,4 @@
-use Rattle.tt_solution.proofs.TextLemmas.{always}
+use Rattle.tt_published.proofs.ResultLemmas.{always}
 use Rattle.std.proofs.Common.{refl}
 use Rattle.tt_score.specs.Totals.{totals_of}
 use Rattle.tt_explain.proofs.WrongLemmas.{all_as_counted, hard_as_counted, none_where_ready}

@@ -1,6 +1,6 @@
 use Rattle.std.proofs.Common.{◌≡◌, ◌<◌, length, arith}
-use Rattle.tt_solution.specs.Published.{is_moved}
-use Rattle.tt_solution.proofs.MovedLemmas.{moved_few}
+use Rattle.tt_published.specs.Published.{is_moved}
+use Rattle.tt_published.proofs.MovedLemmas.{moved_few}
 use Rattle.tt_suggest.proofs.MovedLemmas.{moved_numbers, told_few}
 use Rattle.tt_suggest.proofs.moved.moved_by.Goals as goal
 

@@ -1,4 +1,4 @@
-use Rattle.tt_solution.proofs.TextLemmas.{always}
+use Rattle.tt_published.proofs.ResultLemmas.{always}
 use Rattle.tt_verify.proofs.HardLemmas.{as_many_as_hard}
 use Rattle.tt_verify.proofs.checking.add_hard_violations.Goals as goal
 

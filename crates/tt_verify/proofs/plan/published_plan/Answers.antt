@@ -5,7 +5,7 @@ use Rattle.std.proofs.lemmas.Grind.{common_steps}
 use Rattle.std.proofs.lemmas.List.FromFn.{map-range_with_len_more}
 use borrow.Author.Count.{below_more}
 use Rattle.tt_plan.specs.Domain.{IsOfDomain}
-use Rattle.tt_solution.specs.Published.{published_plan, published_value}
+use Rattle.tt_published.specs.Published.{published_plan, published_value}
 use Rattle.tt_verify.proofs.PlanLemmas.{IsPlanOf-published}
 use Rattle.tt_verify.proofs.plan.published_plan.Goals as goal
 

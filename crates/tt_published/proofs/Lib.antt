@@ -1,0 +1,4 @@
+pub mod PlanLemmas
+pub mod MovedLemmas
+pub mod ValueLemmas
+pub mod ResultLemmas

@@ -1,0 +1,4 @@
+pub mod Timetable
+pub mod Published
+pub mod Seen
+pub mod Lists
