@@ -1,5 +1,5 @@
 -- The items of a list that are least, as an item is added.
-use Rattle.std.proofs.Common.{◌≡◌, ℕ, suc, ◌+◌, ◌<◌, ◌≤◌, Bool, true, false, cond, Option, Some, None, List, [], ◌∷◌, ◌++◌, length, refl, ap, subst, sym, ◌∙◌, ◌⊎◌, inl, inr, arith}
+use Rattle.std.proofs.Common.{◌≡◌, ◌≢◌, ℕ, zero, suc, ◌+◌, ◌<◌, ◌≤◌, Bool, true, false, cond, Option, Some, None, List, [], ◌∷◌, ◌++◌, length, refl, ap, subst, sym, ◌∙◌, ◌⊎◌, inl, inr, arith}
 use Rattle.std.specs.Prelude.{All, not, slice_get, slice_index_or, take}
 use Rattle.std.specs.Cmp.{IsStrictWeakOrder, nat_cmp_is}
 use Rattle.std.specs.List.{best_of, filter, list_any, sum_by}
@@ -239,3 +239,15 @@ lies_heavier p s outs class v b more =
     let weight = sum_by (weight_by outs) (conflicts_of p s class v) in
     let lighter : b.weight < weight = omega (arith, more, at_least_1 (weight_by outs) (λ other. omega arith) (conflicts_of p s class v)) in
     rw (sym (nat_cmp_is b.weight weight Less lighter)) refl
+
+-- where an item passes a test, some do
+pub one_passes : {A : Type 0} (test : A → Bool) (xs : List A) (k : ℕ) (x : A) → slice_get xs k ≡ Some x → test x ≡ true → filter test xs ≢ []
+one_passes test [] k x at pass none = absurd (cc)
+one_passes test (y ∷ ys) zero x at pass none =
+    let same : y ≡ x = cc in
+    absurd (cc (sym (rw (same, pass) at none)))
+one_passes test (y ∷ ys) (suc k) x at pass none = by (test y) (one_passes test ys k x at pass) none
+  where
+    by : (b : Bool) → filter test ys ≢ [] → cond b (y ∷ filter test ys) (filter test ys) ≡ [] → ⊥
+    by true some none = absurd (cc none)
+    by false some none = some none

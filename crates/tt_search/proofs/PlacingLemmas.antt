@@ -1,7 +1,7 @@
 -- Turns that learn which classes are hard: what each class weighs, what the words draw, and how far the turns have come.
 use Rattle.std.proofs.Common.{◌≡◌, ℕ, ◌+◌, ◌*◌, ◌-◌, ◌^◌, ◌<◌, ◌≤◌, Bool, true, false, cond, Option, Some, None, List, [], ◌∷◌, ◌++◌, length, map, length-append, refl, ap, ◌∙◌, ◌⊎◌, inl, inr, ◌≢◌, arith}
-use Rattle.std.specs.Prelude.{IfSome, count_by, drop, nat_eq, slice_get, slice_index_or}
-use Rattle.std.specs.Option.{option_map_or}
+use Rattle.std.specs.Prelude.{IfSome, IsSome, count_by, drop, nat_eq, slice_get, slice_index_or}
+use Rattle.std.specs.Option.{option_map, option_map_or}
 use Rattle.std.specs.List.{sum_by}
 use Rattle.std.proofs.lemmas.Bool.Decides.{eqb_tells}
 use Rattle.tt_base.proofs.ListLemmas.{drop_at}
@@ -154,3 +154,26 @@ all_placing p turns seed start made words now trail w best on all =
     let onward_is = no_turn_left two_words (place_turn p) turns made words (record { snapshot = now; outs = on.outs }) (omega (arith, all)) in
     let way = rw onward_is at on.way in
     record { now = way.now; at = way.at; ranked = way.ranked; ends = way.ends; counts = ap (λ n. n + 0) all ∙ way.counts }
+
+-- where a turn leads on, one is made
+pub turn_made : (p : Parts) (turns seed : ℕ) (start : Snapshot) (made : ℕ) (words left : Stream) (pair : TurnWords) (now : Snapshot) (trail : List Snapshot) (w : ClassWeights) (best : Best) → IsPlacing p turns seed start made words now trail w best
+    → made < turns → (pair, left) ≡ two_words words → ((outs : List ℕ) → CountsOuts p outs w → IsSome (place_turn p pair (record { snapshot = now; outs = outs }))) → 0 < length (places_after p turns seed start)
+turn_made p turns seed start made words left pair now trail w best on below is turn = by (place_turn p pair m) refl (turn on.outs on.counts)
+  where
+    m : Moment
+    m = record { snapshot = now; outs = on.outs }
+
+    by : (o : Option Moment) → place_turn p pair m ≡ o → IsSome o → 0 < length (places_after p turns seed start)
+    by None e some = absurd (cc some)
+    by (Some next) e some =
+        let way = rw (made_turn two_words (place_turn p) turns made words left pair m next below is e) at on.way in
+        omega (arith, way.counts)
+
+-- one leads on where a word draws a class
+pub some_turn : (p : Parts) (words : TurnWords) (m : Moment) → IsSome (drawn words.class (candidates p m.snapshot)) → IsSome (place_turn p words m)
+unfolding place_turn
+some_turn p words m some = by (drawn words.class (candidates p m.snapshot)) some
+  where
+    by : (o : Option ℕ) → IsSome o → IsSome (option_map (λ class. after_forcing p m class (drawn words.value (least_values p m class))) o)
+    by None some = absurd (cc some)
+    by (Some class) some = refl

@@ -1,4 +1,4 @@
-ghost use Rattle.std.specs.Prelude.{◌≡◌, ◌<◌, ◌≤◌, ◌^◌, ◌∷◌, ◌++◌, [], ℕ, List, true, false, None, IfNone, IfSome, IsTrue, OnOk, length};
+ghost use Rattle.std.specs.Prelude.{◌≡◌, ◌≢◌, ◌<◌, ◌≤◌, ◌^◌, ◌∷◌, ◌++◌, [], ℕ, List, true, false, None, IfNone, IfSome, IsTrue, OnOk, OnErr, length};
 ghost use Rattle.std.specs.List.{filter};
 ghost use Rattle.tt_draw.specs.Words.{drawn};
 ghost use Rattle.tt_base.specs.Lists.{comes_before};
@@ -179,8 +179,8 @@ impl LeastValues {
         Ok(())
     }
 
-    /// Looks at a value, which is passed over where something stands in its way. `others` are the
-    /// student conflicts without the class.
+    /// Looks at a value, which is passed over where something stands in its way, and for which no memory
+    /// is wanted then. `others` are the student conflicts without the class.
     fn look_at(
         &mut self,
         state: &mut State,
@@ -197,6 +197,7 @@ impl LeastValues {
         ensures entries { state.new.entries ≡ state.old.entries }
         ensures least { OnOk result ((xs : List Value) → AreLeast (burden_by state.old.problem state.old.present weights.now.outs.items class) xs self.old
             → AreLeast (burden_by state.old.problem state.old.present weights.now.outs.items class) (xs ++ filter (is_available state.old.problem state.old.present class) (value ∷ [])) self.new) }
+        ensures memory { OnErr result (is_available state.old.problem state.old.present class value ≡ true) }
     {
         if !is_open(state, class, value) {
             return Ok(());
@@ -207,7 +208,8 @@ impl LeastValues {
         }
     }
 
-    /// Finds the values of a class that are least among those in whose way nothing stands.
+    /// Finds the values of a class that are least among those in whose way nothing stands. Want of memory
+    /// comes only where there is one.
     pub(crate) fn find(
         &mut self,
         state: &mut State,
@@ -221,6 +223,7 @@ impl LeastValues {
         ensures entries { state.new.entries ≡ state.old.entries }
         ensures least { OnOk result (AreLeast (burden_by state.old.problem state.old.present weights.now.outs.items class) (available_values state.old.problem state.old.present class) self.new) }
         ensures few { OnOk result (length self.new.values.items ≤ 1000000) }
+        ensures memory { OnErr result (available_values state.old.problem state.old.present class ≢ []) }
     {
         self.clear();
         let others = state.conflicts_without(class);

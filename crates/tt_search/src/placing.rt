@@ -1,11 +1,13 @@
-ghost use Rattle.std.specs.Prelude.{◌≡◌, ◌<◌, ◌∷◌, [], None, ℕ, List, IfOk, IfSome, OnOk, OnErr, length};
+ghost use Rattle.std.specs.Prelude.{◌≡◌, ◌<◌, ◌∷◌, [], None, ℕ, List, IfOk, IfSome, IsSome, OnOk, OnErr, length};
 ghost use Rattle.std.specs.Option.{option_map};
 ghost use Rattle.tt_state.specs.History.{IsWithinStep, desk_of, earlier, stepped, trail, with_taken};
 ghost use Rattle.tt_state.specs.Snapshots.{StaysLocked};
 ghost use Rattle.tt_search.specs.Least.{IsFirstLeast};
 ghost use Rattle.tt_search.specs.Searched.{rank_of};
 ghost use Rattle.tt_search.specs.PlaceTurns.{all_placed, place_end, place_turn, place_way, places_after};
+ghost use Rattle.tt_draw.specs.Words.{drawn};
 ghost use Rattle.tt_search.specs.Drawing.{AreCandidates};
+ghost use Rattle.tt_search.specs.Turns.{candidates as candidates_of};
 ghost use Rattle.tt_search.specs.Numbers.{MayMake};
 ghost use Rattle.tt_search.specs.UnderWay.{IsUnderWay};
 ghost use Rattle.tt_search.specs.WayNow.{BeginsAt};
@@ -40,7 +42,7 @@ impl Chooser {
     }
 
     /// The class of the turn with two random words, and the value that it is forced to, if it has an
-    /// available one. None where there is no candidate.
+    /// available one. None where there is no candidate. Want of memory comes only where there is one.
     fn next_move(
         &mut self,
         state: &mut State,
@@ -57,6 +59,7 @@ impl Chooser {
         ensures turn { IfOk result (λ next. (outs : List ℕ) → CountsOuts state.old.problem outs self.old.weights
             → place_turn state.old.problem (record { class = class_word; value = value_word }) (record { snapshot = state.old.present; outs = outs }) ≡ option_map (moment_after state.old.problem state.old.present outs) next) }
         ensures may { IfOk result (λ next. IfSome next (MayMake state.old.problem state.old.present)) }
+        ensures memory { OnErr result (IsSome (drawn class_word (candidates_of state.old.problem state.old.present))) }
     {
         let Some(class) = candidates.drawn(class_word) else {
             return Ok(None);
@@ -68,7 +71,7 @@ impl Chooser {
 }
 
 /// Makes turns in the last step, until so many are made or there is no candidate. The watcher is told
-/// of each. The answer is the number of turns.
+/// of each. The answer is the number of turns. Want of memory comes only where a turn is made.
 fn walk<W: Watcher>(
     state: &mut State,
     way: &mut Way,
@@ -83,6 +86,7 @@ fn walk<W: Watcher>(
     requires trail { trail state.old ≡ state.old.present ∷ [] }
     ensures step { IsWithinStep (with_taken state.old []) (with_taken state.new []) }
     ensures way { IfOk result (λ made. let start = state.old in IsUnderWay (rank_of start.problem None) (trail state.new) [] way.new.best made (place_end start.problem turns seed start.present) (length (places_after start.problem turns seed start.present))) }
+    ensures memory { OnErr result (0 < length (places_after state.old.problem turns seed state.old.present)) }
 {
     let mut words = Lcg64Xsh32::new(seed, 1);
     for made in 0..turns {

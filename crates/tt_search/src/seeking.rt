@@ -18,7 +18,7 @@ use tt_state::State;
 use tt_watch::Watcher;
 
 /// Makes turns in the last step, until so many are made or there is no candidate. The watcher is told
-/// of each. The answer is the number of turns.
+/// of each. The answer is the number of turns. Want of memory comes only where a turn is made.
 fn walk<W: Watcher>(
     state: &mut State,
     published: Option<&Published>,
@@ -33,6 +33,7 @@ fn walk<W: Watcher>(
     requires trail { trail state.old ≡ state.old.present ∷ [] }
     ensures step { IsWithinStep (with_taken state.old []) (with_taken state.new []) }
     ensures way { IfOk result (λ made. let aim = option_copied published.entry in let start = state.old in IsUnderWay (rank_of start.problem aim) (trail state.new) [] way.new.best made (search_end start.problem aim turns seed start.present) (turns_made start.problem aim turns seed start.present)) }
+    ensures memory { OnErr result (0 < turns_made state.old.problem (option_copied published.entry) turns seed state.old.present) }
 {
     let mut words = Lcg64Xsh32::new(seed, 1);
     for made in 0..turns {

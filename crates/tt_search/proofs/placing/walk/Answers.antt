@@ -4,7 +4,8 @@ use Rattle.tt_search.specs.declared.weights.ClassWeights.{ClassWeights}
 use Rattle.tt_state.specs.History.{earlier, trail, with_taken}
 use Rattle.tt_draw.proofs.WordLemmas.{words_from}
 use Rattle.tt_state.proofs.StepLemmas.{within_next, within_same, within_still}
-use Rattle.tt_search.proofs.PlacingLemmas.{all_placing, far_off, next_placing, no_placing, starts_placing, two_drawn}
+use Rattle.tt_search.proofs.PlacingLemmas.{all_placing, far_off, next_placing, no_placing, some_turn, starts_placing, turn_made, two_drawn}
+use Rattle.tt_search.proofs.ListLemmas.{on_err}
 use Rattle.tt_search.proofs.placing.walk.Goals as goal
 
 pub loop-made-init : goal.loop-made-init
@@ -83,3 +84,20 @@ pub returns-clause-way : goal.returns-clause-way
 returns-clause-way g c =
     let made : c.args.turns ≡ c.loop-made.made = omega arith in
     all_placing _ _ _ _ c.loop-made.made _ c.loop-made.state.present (trail c.loop-made.state) c.loop-made.chooser.weights c.loop-made.way.best c.loop-made.invariant.placing made
+
+pub returns-in_err-next-clause-memory : goal.returns-in_err-next-clause-memory
+returns-in_err-next-clause-memory g c =
+    let start = c.args.state.now in
+    let before = c.loop-made.state in
+    let words = two_drawn c.next_u32-class_word.result c.next_u32-value_word.result _ _ _ c.next_u32-class_word.ensures c.next_u32-value_word.ensures in
+    let some = rw c.loop-made.invariant.step.problem at c.in_err-next.ensures.memory in
+    on_err c.from_residual.result
+    (turn_made _ _ _ _ c.loop-made.made _ _ _ before.present (trail before) c.loop-made.chooser.weights c.loop-made.way.best c.loop-made.invariant.placing (omega arith) words (λ outs counts. some_turn start.problem _ (record { snapshot = before.present; outs = outs }) some))
+
+pub returns-in_err-go-clause-memory : goal.returns-in_err-go-clause-memory
+returns-in_err-go-clause-memory g c =
+    let before = c.loop-made.state in
+    let words = two_drawn c.next_u32-class_word.result c.next_u32-value_word.result _ _ _ c.next_u32-class_word.ensures c.next_u32-value_word.ensures in
+    let turn = rw (c.loop-made.invariant.step.problem, c.in-Some.is) at c.in_ok-next.ensures.turn in
+    on_err c.from_residual-in_err-go.result
+    (turn_made _ _ _ _ c.loop-made.made _ _ _ before.present (trail before) c.loop-made.chooser.weights c.loop-made.way.best c.loop-made.invariant.placing (omega arith) words (λ outs counts. rw (turn outs counts) refl))

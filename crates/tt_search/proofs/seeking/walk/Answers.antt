@@ -9,7 +9,8 @@ use Rattle.tt_draw.specs.Words.{random_words}
 use Rattle.tt_draw.proofs.WordLemmas.{words_from}
 use Rattle.tt_search.specs.Searched.{after_turns, rank_of, search_end}
 use Rattle.tt_state.proofs.StepLemmas.{within_next, within_same, within_still}
-use Rattle.tt_search.proofs.WayLemmas.{made_turn, no_turn, no_turn_left, start_way}
+use Rattle.tt_search.proofs.WayLemmas.{made_turn, makes_one, no_turn, no_turn_left, start_way}
+use Rattle.tt_search.proofs.ListLemmas.{on_err}
 use Rattle.tt_search.proofs.seeking.walk.Goals as goal
 
 pub loop-made-init : goal.loop-made-init
@@ -92,3 +93,12 @@ returns-clause-way g c =
     let way = rw onward_is at c.loop-made.invariant.way in
     let made : c.args.turns ≡ c.loop-made.made = omega arith in
     record { now = way.now; at = way.at; ranked = way.ranked; ends = way.ends; counts = ap (λ n. n + 0) made ∙ way.counts }
+
+pub returns-in_err-go-clause-memory : goal.returns-in_err-go-clause-memory
+returns-in_err-go-clause-memory g c =
+    let start = c.args.state.now in
+    let aim = option_copied c.args.published in
+    let below : c.loop-made.made < c.args.turns = omega arith in
+    let turn = rw c.loop-made.invariant.step.problem at c.in-Some.ensures.turn in
+    let one = makes_one next_u32 (turn_of start.problem aim) c.args.turns c.loop-made.made (stream_of (steps_u32 pcg32) c.loop-made.words) (stream_of (steps_u32 pcg32) c.next_u32.new.self) c.next_u32.result c.loop-made.state.present _ below c.next_u32.ensures turn in
+    on_err c.from_residual.result (omega (arith, c.loop-made.invariant.way.counts, one))

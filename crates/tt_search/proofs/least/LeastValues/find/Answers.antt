@@ -4,7 +4,8 @@ use Rattle.tt_plan.specs.Domain.{domain_of}
 use Rattle.tt_state.specs.History.{Held}
 use Rattle.tt_search.specs.PlacingNow.{burden_by}
 use Rattle.tt_search.specs.Turns.{is_available}
-use Rattle.tt_search.proofs.LeastLemmas.{few_least, one_further}
+use Rattle.tt_search.proofs.LeastLemmas.{few_least, one_further, one_passes}
+use Rattle.tt_search.proofs.ListLemmas.{on_err}
 use Rattle.tt_search.proofs.least.LeastValues.find.Goals as goal
 
 pub loop-k-init : goal.loop-k-init
@@ -40,3 +41,11 @@ returns-clause-few c =
     let size = rw (c.problem.ensures, problem) at c.domain_size-k-end.ensures.size in
     let all : take c.loop-k.k domain ≡ domain = take_all c.loop-k.k domain (omega (arith, size)) in
     omega (arith, size, c.domain_size-k-end.ensures.small, few_least _ _ domain c.loop-k.self (rw all at c.loop-k.invariant.least))
+
+pub returns-in_err-look_at-clause-memory : goal.returns-in_err-look_at-clause-memory
+returns-in_err-look_at-clause-memory c =
+    let start = c.args.state.now in
+    let problem = c.loop-k.invariant.problem in
+    let at = rw (c.problem-in-loop-k.ensures, problem) at c.value_at-value.ensures.value in
+    let available = rw (problem, c.loop-k.invariant.present) at c.in_err-look_at.ensures.memory in
+    on_err c.from_residual.result (one_passes (is_available start.problem start.present c.args.class) (domain_of start.problem c.args.class) c.loop-k.k c.value_at-value.result at available)

@@ -1,4 +1,4 @@
-use Rattle.std.proofs.Common.{List, sym, subst, ap, ◌∙◌}
+use Rattle.std.proofs.Common.{List, refl, sym, subst, ap, ◌∙◌}
 use Rattle.std.specs.Prelude.{All}
 use Rattle.tt_bits.specs.declared.times.Value.{Value}
 use Rattle.tt_draw.specs.Words.{drawn}
@@ -7,6 +7,7 @@ use Rattle.tt_search.specs.PlacingNow.{burden_by}
 use Rattle.tt_search.proofs.DrawingLemmas.{drawn_below}
 use Rattle.tt_search.proofs.KeptLemmas.{drawn_available, least_available}
 use Rattle.tt_search.proofs.PlacingLemmas.{least_same, no_class, one_class}
+use Rattle.tt_search.proofs.ListLemmas.{on_err}
 use Rattle.tt_search.proofs.placing.Chooser.next_move.Goals as goal
 
 pub find-requires-clause-class : goal.find-requires-clause-class
@@ -35,3 +36,8 @@ returns-clause-may c =
     drawn_available start.problem start.present class c.args.value_word _ c.drawn-value.result
     (subst (λ (vs : List Value). All (IsAvailable start.problem start.present class) vs) (sym c.in_ok-find.ensures.least.items) (least_available start.problem start.present class (burden_by start.problem start.present c.args.self.now.weights.outs.items class)))
     (sym c.drawn-value.ensures)
+
+pub returns-in_err-find-clause-memory : goal.returns-in_err-find-clause-memory
+returns-in_err-find-clause-memory c =
+    let start = c.args.state.now in
+    on_err c.from_residual.result (rw (sym (c.drawn.ensures start.problem start.present c.requires.candidates) ∙ c.in-Some.is) refl)
