@@ -1,1 +1,2 @@
 mod ReadBackLemmas
+pub mod Laws

@@ -1,4 +1,4 @@
--- A type that is written is read back.
+-- A name with its parameters is read back.
 use Rattle.std.proofs.Common.{◌≡◌, ◌∙◌, ℕ, ◌+◌, ◌/◌, ◌%◌, ◌<◌, ◌≤◌, suc, Bool, true, false, List, [], ◌∷◌, ◌++◌, Option, Some, None, length, take, drop, reverse, refl, ap, arith, rules, inl, inr, append-nil}
 use Rattle.std.specs.Prelude.{◌==◌, option_map, decimal, if◌then◌else◌}
 use Rattle.std.specs.Char.{is_ascii_digit}
@@ -123,7 +123,7 @@ two-read kind name m n few_m few_n is =
     rw (closing, comma, parameter-decimal m few_m, parameter-decimal n few_n) is
 
 -- a name with its parameters is read back
-parameters-read : (kind : DistKind) (name : List ℕ) (parameters : Parameters) → list_any (λ c. c == 40) name ≡ false → named name parameters ≡ Some kind → AreShort parameters
+pub parameters-read : (kind : DistKind) (name : List ℕ) (parameters : Parameters) → list_any (λ c. c == 40) name ≡ false → named name parameters ≡ Some kind → AreShort parameters
     → type_of (name ++ parameters_text parameters) ≡ Some kind
 unfolding type_of parameters_text field
 parameters-read kind name Plain plain is short = rw (append-nil name, cut-none 40 name plain) is
@@ -131,12 +131,3 @@ parameters-read kind name (One n) plain is short =
     rw (cut-at 40 name (decimal n ++ (41 ∷ [])) plain) (one-read kind name n short is)
 parameters-read kind name (Two m n) plain is short =
     rw (cut-at 40 name ((decimal m ++ (44 ∷ decimal n)) ++ (41 ∷ [])) plain) (two-read kind name m n short.0 short.1 is)
-
--- a type that is written is read back, in each version that has it
-pub written-read : (kind : DistKind) (version : ℕ) → AreShort (naming_of kind).parameters → (naming_of kind).since ≤ version → type_in version (type_text kind) ≡ Some kind
-unfolding type_in type_text
-written-read kind version short since =
-    let own_name = each_named kind in
-    let found = parameters-read kind (naming_of kind).name (naming_of kind).parameters own_name.plain own_name.found short in
-    let has = le-leb (naming_of kind).since version since in
-    rw (found, has) refl
