@@ -1,6 +1,7 @@
-ghost use Rattle.std.specs.Prelude.{◌≡◌, ◌+◌, ◌<◌, ◌≤◌, [], ℕ, None, Some, IfOk, IsSome, OnOk, OnErr, cond, false, length};
+ghost use Rattle.std.specs.Prelude.{◌≡◌, ◌+◌, ◌<◌, ◌≤◌, [], ℕ, None, Some, IfOk, IsSome, OnOk, OnErr, cond, false, true, length};
 ghost use Rattle.tt_state.specs.History.{IsWithinStep, desk_of, earlier, stepped};
 ghost use Rattle.tt_state.specs.Snapshots.{StaysLocked};
+ghost use Rattle.tt_state.specs.Sound.{lacks_classes};
 ghost use Rattle.tt_enrol.specs.Enrolled.{enrolled, all_enrolled, with_student};
 ghost use Rattle.tt_enrol.specs.Ready.{HasRoom};
 ghost use Rattle.tt_enrol.specs.Steps.{with_counts};
@@ -43,7 +44,8 @@ fn enrol_one(state: &mut State, buffers: &mut Buffers, student: u32) -> Result<b
 }
 
 /// Enrols the student at a place, in the last step, where the student has a course and no class and
-/// there is an enrolment. `so_far` has how many of the students before got one.
+/// there is an enrolment. `so_far` has how many of the students before got one. Want of memory comes
+/// only where one is enrolled.
 fn enrol_next(
     state: &mut State,
     buffers: &mut Buffers,
@@ -59,6 +61,8 @@ fn enrol_next(
     ensures few { IfOk result (λ n. n.enrolled + n.left ≤ student + 1) }
     ensures room { HasRoom state.old.problem buffers.new }
     ensures step { IsWithinStep state.old state.new }
+    ensures lacking { OnErr result (lacks_classes state.old.problem state.old.present student ≡ true) }
+    ensures memory { OnErr result (IsSome (enrolled state.old.problem state.old.present student)) }
 {
     state.problem().validity();
     if !state.lacks_classes(student) {
@@ -78,7 +82,7 @@ fn enrol_next(
 }
 
 /// Enrols each student who has a course and no class, in the last step, where there is an enrolment.
-/// The watcher is told of each student.
+/// The watcher is told of each student. Want of memory comes only where some student gets one.
 fn enrol_each<W: Watcher>(
     state: &mut State,
     buffers: &mut Buffers,
@@ -88,6 +92,7 @@ fn enrol_each<W: Watcher>(
     requires room { HasRoom state.old.problem buffers.old }
     ensures all { IfOk result (λ n. with_counts state.new.present n.enrolled n.left ≡ all_enrolled state.old.problem state.old.present) }
     ensures step { IsWithinStep state.old state.new }
+    ensures memory { OnErr result (0 < (all_enrolled state.old.problem state.old.present).enrolled) }
 {
     let mut so_far = Enrolled {
         enrolled: 0,

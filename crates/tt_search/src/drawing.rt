@@ -1,4 +1,4 @@
-ghost use Rattle.std.specs.Prelude.{◌≡◌, ◌<◌, ◌∷◌, [], List, ℕ, IfOk, IsTrue, None, false, length, slice_index_or};
+ghost use Rattle.std.specs.Prelude.{◌≡◌, ◌<◌, ◌∷◌, [], List, ℕ, IfOk, IsTrue, OnErr, None, false, length, slice_index_or};
 ghost use Rattle.tt_plan.specs.Domain.{IsOfDomain};
 ghost use Rattle.tt_problem.specs.declared.parts.Parts.{Parts};
 ghost use Rattle.tt_state.specs.Snapshots.{Snapshot};
@@ -47,10 +47,11 @@ fn has_open_value(state: &State, class: u32) -> bool
     false
 }
 
-/// Whether each class has an open value.
+/// Whether each class has an open value. Want of memory comes only where there is a class.
 fn hopeful_classes(alloc: Global, state: &State) -> Result<Vec<bool>, AllocError>
     ensures whole { IfOk result (λ flags. length flags.items ≡ length state.now.problem.classes) }
     ensures hopeful { IfOk result (λ flags. (class : ℕ) → class < length state.now.problem.classes → slice_index_or flags.items class false ≡ has_open_value state.now.problem state.now.present.closures class) }
+    ensures memory { OnErr result (0 < length state.now.problem.classes) }
 {
     let mut flags = Vec::new(alloc);
     for class in 0..state.problem().class_count() {

@@ -1,6 +1,6 @@
 -- What is read of files that may be longer than the limit.
-use Rattle.std.proofs.Common.{◌≡◌, ◌≢◌, ◌≤◌, ◌+◌, ℕ, Bool, true, false, List, [], ◌∷◌, ◌++◌, None, Some, Option, Result, Ok, Err, refl, sym, ap, subst, arith, length}
-use Rattle.std.specs.Prelude.{IfSome, option_to_list}
+use Rattle.std.proofs.Common.{◌≡◌, ◌≤◌, ◌+◌, ℕ, Bool, true, false, List, [], ◌∷◌, ◌++◌, None, Some, Option, Err, refl, sym, subst, arith, length}
+use Rattle.std.specs.Prelude.{IfSome, IsTrue, option_to_list}
 use Rattle.std.specs.List.{AllByRecursion}
 use Rattle.tt_io.specs.Whole.{TakesAtMost}
 use Rattle.tt_io.specs.Lines.{Counts}
@@ -21,17 +21,17 @@ held_told limit holds name bytes fits = by (holds name) refl
     by (Some all) is = (fits all is).1
 
 -- what is taken of the open file is read of it
-pub read_told : (most : ℕ) (holds : List ℕ → Option (List ℕ)) (name : List ℕ) (is_open : Bool) (left : Option (List ℕ)) → ((all : List ℕ) → holds name ≡ Some all → TakesAtMost most all left) → IsReadAtMost most holds (left_open is_open left) name
+pub read_told : (most : ℕ) (holds : List ℕ → Option (List ℕ)) (name : List ℕ) (is_open : Bool) (left : Option (List ℕ)) → (IsTrue is_open → (all : List ℕ) → holds name ≡ Some all → TakesAtMost most all left) → IsReadAtMost most holds (left_open is_open left) name
 read_told most holds name is_open left takes = by (holds name) refl
   where
-    told : (all : List ℕ) (is_open : Bool) (left : Option (List ℕ)) → TakesAtMost most all left → IfSome (left_open is_open left) (λ rest. length all ≤ length rest + most)
+    told : (all : List ℕ) (is_open : Bool) (left : Option (List ℕ)) → (IsTrue is_open → TakesAtMost most all left) → IfSome (left_open is_open left) (λ rest. length all ≤ length rest + most)
     told all true None takes = tt
-    told all true (Some rest) takes = takes
+    told all true (Some rest) takes = takes refl
     told all false left takes = tt
 
     by : (o : Option (List ℕ)) → holds name ≡ o → IfSome o (λ all. IfSome (left_open is_open left) (λ rest. length all ≤ length rest + most))
     by None is = tt
-    by (Some all) is = told all is_open left (takes all is)
+    by (Some all) is = told all is_open left (λ opened. takes opened all is)
 
 -- nothing is told of a file that isn't open
 pub unopened : (most : ℕ) (holds : List ℕ → Option (List ℕ)) (name : List ℕ) → IsReadAtMost most holds None name
@@ -91,9 +91,3 @@ one_past TooLong = omega arith
 pub takes_more : (few most : ℕ) (all : List ℕ) (left : Option (List ℕ)) → few ≤ most → TakesAtMost few all left → TakesAtMost most all left
 takes_more few most all None le takes = absurd takes
 takes_more few most all (Some rest) le takes = omega (arith, le, takes)
-
--- ---- ends
-
--- an end that isn't this one, whatever the answer's type
-pub is_other : {T U : Type 0} (x y : End) → ◌≢◌ {A = Result U End} (Err x) (Err y) → ◌≢◌ {A = Result T End} (Err x) (Err y)
-is_other x y ne is = ne (let same : x ≡ y = cc in ap Err same)

@@ -20,7 +20,6 @@ use Rattle.tt_top.specs.Run.{Outside, IsFront, Follows, HasCauses, ReadsWithin, 
 use Rattle.tt_top.specs.Ends.{faulty_file, end_status, done_status, status_of, HasEndCause, Agrees, Loads}
 use Rattle.tt_top.specs.Checks.{check_text, check_status, check_run, check_seen}
 use Rattle.tt_top.proofs.LoadLemmas.{EndNames, names_then, names_problem, names_timetable, rest_within}
-use Rattle.tt_top.proofs.ReadLemmas.{is_other}
 use Rattle.tt_top.proofs.EndLemmas.{at_most_one, three_or_four, end_is_no_usage, same_cause, done_cause, no_cause, other_end, has_causes, most_status, none_first}
 use Rattle.tt_top.proofs.FollowLemmas.{follows_whole, follows_part, follows_none, asks_early, asks_faulty, asks_all}
 
@@ -53,11 +52,6 @@ pub solution_named : (names : List (List ℕ)) (word : List ℕ) (r : Result (Re
 solution_named names word (Ok (Ok c)) input = tt
 solution_named names word (Ok (Err f)) input = (input, refl)
 solution_named names word (Err e) input = tt
-
--- a call on the files failed where what was found says so
-pub seen_failed : (names : List (List ℕ)) (r : Result (Result Check InputFault) End) → check_seen names r ≢ Err Files → r ≢ Err Files
-seen_failed names (Ok l) ne is = cc is
-seen_failed names (Err e) ne is = is_other e Files ne is
 
 -- and both files were read
 pub seen_ok : (names : List (List ℕ)) (r : Result (Result Check InputFault) End) → IsOk (check_seen names r) → IsOk r
@@ -102,7 +96,7 @@ module _ (problem solution : List ℕ) (limit : ℕ) (o : Outside) where
   abbrev phase : Phase PlainRun
   phase = check_phase limit o.holds problem solution
 
-  is_verify_run : (names : List (List ℕ)) (r : Result Done End) → IfSome (verify_run limit o.holds problem solution) (λ p. Follows p o names (status_of r)) → AsksInOrder words o names (status_of r) → HasCauses o (status_of r) → status_of r ≢ 2 → (status_of r ≢ 5 → ReadsWithin limit o.holds o.now.left names) → IsVerifyRun problem solution limit o (status_of r)
+  is_verify_run : (names : List (List ℕ)) (r : Result Done End) → IfSome (verify_run limit o.holds problem solution) (λ p. Follows p o names (status_of r)) → AsksInOrder words o names (status_of r) → HasCauses o (status_of r) → status_of r ≢ 2 → ReadsWithin limit o.holds o.now.left names → IsVerifyRun problem solution limit o (status_of r)
   is_verify_run names r plain asks causes no_usage reads = record { names = names; run = record { plain = plain; asks = asks; causes = causes; statuses = record { at_most = most_status r; no_usage = no_usage }; reads = reads } }
 
   -- ---- before anything is written
@@ -116,7 +110,7 @@ module _ (problem solution : List ℕ) (limit : ℕ) (o : Outside) where
     pub unchecked_run : o.now.written ≡ o.before.written → o.now.sink ≡ o.before.sink → e ≢ Sink → HasEndCause {T = Result Check InputFault} Files o.before.files o.now.files (Err e) → IsVerifyRun problem solution limit o (end_status e)
     unchecked_run same kept no_sink files =
         let causes : HasCauses o (end_status e) = has_causes o (Err e) (same_cause Files _ _ e files) (other_end Sink e _ _ kept no_sink) in
-        is_verify_run loads.names (Err e) (by e refl causes) (asks_early words o phase (Err e) e (λ _. same) loads) causes (end_is_no_usage e) (λ ne. loads.reads (λ is. ne (let same : e ≡ Files = cc in ap end_status same)))
+        is_verify_run loads.names (Err e) (by e refl causes) (asks_early words o phase (Err e) e (λ _. same) loads) causes (end_is_no_usage e) loads.reads
       where
         by : (x : End) → e ≡ x → HasCauses o (end_status e) → IfSome (verify_run limit o.holds problem solution) (λ p. Follows p o loads.names (end_status e))
         by Files is causes = any_verify_run _ (λ r front. follows_none o loads.names r e (λ long. cc (sym is ∙ long)) causes front same)
@@ -137,13 +131,13 @@ module _ (problem solution : List ℕ) (limit : ℕ) (o : Outside) where
             let one : check_status (Ok c) ≤ 1 = at_most_one c.violations in
             let few : done_status done ≤ 1 = omega (arith, one, is) in
             is_verify_run loads.names (Ok done) (told_last phase (Ok (check_run both c)) _ loads.agrees (follows_whole o loads.names (check_run both c) (done_status done) is loads.each (rw (append-nil c.reply) all)))
-            (asks_all words o phase (check_run both c) (done_status done) refl few loads) causes (λ two. omega (arith, few, two)) (λ ne. loads.reads (λ is. cc is))
+            (asks_all words o phase (check_run both c) (done_status done) refl few loads) causes (λ two. omega (arith, few, two)) loads.reads
         by (Err f) loads causes is all =
             let line = (faulty_file f).line in
             let asks : AsksInOrder words o loads.names (done_status done) = rw is (asks_faulty words o phase f loads) in
             is_verify_run loads.names (Ok done)
             (told_last phase (ends loads.names (line ∷ []) (check_status (Err f))) _ loads.agrees (follows_whole o loads.names (record { pieces = line ∷ []; status = check_status (Err f); names = loads.names }) (done_status done) is refl (rw (append-nil line) all)))
-            asks causes (λ two. let three = (three_or_four f.input).0 in omega (arith, three, is, two)) (λ ne. loads.reads (λ is. cc is))
+            asks causes (λ two. let three = (three_or_four f.input).0 in omega (arith, three, is, two)) loads.reads
 
     -- it wasn't written whole
     pub unwritten_run : (e : End) → (e ≡ Memory → o.now.written ≡ o.before.written) → WritesFront o.before.written o.now.written (check_text l) → e ≢ Files → e ≢ TooLong → HasEndCause {T = Unit {0}} Sink o.before.sink o.now.sink (Err e) → IsVerifyRun problem solution limit o (end_status e)
@@ -166,10 +160,10 @@ module _ (problem solution : List ℕ) (limit : ℕ) (o : Outside) where
         by (Ok c) loads causes front =
             is_verify_run loads.names (Err e)
             (told_last phase (Ok (check_run both c)) _ loads.agrees (part loads.names (check_run both c) causes ([], sym loads.each ∙ sym (append-nil loads.names)) (WritesFront-first _ _ c.reply [] front)))
-            (asks_early words o phase (Ok (Ok (check_run both c))) e kept loads) causes (end_is_no_usage e) (λ ne. loads.reads (λ is. cc is))
+            (asks_early words o phase (Ok (Ok (check_run both c))) e kept loads) causes (end_is_no_usage e) loads.reads
         by (Err f) loads causes front =
             let line = (faulty_file f).line in
             is_verify_run loads.names (Err e)
             (told_last phase (ends loads.names (line ∷ []) (check_status (Err f))) _ loads.agrees
             (part loads.names (record { pieces = line ∷ []; status = check_status (Err f); names = loads.names }) causes ([], sym (append-nil loads.names)) (WritesFront-first _ _ line [] front)))
-            (asks_early words o phase (Ok (Err f)) e kept loads) causes (end_is_no_usage e) (λ ne. loads.reads (λ is. cc is))
+            (asks_early words o phase (Ok (Err f)) e kept loads) causes (end_is_no_usage e) loads.reads

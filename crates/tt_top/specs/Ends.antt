@@ -128,7 +128,7 @@ pub record Loads {A : Type 0} (words : FileWords) (limit : ℕ) (holds : List �
   pub each : IsAsked words names result
   pub within : IfErr phase (λ ended. IfSome ended (λ r. IsFront names r.names))
   pub agrees : Agrees names phase result
-  pub reads : result ≢ Err Files → ReadsWithin limit holds left names
+  pub reads : ReadsWithin limit holds left names
   pub fits : IsOk result → AllByRecursion (HasAtMost limit holds) names
 
 -- What reading the files before the script and writing the first line leave.

@@ -128,8 +128,8 @@ pub record UsesFiles (words : FileWords) (limit : ℕ) (due : Option PlainRun) (
   pub asks : AsksInOrder words o names status
   pub causes : HasCauses o status
   pub statuses : IsStatus status
-  -- unless a call on the files failed, at most 65,536 bytes beyond the limit are read of any file
-  pub reads : status ≢ 5 → ReadsWithin limit o.holds o.now.left names
+  -- at most 65,536 bytes beyond the limit are read of any file, also where a read fails
+  pub reads : ReadsWithin limit o.holds o.now.left names
 
 -- What is done before the script is opened, where this is the plain run that answers no line.
 pub record Begins (r : PlainRun) (words : FileWords) (o : Outside) (names : List (List ℕ)) (status : ℕ) : Type 0 where

@@ -46,7 +46,7 @@ fn check_solution<F: Files>(
 ) -> Result<Loaded<Check>, End>
     ensures agrees { (names : List (List ℕ)) → Agrees names (solution_phase limit (F.holds files.old) names problem.now solution.now) (check_seen names result) }
     ensures input { IfOk result (λ l. IfErr l (λ f. f.input ≡ Input.Published)) }
-    ensures reads { result ≢ Err End.Files → IsReadAtMost (limit + 65536) (F.holds files.old) (left_open (F.is_open files.new) (F.left files.new)) solution.now }
+    ensures reads { IsReadAtMost (limit + 65536) (F.holds files.old) (left_open (F.is_open files.new) (F.left files.new)) solution.now }
     ensures fits { IsOk result → HasAtMost limit (F.holds files.old) solution.now }
     ensures no_sink { result ≢ Err End.Sink }
     ensures asks { Asks (F.asked files.old) (F.asked files.new) solution.now }

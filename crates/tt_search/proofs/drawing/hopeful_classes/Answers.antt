@@ -1,7 +1,11 @@
 use Rattle.std.proofs.Common.{◌≡◌, ◌++◌, ◌∷◌, [], false, length, ap, sym, ◌∙◌, arith}
 use Rattle.std.proofs.lemmas.List.FromFn.{map-range_with_len_more, length-map-range_with_len, get_or-map-range_with_len}
 use Rattle.tt_search.specs.Turns.{has_open_value}
+use Rattle.tt_search.proofs.ListLemmas.{on_err}
 use Rattle.tt_search.proofs.drawing.hopeful_classes.Goals as goal
+
+pub returns-in_err-push-clause-memory : goal.returns-in_err-push-clause-memory
+returns-in_err-push-clause-memory c = on_err c.from_residual.result (omega (arith, rw c.problem.ensures at c.class_count-class-end.ensures.count))
 
 pub loop-class-preserved : goal.loop-class-preserved
 loop-class-preserved c =

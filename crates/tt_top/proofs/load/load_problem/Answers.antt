@@ -1,11 +1,10 @@
 use Rattle.std.proofs.Common.{◌≡◌, ◌+◌, [], ◌∷◌, ap, Err}
 use Rattle.tt_base.proofs.ResultLemmas.{handed_on}
 use Rattle.tt_read.specs.Tables.{problem_of}
-use Rattle.tt_top.specs.declared.end.End.TheVariants.{Files}
 use Rattle.tt_top.specs.Opening.{problem_read}
 use Rattle.tt_top.specs.Ends.{seen}
 use Rattle.tt_top.proofs.LoadLemmas.{read_agrees, unread_agrees, some_bytes}
-use Rattle.tt_top.proofs.ReadLemmas.{held_told, read_told, within_read, is_other}
+use Rattle.tt_top.proofs.ReadLemmas.{held_told, read_told, within_read}
 use Rattle.tt_top.proofs.load.load_problem.Goals as goal
 
 pub returns-clause-agrees : goal.returns-clause-agrees
@@ -25,11 +24,9 @@ pub returns-clause-fits : goal.returns-clause-fits
 returns-clause-fits g c = λ _. held_told c.args.limit (g.F.Files.holds c.args.files.now) c.args.name.now _ c.in_ok-bytes.ensures.bytes
 
 pub returns-clause-reads : goal.returns-clause-reads
-returns-clause-reads g c = λ _.
+returns-clause-reads g c =
     let holds = g.F.Files.holds c.args.files.now in
     within_read c.args.limit holds _ c.args.name.now (held_told c.args.limit holds c.args.name.now _ c.in_ok-bytes.ensures.bytes)
 
 pub returns-in_err-bytes-clause-reads : goal.returns-in_err-bytes-clause-reads
-returns-in_err-bytes-clause-reads g c =
-    rw (handed_on _ _ c.from_residual.ensures.1)
-    (λ ne. read_told (c.args.limit + 65536) (g.F.Files.holds c.args.files.now) c.args.name.now _ _ (c.in_err-bytes.ensures.taken (is_other c.in_err-bytes.field-0.0 Files ne)))
+returns-in_err-bytes-clause-reads g c = read_told (c.args.limit + 65536) (g.F.Files.holds c.args.files.now) c.args.name.now _ _ c.in_err-bytes.ensures.taken

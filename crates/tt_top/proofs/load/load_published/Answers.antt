@@ -2,8 +2,6 @@ use Rattle.std.proofs.Common.{Some, Ok, refl}
 use Rattle.tt_base.proofs.ResultLemmas.{handed_on}
 use Rattle.tt_top.specs.PlainRun.{timetable_phase}
 use Rattle.tt_top.proofs.LoadLemmas.{made_agrees, faulty_first, ended_first, published_some, published_fault}
-use Rattle.tt_top.specs.declared.end.End.TheVariants.{Files}
-use Rattle.tt_top.proofs.ReadLemmas.{is_other}
 use Rattle.tt_top.proofs.load.load_published.Goals as goal
 
 pub returns-in-Ok-clause-agrees : goal.returns-in-Ok-clause-agrees
@@ -27,17 +25,16 @@ returns-in_err-timetable-clause-agrees g c = λ names.
     (ended_first names (timetable_phase c.args.limit (g.F.Files.holds c.args.files.now) names c.args.problem.now c.in-Some.name.now) (λ t. Ok (Some t)) c.in_err-timetable.field-0.0 (c.in_err-timetable.ensures.agrees names)))
 
 pub returns-in-Ok-clause-reads : goal.returns-in-Ok-clause-reads
-returns-in-Ok-clause-reads g c = rw c.in-Some.is (λ _. c.in_ok-timetable.ensures.reads (λ is. cc is))
+returns-in-Ok-clause-reads g c = rw c.in-Some.is c.in_ok-timetable.ensures.reads
 
 pub returns-in-Ok-clause-fits : goal.returns-in-Ok-clause-fits
 returns-in-Ok-clause-fits g c = rw c.in-Some.is (λ _. c.in_ok-timetable.ensures.fits refl)
 
 pub returns-in-Err-clause-reads : goal.returns-in-Err-clause-reads
-returns-in-Err-clause-reads g c = rw c.in-Some.is (λ _. c.in_ok-timetable.ensures.reads (λ is. cc is))
+returns-in-Err-clause-reads g c = rw c.in-Some.is c.in_ok-timetable.ensures.reads
 
 pub returns-in-Err-clause-fits : goal.returns-in-Err-clause-fits
 returns-in-Err-clause-fits g c = rw c.in-Some.is (λ _. c.in_ok-timetable.ensures.fits refl)
 
 pub returns-in_err-timetable-clause-reads : goal.returns-in_err-timetable-clause-reads
-returns-in_err-timetable-clause-reads g c =
-    rw c.in-Some.is (rw (handed_on _ _ c.from_residual.ensures.1) (λ ne. c.in_err-timetable.ensures.reads (is_other c.in_err-timetable.field-0.0 Files ne)))
+returns-in_err-timetable-clause-reads g c = rw c.in-Some.is c.in_err-timetable.ensures.reads

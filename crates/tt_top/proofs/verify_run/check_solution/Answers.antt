@@ -3,8 +3,6 @@ use Rattle.tt_base.proofs.ResultLemmas.{handed_on}
 use Rattle.tt_top.specs.PlainRun.{timetable_phase, checking}
 use Rattle.tt_top.proofs.LoadLemmas.{faulty_first, ended_first}
 use Rattle.tt_top.proofs.VerifyLemmas.{found_agrees}
-use Rattle.tt_top.specs.declared.end.End.TheVariants.{Files}
-use Rattle.tt_top.proofs.ReadLemmas.{is_other}
 use Rattle.tt_top.proofs.verify_run.check_solution.Goals as goal
 
 pub returns-in_ok-found-in-Ok-clause-agrees : goal.returns-in_ok-found-in-Ok-clause-agrees
@@ -21,20 +19,19 @@ returns-in_err-timetable-clause-agrees g c = λ names.
     (ended_first names (timetable_phase c.args.limit (g.F.Files.holds c.args.files.now) names c.args.problem.now c.args.solution.now) (λ t. Ok (checking names c.args.problem.now t)) c.in_err-timetable.field-0.0 (c.in_err-timetable.ensures.agrees names))
 
 pub returns-in_ok-found-in-Ok-clause-reads : goal.returns-in_ok-found-in-Ok-clause-reads
-returns-in_ok-found-in-Ok-clause-reads g c = λ _. c.in_ok-timetable.ensures.reads (λ is. cc is)
+returns-in_ok-found-in-Ok-clause-reads g c = c.in_ok-timetable.ensures.reads
 
 pub returns-in_ok-found-in-Ok-clause-fits : goal.returns-in_ok-found-in-Ok-clause-fits
 returns-in_ok-found-in-Ok-clause-fits g c = λ _. c.in_ok-timetable.ensures.fits refl
 
 pub returns-in_err-found-in-Ok-clause-reads : goal.returns-in_err-found-in-Ok-clause-reads
-returns-in_err-found-in-Ok-clause-reads g c = λ _. c.in_ok-timetable.ensures.reads (λ is. cc is)
+returns-in_err-found-in-Ok-clause-reads g c = c.in_ok-timetable.ensures.reads
 
 pub returns-in-Err-clause-reads : goal.returns-in-Err-clause-reads
-returns-in-Err-clause-reads g c = λ _. c.in_ok-timetable.ensures.reads (λ is. cc is)
+returns-in-Err-clause-reads g c = c.in_ok-timetable.ensures.reads
 
 pub returns-in-Err-clause-fits : goal.returns-in-Err-clause-fits
 returns-in-Err-clause-fits g c = λ _. c.in_ok-timetable.ensures.fits refl
 
 pub returns-in_err-timetable-clause-reads : goal.returns-in_err-timetable-clause-reads
-returns-in_err-timetable-clause-reads g c =
-    rw (handed_on _ _ c.from_residual.ensures.1) (λ ne. c.in_err-timetable.ensures.reads (is_other c.in_err-timetable.field-0.0 Files ne))
+returns-in_err-timetable-clause-reads g c = c.in_err-timetable.ensures.reads
