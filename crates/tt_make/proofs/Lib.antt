@@ -1,3 +1,3 @@
 pub mod Problem
 pub mod Texts
-pub mod Whole
+pub mod Pieces

@@ -31,12 +31,16 @@ time = do
   penalty ← draw 5
   give (time_data days start length weeks penalty)
 
+-- a room, with its penalty
+abbrev pub choice_data : ℕ → ℕ → Data
+choice_data id penalty = object (member (codes "id") (num id) (member (codes "penalty") (num penalty) no_members))
+
 -- a room that a class may have, one of so many
 unfoldable pub choice : ℕ → Draws Data
 choice rooms = do
   room ← draw rooms
   penalty ← draw 5
-  give (object (member (codes "id") (num (1 + room)) (member (codes "penalty") (num penalty) no_members)))
+  give (choice_data (1 + room) penalty)
 
 -- every tenth class needs no room
 unfoldable pub choices : ℕ → ℕ → Draws (Option (List Data))

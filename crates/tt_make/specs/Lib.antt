@@ -1,7 +1,7 @@
 pub mod Classes
 pub mod Courses
 pub mod Draws
-pub mod Plain
+pub mod Pieces
 pub mod Rooms
 pub mod Rules
 pub mod Students

@@ -1,16 +1,14 @@
 //! Choices: a room that a class may have, with its penalty.
 
-ghost use Rattle.std.specs.Prelude.{◌≡◌, ◌≤◌, IfOk, ⊤};
-ghost use Rattle.serde_json.specs.View.{view};
-ghost use Rattle.tt_make.specs.Classes.{choice as choice_of};
-ghost use Rattle.tt_make.specs.Plain.{choice_plain};
+ghost use Rattle.std.specs.Prelude.{◌≡◌, ◌≤◌, ◌++◌, OnOk, ⊤};
+ghost use Rattle.serde_json.specs.Written.{compact_text};
+ghost use Rattle.tt_make.specs.Classes.{choice as choice_of, choice_data};
 
+use crate::append::{push_field, push_text};
 use crate::draws::draw;
 use crate::parts::Part;
 use rand_pcg::Lcg64Xsh32;
-use serde_json::Value;
 use std::alloc::{AllocError, Global};
-use tt_json::Object;
 
 /// The rooms that a class may have.
 #[derive(Drop)]
@@ -25,15 +23,25 @@ impl Part for Choices {
 
     ghost covers = { λ choices i. ⊤ };
 
-    ghost plain = { λ choices i g. choice_plain choices.rooms g };
-
     #[tactic(auto, unfolding(crate::specs::Classes::choice))]
-    fn draw(&self, alloc: Global, words: &mut Lcg64Xsh32, _i: u32) -> Result<Value, AllocError> {
+    fn push(
+        &self,
+        _alloc: Global,
+        out: &mut Vec<u8>,
+        words: &mut Lcg64Xsh32,
+        _i: u32,
+    ) -> Result<(), AllocError> {
         let room = draw(words, self.rooms);
         let penalty = draw(words, 5);
-        let choice = Object::new(alloc)
-            .number("id", 1 + room)?
-            .number("penalty", penalty)?;
-        Ok(choice.into_value())
+        push_choice(out, 1 + room, penalty)
     }
+}
+
+fn push_choice(out: &mut Vec<u8>, id: u32, penalty: u32) -> Result<(), AllocError>
+    ensures { OnOk result (out.new.items ≡ out.old.items ++ compact_text (choice_data id penalty)) }
+{
+    push_field(out, r#"{"id":"#, id)?;
+    push_field(out, r#","penalty":"#, penalty)?;
+    push_text(out, "}")?;
+    Ok(())
 }

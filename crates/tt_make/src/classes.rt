@@ -1,19 +1,16 @@
 //! Classes: each has six times and four rooms, and every tenth one needs no room.
 
-ghost use Rattle.std.specs.Prelude.{◌≡◌, ◌<◌, ◌≤◌, ◌-◌, ◌^◌, IfOk, Some, None, ⊤, map, option_map};
-ghost use Rattle.serde_json.specs.View.{view};
-ghost use Rattle.tt_make.specs.Draws.{draw_each};
-ghost use Rattle.tt_make.specs.Values.{num, word_at};
-ghost use Rattle.tt_make.specs.Classes.{day_words, week_words, time as time_of, time_data, choice as choice_of, choices as choices_of, class as class_of, class_data};
-ghost use Rattle.tt_make.specs.Plain.{time_plain, choice_plain, class_plain};
+ghost use Rattle.std.specs.Prelude.{◌≡◌, ◌≤◌, ◌-◌, ◌++◌, OnOk, Some, None, ⊤};
+ghost use Rattle.serde_json.specs.Written.{compact_text};
+ghost use Rattle.tt_make.specs.Classes.{choices as choices_of, class as class_of};
+ghost use Rattle.tt_make.specs.Pieces.{parent_text, rooms_text};
 
+use crate::append::{push_field, push_text};
 use crate::choices::Choices;
-use crate::parts::{Part, drawn};
+use crate::parts::{Part, push_list};
 use crate::times::Times;
 use rand_pcg::Lcg64Xsh32;
-use serde_json::Value;
 use std::alloc::{AllocError, Global};
-use tt_json::Object;
 
 /// The classes without a parent, by their ids.
 #[derive(Drop)]
@@ -36,10 +33,14 @@ impl Part for Parents {
 
     ghost covers = { λ classes id. ⊤ };
 
-    ghost plain = { λ classes id g. class_plain classes.rooms None id g };
-
-    fn draw(&self, alloc: Global, words: &mut Lcg64Xsh32, id: u32) -> Result<Value, AllocError> {
-        class(alloc, words, self.rooms, None, id)
+    fn push(
+        &self,
+        alloc: Global,
+        out: &mut Vec<u8>,
+        words: &mut Lcg64Xsh32,
+        id: u32,
+    ) -> Result<(), AllocError> {
+        push_class(alloc, out, words, self.rooms, None, id)
     }
 }
 
@@ -48,73 +49,69 @@ impl Part for Children {
 
     ghost covers = { λ classes id. 3 ≤ id };
 
-    ghost plain = { λ classes id g. class_plain classes.rooms (Some (id - 2)) id g };
-
-    fn draw(&self, alloc: Global, words: &mut Lcg64Xsh32, id: u32) -> Result<Value, AllocError> {
-        class(alloc, words, self.rooms, Some(id - 2), id)
+    fn push(
+        &self,
+        alloc: Global,
+        out: &mut Vec<u8>,
+        words: &mut Lcg64Xsh32,
+        id: u32,
+    ) -> Result<(), AllocError> {
+        push_class(alloc, out, words, self.rooms, Some(id - 2), id)
     }
 }
 
-#[tactic(auto, unfolding(crate::specs::Classes::class))]
-fn class(
+/// Draws a class and appends its text. The times are drawn before the rooms, and stand behind them.
+fn push_class(
     alloc: Global,
+    out: &mut Vec<u8>,
     words: &mut Lcg64Xsh32,
     rooms: u32,
     parent: Option<u32>,
     id: u32,
-) -> Result<Value, AllocError>
+) -> Result<(), AllocError>
     requires some { 1 ≤ rooms }
     requires few { rooms ≤ 2002 }
-    ensures { IfOk result (λ v. (view v, words.new) ≡ class_of rooms parent id words.old) }
+    ensures text { OnOk result (out.new.items ≡ out.old.items ++ compact_text (class_of rooms parent id words.old).0) }
+    ensures words { OnOk result (words.new ≡ (class_of rooms parent id words.old).1) }
 {
-    let times = drawn(alloc, words, &Times, 0, 6)?;
-    let choices = class_rooms(alloc, words, rooms, id)?;
-    class_value(alloc, id, parent, choices, times)
+    let mut times = Vec::new(alloc);
+    push_list(alloc, &mut times, words, &Times, 0, 6)?;
+    push_field(out, r#"{"id":"#, id)?;
+    push_text(out, r#","limit":50"#)?;
+    push_parent(out, parent)?;
+    push_rooms(alloc, out, words, rooms, id)?;
+    push_text(out, r#","times":"#)?;
+    out.extend_from_slice(&times)?;
+    push_text(out, "}")?;
+    Ok(())
 }
 
-#[tactic(auto, unfolding(crate::specs::Classes::choices))]
-fn class_rooms(
+fn push_parent(out: &mut Vec<u8>, parent: Option<u32>) -> Result<(), AllocError>
+    ensures { OnOk result (out.new.items ≡ out.old.items ++ parent_text parent) }
+{
+    match parent {
+        Some(id) => push_field(out, r#","parent":"#, id),
+        None => Ok(()),
+    }
+}
+
+#[tactic(auto, unfolding(crate::specs::Classes::choices), using(std::proofs::Common::append_assoc))]
+fn push_rooms(
     alloc: Global,
+    out: &mut Vec<u8>,
     words: &mut Lcg64Xsh32,
     rooms: u32,
     id: u32,
-) -> Result<Option<Vec<Value>>, AllocError>
+) -> Result<(), AllocError>
     requires some { 1 ≤ rooms }
     requires few { rooms ≤ 2002 }
-    ensures { IfOk result (λ o. (option_map (λ v. map view v.items) o, words.new) ≡ choices_of rooms id words.old) }
+    ensures text { OnOk result (out.new.items ≡ out.old.items ++ rooms_text (choices_of rooms id words.old).0) }
+    ensures words { OnOk result (words.new ≡ (choices_of rooms id words.old).1) }
 {
     if id % 10 == 0 {
-        return Ok(None);
+        push_text(out, r#","room":false"#)
+    } else {
+        push_text(out, r#","rooms":"#)?;
+        push_list(alloc, out, words, &Choices { rooms }, 0, 4)
     }
-    let choices = drawn(alloc, words, &Choices { rooms }, 0, 4)?;
-    Ok(Some(choices))
-}
-
-fn number_if(number: Option<u32>) -> Option<Value>
-    ensures { option_map view result ≡ option_map num number }
-{
-    let value = number?;
-    Some(Value::from(value))
-}
-
-#[tactic(auto, unfolding(crate::specs::Classes::class_data))]
-fn class_value(
-    alloc: Global,
-    id: u32,
-    parent: Option<u32>,
-    choices: Option<Vec<Value>>,
-    times: Vec<Value>,
-) -> Result<Value, AllocError>
-    ensures { IfOk result (λ v. view v ≡ class_data id parent (option_map (λ rooms. map view rooms.items) choices) (map view times.items)) }
-{
-    let fields = Object::new(alloc)
-        .number("id", id)?
-        .number("limit", 50)?
-        .with_if("parent", number_if(parent))?
-        .with("times", Value::Array(times))?;
-    let whole = match choices {
-        Some(rooms) => fields.with("rooms", Value::Array(rooms))?,
-        None => fields.truth("room", false)?,
-    };
-    Ok(whole.into_value())
 }

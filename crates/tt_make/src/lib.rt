@@ -1,8 +1,9 @@
 //! Makes problems of any size, to try the desk on. A problem depends on its seed and its number of
 //! classes alone. `make_text` is the text of its definition, one JSON value whose parts are drawn
-//! in order; the code writes it part by part. Nothing says that a made problem has no fault.
+//! in order; the code writes its pieces as it draws. Nothing says that a made problem has no fault.
 #![tactic(auto)]
 
+mod append;
 mod choices;
 mod classes;
 mod courses;
@@ -13,6 +14,5 @@ mod rules;
 mod students;
 mod text;
 mod times;
-mod values;
 
 pub use text::make_text;

@@ -1,16 +1,14 @@
 //! Students: each asks for four courses, where one may stand twice.
 
-ghost use Rattle.std.specs.Prelude.{◌≡◌, ◌<◌, ◌≤◌, ⊤, IfOk};
-ghost use Rattle.serde_json.specs.View.{view};
+ghost use Rattle.std.specs.Prelude.{◌≡◌, ◌≤◌, ◌++◌, OnOk, ⊤};
+ghost use Rattle.serde_json.specs.Written.{compact_text};
 ghost use Rattle.tt_make.specs.Students.{student as student_of, request as request_of};
-ghost use Rattle.tt_make.specs.Plain.{student_plain, request_plain};
 
+use crate::append::{push_field, push_text};
 use crate::draws::draw;
-use crate::parts::{Part, drawn};
+use crate::parts::{Part, push_list};
 use rand_pcg::Lcg64Xsh32;
-use serde_json::Value;
 use std::alloc::{AllocError, Global};
-use tt_json::Object;
 
 /// The students of a problem, by their ids.
 #[derive(Drop)]
@@ -33,18 +31,21 @@ impl Part for Students {
 
     ghost covers = { λ students id. ⊤ };
 
-    ghost plain = { λ students id g. student_plain students.courses id g };
-
-    #[tactic(auto, unfolding(crate::specs::Students::student))]
-    fn draw(&self, alloc: Global, words: &mut Lcg64Xsh32, id: u32) -> Result<Value, AllocError> {
+    fn push(
+        &self,
+        alloc: Global,
+        out: &mut Vec<u8>,
+        words: &mut Lcg64Xsh32,
+        id: u32,
+    ) -> Result<(), AllocError> {
         let requests = Requests {
             courses: self.courses,
         };
-        let courses = drawn(alloc, words, &requests, 0, 4)?;
-        let student = Object::new(alloc)
-            .number("id", id)?
-            .with("courses", Value::Array(courses))?;
-        Ok(student.into_value())
+        push_text(out, r#"{"courses":"#)?;
+        push_list(alloc, out, words, &requests, 0, 4)?;
+        push_field(out, r#","id":"#, id)?;
+        push_text(out, "}")?;
+        Ok(())
     }
 }
 
@@ -53,11 +54,15 @@ impl Part for Requests {
 
     ghost covers = { λ requests i. ⊤ };
 
-    ghost plain = { λ requests i g. request_plain requests.courses g };
-
     #[tactic(auto, unfolding(crate::specs::Students::request))]
-    fn draw(&self, _alloc: Global, words: &mut Lcg64Xsh32, _i: u32) -> Result<Value, AllocError> {
+    fn push(
+        &self,
+        _alloc: Global,
+        out: &mut Vec<u8>,
+        words: &mut Lcg64Xsh32,
+        _i: u32,
+    ) -> Result<(), AllocError> {
         let course = draw(words, self.courses);
-        Ok(Value::from(1 + course))
+        push_field(out, "", 1 + course)
     }
 }

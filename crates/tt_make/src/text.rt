@@ -1,9 +1,10 @@
-//! The text of a problem. It is written part by part, so that no more than one course or one
-//! student is held as a value.
+//! The text of a problem. It is written piece by piece, as it is drawn, and nothing of it is held
+//! as a value.
 
-ghost use Rattle.std.specs.Prelude.{◌≡◌, ◌≤◌, ◌++◌, IfOk, OnOk};
+ghost use Rattle.std.specs.Prelude.{◌≡◌, ◌≤◌, IfOk};
 ghost use Rattle.tt_make.specs.Text.{make_text as text_of};
 
+use crate::append::push_text;
 use crate::courses::{Courses, course_count};
 use crate::parts::push_list;
 use crate::rooms::Rooms;
@@ -44,10 +45,4 @@ pub fn make_text(alloc: Global, seed: u64, classes: u32) -> Result<Vec<u8>, Allo
     push_list(alloc, &mut out, &mut words, &all, 1, 15 * classes / 4)?;
     push_text(&mut out, "}")?;
     Ok(out)
-}
-
-fn push_text(out: &mut Vec<u8>, text: &str) -> Result<(), AllocError>
-    ensures { OnOk result (out.new.items ≡ out.old.items ++ text.now) }
-{
-    out.extend_from_slice(text.as_bytes())
 }

@@ -1,17 +1,15 @@
 //! Times: days and weeks are taken from lists, and all else is drawn from a range.
 
-ghost use Rattle.std.specs.Prelude.{◌≡◌, ◌<◌, IfOk, ⊤};
-ghost use Rattle.serde_json.specs.View.{view};
+ghost use Rattle.std.specs.Prelude.{◌≡◌, ◌<◌, ◌++◌, OnOk, ⊤};
+ghost use Rattle.serde_json.specs.Written.{compact_text};
 ghost use Rattle.tt_make.specs.Values.{word_at};
 ghost use Rattle.tt_make.specs.Classes.{day_words, week_words, time as time_of, time_data};
-ghost use Rattle.tt_make.specs.Plain.{time_plain};
 
+use crate::append::{push_field, push_text, push_word};
 use crate::draws::draw;
 use crate::parts::Part;
 use rand_pcg::Lcg64Xsh32;
-use serde_json::Value;
 use std::alloc::{AllocError, Global};
-use tt_json::Object;
 
 /// The times that a class may have.
 #[derive(Drop)]
@@ -22,10 +20,14 @@ impl Part for Times {
 
     ghost covers = { λ times i. ⊤ };
 
-    ghost plain = { λ times i g. time_plain g };
-
     #[tactic(auto, unfolding(crate::specs::Classes::time))]
-    fn draw(&self, alloc: Global, words: &mut Lcg64Xsh32, _i: u32) -> Result<Value, AllocError> {
+    fn push(
+        &self,
+        _alloc: Global,
+        out: &mut Vec<u8>,
+        words: &mut Lcg64Xsh32,
+        _i: u32,
+    ) -> Result<(), AllocError> {
         let days = draw(words, 9);
         let start = draw(words, 10);
         let length = draw(words, 3);
@@ -38,7 +40,7 @@ impl Part for Times {
             weeks,
             penalty,
         };
-        time_value(alloc, drawn)
+        push_time(out, drawn)
     }
 }
 
@@ -73,19 +75,18 @@ struct DrawnTime {
     penalty: u32,
 }
 
-#[tactic(auto, unfolding(crate::specs::Classes::time_data))]
-fn time_value(alloc: Global, drawn: DrawnTime) -> Result<Value, AllocError>
+fn push_time(out: &mut Vec<u8>, drawn: DrawnTime) -> Result<(), AllocError>
     requires days { drawn.days < 9 }
     requires start { drawn.start < 10 }
     requires length { drawn.length < 3 }
     requires weeks { drawn.weeks < 3 }
-    ensures { IfOk result (λ v. view v ≡ time_data drawn.days drawn.start drawn.length drawn.weeks drawn.penalty) }
+    ensures { OnOk result (out.new.items ≡ out.old.items ++ compact_text (time_data drawn.days drawn.start drawn.length drawn.weeks drawn.penalty)) }
 {
-    let time = Object::new(alloc)
-        .text("days", day_word(drawn.days))?
-        .number("start", 96 + 12 * drawn.start)?
-        .number("length", 10 + 6 * drawn.length)?
-        .text("weeks", week_word(drawn.weeks))?
-        .number("penalty", drawn.penalty)?;
-    Ok(time.into_value())
+    push_word(out, r#"{"days":"#, day_word(drawn.days))?;
+    push_field(out, r#","length":"#, 10 + 6 * drawn.length)?;
+    push_field(out, r#","penalty":"#, drawn.penalty)?;
+    push_field(out, r#","start":"#, 96 + 12 * drawn.start)?;
+    push_word(out, r#","weeks":"#, week_word(drawn.weeks))?;
+    push_text(out, "}")?;
+    Ok(())
 }
