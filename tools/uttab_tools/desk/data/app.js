@@ -177,7 +177,8 @@ const showList = async shown => {
 const QUESTION = { unplaced: "violations", look: "violations", costs: "costs" };
 const SLOW = "costs";
 const newList = async (tab, seen, reply, left = {}) => {
-  const list = { tab, seen, left };
+  const list = { tab, seen, left, text: [...reply?.slice(0, -1) ?? [], left.class].join("\n") }, old = app.shown?.list;
+  if (tab === "unplaced" && old?.tab === tab && old.text === list.text) return Object.assign(old, { seen });
   if (QUESTION[tab] === "violations") list.violations = R.violations(reply);
   if (tab === "costs") list.costs = topCosts(R.costs(reply));
   if (tab === "look") list.places = await placesOf([...list.violations.clashes.map(pair => pair[0]), ...list.violations.closed]);

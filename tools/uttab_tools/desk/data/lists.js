@@ -124,7 +124,7 @@ const drawList = () => {
     if (app.state.search && tab !== "steps") add(list, "p", "While a search runs, this is a moment old.", "soft");
     DRAW[tab](list, own);
   };
-  if (list.dataset.of === tab) keepingFocus(list, draw); else { list.dataset.of = tab; draw(); list.scrollTop = 0; }
+  if (list.dataset.of === tab) keepingFocus(list, draw); else { list.dataset.of = tab; list.scrollTop = 0; draw(); }
 };
 
 export const setUpLists = () => {
