@@ -7,7 +7,7 @@ from pathlib import Path
 from shutil import which
 
 import pytest
-from desk_help import PATIENCE, Desk, until
+from desk_help import PATIENCE, Desk, end_browser, until
 
 webdriver = pytest.importorskip("selenium.webdriver", reason="there is no python3-selenium")
 from selenium.common.exceptions import WebDriverException  # noqa: E402
@@ -52,7 +52,7 @@ class Browser:
             if SLOWER > 1:
                 self.driver.execute_cdp_cmd("Emulation.setCPUThrottlingRate", {"rate": SLOWER})
         except WebDriverException:
-            self.driver.quit()
+            end_browser(self.driver)
             raise
 
     def resize(self, width: int, height: int, dark: bool = False) -> None:
@@ -200,7 +200,7 @@ def browser_open() -> Iterator[Browser]:
     try:
         yield browser
     finally:
-        browser.driver.quit()
+        end_browser(browser.driver)
 
 
 def accessible() -> str:

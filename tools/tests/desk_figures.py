@@ -11,12 +11,13 @@ import statistics
 import sys
 import tempfile
 import time
-from collections.abc import Callable, Iterator
+from collections.abc import Callable
 from pathlib import Path
 
 sys.path[:0] = [str(Path(__file__).resolve().parent), str(Path(__file__).resolve().parents[1])]
+from conftest import PROGRAM  # noqa: E402
 from desk_browser import Browser, browser_open  # noqa: E402
-from desk_help import Desk, until  # noqa: E402
+from desk_help import Desk, children, until  # noqa: E402
 
 TICKS = os.sysconf("SC_CLK_TCK")
 TIMES = 9
@@ -28,18 +29,6 @@ TAB = "const app = await import('./app.js'); await app.setTab(arguments[0]); ret
 PLACE = """const { placeAt } = await import('./values.js'), find = kind => document.querySelector(`#values .value.${kind}`);
     await placeAt((find('free') || find('out')).dataset.key, true);
     return document.body.offsetHeight"""
-
-
-def children(process: int) -> Iterator[int]:
-    """A process, and all that it began."""
-    yield process
-    for task in Path(f"/proc/{process}/task").glob("*/children"):
-        try:
-            found = task.read_text().split()
-        except OSError:  # A thread that has ended meanwhile.
-            continue
-        for child in found:
-            yield from children(int(child))
 
 
 def used(processes: list[int]) -> float:
@@ -67,6 +56,12 @@ def renderer_megabytes(root: int) -> float:
         if b"--type=renderer" in Path(f"/proc/{process}/cmdline").read_bytes():
             found.append(private_megabytes(process))
     return max(found)
+
+
+def processor() -> str:
+    """What the system calls a processor of this machine."""
+    names = [line.partition(":")[2].strip() for line in Path("/proc/cpuinfo").read_text().splitlines() if line.startswith("model name")]
+    return names[0] if names else "an unknown kind"
 
 
 class Figures:
@@ -124,7 +119,8 @@ def main(words: list[str]) -> int:
         began = time.monotonic()
         desk = Desk(Path(folder) / "log.txt", problem)
         assert desk.process is not None
-        print(f"load of the machine {os.getloadavg()[0]:.0f}, {os.cpu_count()} processors\n{'':58} {'clock s':>8} {'proc. s':>8}")
+        print(f"{PROGRAM}, {problem}\n{os.cpu_count()} processors of {processor()}, load {os.getloadavg()[0]:.0f}\n"
+              f"{'':58} {'clock s':>8} {'proc. s':>8}")
         print(f"{'the desk begins: the problem is read':<58} {time.monotonic() - began:8.2f} {used([desk.process.pid]):8.2f}")
         try:
             with browser_open() as browser:

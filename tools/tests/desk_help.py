@@ -9,9 +9,9 @@ import subprocess
 import sys
 import time
 from collections.abc import Callable, Iterator
-from contextlib import contextmanager
+from contextlib import contextmanager, suppress
 from pathlib import Path
-from typing import TypeVar
+from typing import Any, TypeVar
 
 from conftest import PROGRAM, TOOLS, TOP
 
@@ -40,6 +40,30 @@ def until(call: Callable[[], Answer], what: str, seconds: float = 30) -> Answer:
             last = f"{type(error).__name__}: {error}"[:300]
         time.sleep(0.05)
     raise AssertionError(f"waited in vain for {what}; last: {last}")
+
+
+def children(process: int) -> Iterator[int]:
+    """A process, and all that it began."""
+    yield process
+    for task in Path(f"/proc/{process}/task").glob("*/children"):
+        try:
+            found = task.read_text().split()
+        except OSError:  # A thread that has ended meanwhile.
+            continue
+        for child in found:
+            yield from children(int(child))
+
+
+def end_browser(driver: Any) -> None:
+    """Ends a browser with all that it began, which its driver leaves behind where that takes long."""
+    began = list(children(driver.service.process.pid))
+    try:
+        driver.quit()
+    finally:
+        for process in began:
+            with suppress(OSError):
+                if b"chrom" in Path(f"/proc/{process}/cmdline").read_bytes():
+                    os.kill(process, signal.SIGKILL)
 
 
 def commands(log: Path) -> list[str]:

@@ -10,7 +10,7 @@ from typing import Any
 
 import pytest
 from conftest import TOP
-from desk_help import until
+from desk_help import end_browser, until
 
 from uttab_tools.__main__ import main
 
@@ -70,10 +70,12 @@ def browser() -> Iterator[Any]:
     for word in ("--headless", "--no-sandbox", "--disable-gpu", "--hide-scrollbars", "--disable-dev-shm-usage"):
         options.add_argument(word)
     found = webdriver.Chrome(service=Service(DRIVER), options=options)
-    found.set_page_load_timeout(180)
-    found.set_script_timeout(180)
-    yield found
-    found.quit()
+    try:
+        found.set_page_load_timeout(180)
+        found.set_script_timeout(180)
+        yield found
+    finally:
+        end_browser(found)
 
 
 def show(browser: Any, path: Path, part: str = "", width: int = 1280) -> None:

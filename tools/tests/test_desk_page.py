@@ -241,6 +241,28 @@ def test_weeks_students_and_lists(browser: Browser, begin: Callable[..., Desk], 
     browser.command("violations", "class 701 missing")
 
 
+def test_a_list_follows_what_is_done_and_stays_where_it_is(browser: Browser, begin: Callable[..., Desk]) -> None:
+    """A list that is long stays scrolled as it was, with what is new in it; that of costs follows when the week is drawn."""
+    begin()
+    browser.resize(1440, 500)
+    browser.choose(701)
+    until(lambda: browser.has("#values .value"), "the places")
+    browser.run("document.querySelector('#list').scrollTop = 300; document.querySelector('#panel .scroll').scrollTop = 60")
+    browser.await_("await new Promise(requestAnimationFrame); const app = await import('./app.js'); await app.perform(['assign 101 1 2'], 'Done'); return 1")
+    assert not browser.has("#list [data-id='101']") and browser.has("#list [data-id='701'][aria-current]")
+    assert browser.run("return [document.querySelector('#list').scrollTop, document.querySelector('#panel .scroll').scrollTop]") == [300, 60]
+    browser.resize(1440, 900)
+    browser.click("#tab-costs")
+    until(lambda: browser.has("#list[aria-busy=false] h3"), "the costs")
+    assert not browser.has("#list .class")
+    browser.await_("const app = await import('./app.js'); await app.perform(['enrol all', 'search 61 11'], 'Done'); return 1")
+    assert browser.has("#list[aria-busy=false] .class")
+    first = browser.run("return Number(document.querySelector('#list .class').dataset.id)")
+    browser.await_("const app = await import('./app.js'); await app.choose(arguments[0]); return 1", first)
+    marked = browser.run("return [...document.querySelectorAll('#list [aria-current]')].map(one => Number(one.dataset.id))")
+    assert isinstance(marked, list) and set(marked) == {first}
+
+
 WATCHED = """window.seen = [];
     new MutationObserver(() => window.seen.push(document.querySelector('#cell-unplaced').innerText.replace(/\\s+/g, ' ')))
         .observe(document.querySelector('#totals'), {childList: true, subtree: true, characterData: true});"""

@@ -13,16 +13,25 @@ def shortened(reply: Reply, most: object, largest: object = None) -> tuple[Reply
     if not isinstance(most, int) or len(reply) <= most:
         return reply, {}
     by = largest if isinstance(largest, dict) else {}
-    groups: dict[str, list[str]] = {}
-    for line in reply:
-        groups.setdefault(line.split(" ", 1)[0], []).append(line)
     kept, left = [], {}
-    for word, lines in groups.items():
+    for word, lines in by_first_word(reply).items():
         some = lines if len(lines) <= most else largest_of(lines, by[word], most) if word in by else lines[:most]
         kept += some
         if len(some) < len(lines):
             left[word] = len(lines) - len(some)
     return kept, left
+
+
+def by_first_word(reply: Reply) -> dict[str, list[str]]:
+    """The lines of a reply by their first word. Most lines have that of the line before."""
+    groups: dict[str, list[str]] = {}
+    front, own = "\n", list[str]()
+    for line in reply:
+        if not line.startswith(front):
+            word, space, _ = line.partition(" ")
+            front, own = word + (space or "\n"), groups.setdefault(word, [])
+        own.append(line)
+    return groups
 
 
 def largest_of(lines: Sequence[str], keys: Sequence[str], most: int) -> list[str]:

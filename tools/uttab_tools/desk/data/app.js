@@ -24,8 +24,10 @@ export const app = {
   shown: null,                                    // what the program said of all this
 };
 
-const draws = [];
+// Each part of the page draws itself; where another list is all that changes, those that draw the list.
+const draws = [], listDraws = [];
 export const onDraw = draw => { draws.push(draw); };
+export const onDrawOfList = draw => { draws.push(draw); listDraws.push(draw); };
 export const draw = () => { if (app.shown) draws.forEach(one => one()); };
 
 export const tell = (words, className = "") => {
@@ -146,20 +148,52 @@ export const follow = () => {
   events.onopen = () => { if ($("told").textContent === LOST) tell("The desk answers again."); };
 };
 
-// What is shown: asked for anew after each change, all of it at once.
+// What is shown: asked for anew after each change, all of it at once, but for a list that takes longer, which follows.
 
 let turn = 0;
 export const refresh = async () => {
-  const own = ++turn;
-  const shown = await load({ view: app.view, chosen: app.chosen, tab: app.tab }, () => own === turn);
+  const own = ++turn, { view, chosen, tab, state: { seen } } = app;
+  const shown = await load({ view, chosen, tab, seen }, () => own === turn);
   if (!shown || own !== turn) return;
   app.shown = shown;
   app.armed = null;
   draw();
+  if (shown.list.seen !== seen) await showList(shown);
 };
 
-const load = async ({ view, chosen, tab }, wanted) => {
-  const shown = { view, chosen, tab, whys: new Map() };
+// The list alone, beside what is shown already.
+const showList = async shown => {
+  const own = ++turn, { tab, state: { seen } } = app, question = QUESTION[tab];
+  const answer = question ? await ask([question], { most: MOST, largest: LARGEST }) : null;
+  if ((question && !answer) || own !== turn) return;
+  const list = await newList(tab, seen, answer?.replies[0], answer?.left[0]);
+  await know(namedInList(list));
+  if (own !== turn) return;
+  shown.list = list;
+  listDraws.forEach(one => one());
+};
+
+// What is asked for each list; `seen` is the state of the desk since which it holds.
+const QUESTION = { unplaced: "violations", look: "violations", costs: "costs" };
+const SLOW = "costs";
+const newList = async (tab, seen, reply, left = {}) => {
+  const list = { tab, seen, left, text: [...reply?.slice(0, -1) ?? [], left.class].join("\n") }, old = app.shown?.list;
+  if (tab === "unplaced" && old?.tab === tab && old.text === list.text) return Object.assign(old, { seen });
+  if (QUESTION[tab] === "violations") list.violations = R.violations(reply);
+  if (tab === "costs") list.costs = topCosts(R.costs(reply));
+  if (tab === "look") list.places = await placesOf([...list.violations.clashes.map(pair => pair[0]), ...list.violations.closed]);
+  if (tab === "moved") list.moved = (await request("moved", {}))?.moved ?? [];
+  return list;
+};
+// The list that stands, where it still holds or the new one takes longer.
+const keptList = (tab, seen) => {
+  const list = app.shown?.list;
+  if (list?.tab === tab && (list.seen === seen || tab === SLOW)) return list;
+  return tab === SLOW ? { tab } : null;
+};
+
+const load = async ({ view, chosen, tab, seen }, wanted) => {
+  const shown = { view, chosen, seen, whys: new Map(), list: keptList(tab, seen) };
   if (view.kind === "student") {
     const answer = await ask([`student ${view.id}`]);
     if (!answer) return null;
@@ -170,8 +204,7 @@ const load = async ({ view, chosen, tab }, wanted) => {
   const ids = [...new Set(chosen === null ? shown.ids : [...shown.ids, chosen])];
   const lines = ids.map(id => `explain ${id}`);
   if (chosen !== null) lines.push(`values ${chosen}`, `meets ${chosen}`);
-  if (tab === "unplaced" || tab === "look") lines.push("violations");
-  if (tab === "costs") lines.push("costs");
+  if (!shown.list && QUESTION[tab]) lines.push(QUESTION[tab]);
   const answer = wanted() ? await ask(lines, { most: MOST, largest: LARGEST, locked: ids }) : null;
   if (!answer) return null;
   const { replies, left, locked } = answer;
@@ -182,12 +215,9 @@ const load = async ({ view, chosen, tab }, wanted) => {
     shown.valuesLeft = left[ids.length].value || 0;
     shown.meets = R.meets(replies[ids.length + 1]);
   }
-  const last = replies[replies.length - 1];
-  if (tab === "unplaced" || tab === "look") { shown.violations = R.violations(last); shown.left = left[left.length - 1]; }
-  if (tab === "costs") { shown.costs = topCosts(R.costs(last)); shown.left = left[left.length - 1]; }
-  if (tab === "look") shown.places = await placesOf([...shown.violations.clashes.map(pair => pair[0]), ...shown.violations.closed]);
-  if (tab === "moved") shown.moved = (await request("moved", {}))?.moved ?? [];
-  await know(named(shown));
+  shown.list ??= await newList(tab, seen, replies.at(-1), left.at(-1));
+  const week = namedInWeek(shown), list = namedInList(shown.list);
+  await know({ class: [...week.class, ...list.class], rule: [...week.rule, ...list.rule], student: list.student });
   return shown;
 };
 
@@ -201,26 +231,32 @@ const top = (list, key) => list.filter(key).sort((a, b) => key(b) - key(a)).slic
 const topCosts = ({ rules, classes }) => ({
   rules: top(rules, one => one.cost), conflicts: top(classes, one => one.conflicts), penalties: top(classes, one => one.time + one.room) });
 
-// The parts that are named by what is shown.
-const named = shown => {
-  const classes = [...shown.explained.keys(), ...(shown.meets || []).map(one => one.id)];
-  const rules = [...shown.explained.values()].flatMap(one => one.rules.map(rule => rule.k));
-  const students = [];
-  for (const one of shown.explained.values()) classes.push(...one.clashes);
-  if (shown.violations) {
-    const { missing, clashes, closed, pairs, amounts, students: without } = shown.violations;
+// The parts that are named by the week and the chosen class.
+const namedInWeek = ({ explained, meets = [], values }) => {
+  const classes = [...explained.keys(), ...meets.map(one => one.id)], rules = [];
+  for (const one of explained.values()) {
+    classes.push(...one.clashes);
+    rules.push(...one.rules.map(rule => rule.k));
+  }
+  for (const value of values?.values() || []) {
+    if (value.rule) rules.push(value.rule);
+    if (value.locked !== undefined) classes.push(value.locked);
+  }
+  return { class: classes, rule: rules };
+};
+
+// The parts that are named by a list.
+const namedInList = ({ violations, costs, moved = [] }) => {
+  const classes = moved.slice(0, MOST_LISTED).map(one => one.id), rules = [], students = [];
+  if (violations) {
+    const { missing, clashes, closed, pairs, amounts, students: without } = violations;
     classes.push(...missing, ...clashes.flat(), ...closed, ...pairs.flatMap(pair => pair.classes));
     rules.push(...pairs.map(pair => pair.k), ...amounts.map(one => one.k));
     students.push(...without.slice(0, MOST_LISTED));
   }
-  if (shown.costs) {
-    rules.push(...shown.costs.rules.map(rule => rule.k));
-    classes.push(...shown.costs.conflicts.map(one => one.id), ...shown.costs.penalties.map(one => one.id));
-  }
-  for (const one of (shown.moved || []).slice(0, MOST_LISTED)) classes.push(one.id);
-  for (const value of shown.values?.values() || []) {
-    if (value.rule) rules.push(value.rule);
-    if (value.locked !== undefined) classes.push(value.locked);
+  if (costs) {
+    rules.push(...costs.rules.map(rule => rule.k));
+    classes.push(...costs.conflicts.map(one => one.id), ...costs.penalties.map(one => one.id));
   }
   return { class: classes, rule: rules, student: students };
 };
@@ -269,4 +305,8 @@ export const beside = async by => {
   const answer = await request("beside", { kind: app.view.kind, id: app.view.id, by });
   if (answer && !answer.error) await look(app.view.kind, answer.id);
 };
-export const setTab = async tab => { app.tab = tab; await refresh(); };
+export const setTab = async tab => {
+  app.tab = tab;
+  const { shown } = app, holds = shown && shown.seen === app.state.seen && shown.view === app.view && shown.chosen === app.chosen;
+  await (holds ? showList(shown) : refresh());
+};

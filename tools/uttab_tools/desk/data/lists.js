@@ -1,5 +1,5 @@
 // The lists: what is unplaced, what is to be looked at, where the total comes from, what has moved, the steps.
-import { $, app, isRunning, MOST_LISTED, onDraw, onState, setTab, undo } from "./app.js";
+import { $, app, isRunning, MOST_LISTED, onDrawOfList, onState, setTab, undo } from "./app.js";
 import { about, button, classItem, classLink, keepingFocus, link, plainList, ruleItem } from "./parts.js";
 import * as R from "./replies.js";
 import { head } from "./talk.js";
@@ -46,6 +46,7 @@ const drawLook = (list, { violations, left, places }) => {
 };
 
 const drawCosts = (list, { costs, left }) => {
+  if (!costs) { add(list, "p", "They are being added up.", "soft"); return; }
   section(list, "Most students in conflict", costs.conflicts, (made, one) => classItem(made, one.id, W.many(one.conflicts, "conflict")));
   section(list, "Dearest places", costs.penalties, (made, one) => classItem(made, one.id, `penalties: time ${one.time}, room ${one.room}`));
   if (left.class) add(list, "p", `and ${W.many(left.class, "more class", "more classes")} with conflicts or penalties`, "soft");
@@ -105,19 +106,29 @@ export const moveInTabs = async by => {
   $(`tab-${app.tab}`).focus();
 };
 
+// A list that is the same as before has only another class that is chosen.
+let drawn = null;
+const markChosen = list => {
+  for (const one of list.querySelectorAll(".class")) {
+    if (one.dataset.id === String(app.shown.chosen)) one.setAttribute("aria-current", "true"); else one.removeAttribute("aria-current");
+  }
+};
 const drawList = () => {
-  const list = $("list"), { tab } = app.shown;
+  const list = $("list"), own = app.shown.list, { tab } = own;
   list.setAttribute("aria-labelledby", `tab-${tab}`);
+  list.setAttribute("aria-busy", !(own.seen >= app.shown.seen));
+  if (own === drawn) { markChosen(list); return; }
+  drawn = own;
   const draw = () => {
     list.replaceChildren();
     if (app.state.search && tab !== "steps") add(list, "p", "While a search runs, this is a moment old.", "soft");
-    DRAW[tab](list, app.shown);
+    DRAW[tab](list, own);
   };
-  if (list.dataset.of === tab) keepingFocus(list, draw); else { list.dataset.of = tab; draw(); list.scrollTop = 0; }
+  if (list.dataset.of === tab) keepingFocus(list, draw); else { list.dataset.of = tab; list.scrollTop = 0; draw(); }
 };
 
 export const setUpLists = () => {
   onState(drawTabs);
-  onDraw(drawTabs);
-  onDraw(drawList);
+  onDrawOfList(drawTabs);
+  onDrawOfList(drawList);
 };

@@ -298,10 +298,10 @@ export const toggleLock = () => {
   if (id === null || !valueOf(id)) return null;
   return perform([`${locked.has(id) ? "unlock" : "lock"} ${id}`], `${W.say(id)} ${locked.has(id) ? "unlocked" : "locked"}`, "detail");
 };
+let scrolled = 0;  // how far the panel is scrolled
 const drawPanel = () => {
   const whole = $("panel"), id = app.shown.chosen, same = whole.dataset.of === String(id);
-  const scroll = same ? whole.firstElementChild?.scrollTop ?? 0 : 0;
-  if (!same) allRooms = false;
+  if (!same) { allRooms = false; scrolled = 0; }
   whole.dataset.of = id;
   keepingFocus(whole, () => {
     whole.replaceChildren();
@@ -316,7 +316,8 @@ const drawPanel = () => {
     const detail = add(whole, "p", "Point at a place, or move to it, to see who would have to go.", "soft");
     detail.id = "detail";
     detail.setAttribute("aria-live", "polite");
-    panel.scrollTop = scroll;
+    if (scrolled) panel.scrollTop = scrolled;
+    panel.addEventListener("scroll", () => { scrolled = panel.scrollTop; }, { passive: true });
   });
 };
 

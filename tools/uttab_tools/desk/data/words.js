@@ -2,7 +2,8 @@
 import { head, part, roomLabels, weekSets } from "./talk.js";
 import { clock } from "./grid.js";
 
-export const count = number => number.toLocaleString("en");
+const numbers = new Intl.NumberFormat("en");
+export const count = number => numbers.format(number);
 export const many = (number, one, more = one + "s") => `${count(number)} ${number === 1 ? one : more}`;
 // A difference of two numbers of the program.
 export const signed = number => (number > 0 ? "+" : number < 0 ? "−" : "±") + count(Math.abs(number));
