@@ -1,4 +1,5 @@
-// That the lines of a file are given whatever the pieces in which it is read.
+//! That the lines of a file are given whatever the pieces in which it is read.
+
 ghost use Rattle.std.specs.Prelude.{◌≡◌, ◌≤◌, true, IsTrue};
 
 use std::alloc::{AllocError, Global};

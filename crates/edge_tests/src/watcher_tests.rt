@@ -1,4 +1,5 @@
-// How often the line on a long command is written, and what it says.
+//! How often the line on a long command is written, and what it says.
+
 use std::alloc::{AllocError, Global};
 use std::cell::Cell;
 use std::fmt::Display;

@@ -1,3 +1,5 @@
+//! Tests of the tables of distributions and students.
+
 ghost use Rattle.tt_fields.specs.List.{IsFew};
 
 use crate::given::{Want, is_answer, parsed, two_ids};
@@ -5,7 +7,7 @@ use std::alloc::Global;
 use std::test::Fail;
 use tt_base::Row;
 use tt_bits::PairKind;
-use tt_fields::{FileFault, Known, Part, Wrong, list, whole};
+use tt_fields::{Field, FileFault, Known, Wrong, list, whole};
 use tt_lists::{read_rules, read_students};
 use tt_problem::{DistKind, Rule, StudentPart};
 
@@ -26,7 +28,7 @@ fn rules_at(
     alloc: Global,
     version: u8,
     known: &Known<'_>,
-    whole: &Part<'_>,
+    whole: &Field<'_>,
 ) -> Result<Row<Rule>, FileFault>
     requires { IsFew known.now }
 {
@@ -149,7 +151,7 @@ fn students_in(alloc: Global, known: &Known<'_>, text: &str) -> Result<Row<Stude
 fn students_at(
     alloc: Global,
     known: &Known<'_>,
-    whole: &Part<'_>,
+    whole: &Field<'_>,
 ) -> Result<Row<StudentPart>, FileFault>
     requires { IsFew known.now }
 {

@@ -1,3 +1,5 @@
+//! Tests of the term of a problem file.
+
 use crate::given::{Want, is_answer};
 use std::alloc::Global;
 use tt_fields::{FileFault, Wrong};

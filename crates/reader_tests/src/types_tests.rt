@@ -1,3 +1,5 @@
+//! Tests of the texts of rule types.
+
 use tt_bits::PairKind;
 use tt_problem::DistKind;
 use tt_types::read_type;

@@ -1,4 +1,5 @@
-// Whole files, whose references lead forward as well as back.
+//! Whole files, whose references lead forward as well as back.
+
 use crate::given::{Want, is_answer};
 use std::alloc::{AllocError, Global};
 use std::test::Fail;

@@ -1,4 +1,5 @@
-// A line that isn't kept is answered without a session.
+//! A line that isn't kept is answered without a session.
+
 use std::test::Fail;
 use tt_desk::{Outcome, Refusal, refuse_long_line};
 use tt_text::Reply;

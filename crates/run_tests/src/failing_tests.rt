@@ -1,4 +1,5 @@
-// One call on the files or the output that fails, at each place of each form of words.
+//! One call on the files or the output that fails, at each place of each form of words.
+
 use std::alloc::{AllocError, Global};
 use std::test::Fail;
 use tt_io::{MemFiles, MemSink};

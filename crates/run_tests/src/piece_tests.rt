@@ -1,4 +1,5 @@
-// Runs whose script is read piece by piece.
+//! Runs whose script is read piece by piece.
+
 ghost use Rattle.std.specs.Prelude.{◌||◌, is_some, None};
 
 use std::alloc::{AllocError, Global};

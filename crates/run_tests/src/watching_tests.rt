@@ -1,4 +1,5 @@
-// That the watcher of a run is the one that its commands tell.
+//! That the watcher of a run is the one that its commands tell.
+
 use std::alloc::{AllocError, Global};
 use std::test::Fail;
 use tt_io::{MemFiles, MemSink};

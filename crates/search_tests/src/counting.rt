@@ -1,3 +1,5 @@
+//! A watcher that counts what it is told.
+
 use tt_watch::{Progress, Watcher};
 
 /// A watcher that counts what it is told, and keeps the last.

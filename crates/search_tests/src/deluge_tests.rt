@@ -1,3 +1,5 @@
+//! Tests of the great deluge.
+
 use crate::counting::Counting;
 use std::alloc::Global;
 use std::test::Fail;
@@ -6,7 +8,7 @@ use tt_deluge::{Deluged, deluge};
 use tt_state::State;
 use tt_watch::{Progress, Silent};
 
-/// A class with two times, of which the second costs less.
+// A class with two times, of which the second costs less.
 const TWO_TIMES: &str = r#"{"nrDays":1,"nrWeeks":1,"slotsPerDay":288,
     "optimization":{"time":1,"room":1,"distribution":1,"student":1},
     "courses":[{"id":1,"configs":[{"subparts":[{"classes":[{"id":1,"room":false,"times":[

@@ -1,3 +1,5 @@
+//! Tests of the least enrolment.
+
 use crate::counting::Counting;
 use std::alloc::Global;
 use std::test::Fail;
@@ -6,8 +8,8 @@ use tt_enrol::{Enrolled, enrol, enrol_all};
 use tt_state::State;
 use tt_watch::{Progress, Silent};
 
-/// A course with a subpart of two classes, and a course of a class with one seat that meets when the
-/// first of the two does; a student of the second course and then the first, and one of the second.
+// A course with a subpart of two classes, and a course of a class with one seat that meets when the
+// first of the two does; a student of the second course and then the first, and one of the second.
 const TEXT: &str = r#"{"nrDays":1,"nrWeeks":1,"slotsPerDay":288,
     "optimization":{"time":1,"room":1,"distribution":1,"student":1},
     "courses":[

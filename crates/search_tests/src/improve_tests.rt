@@ -1,3 +1,5 @@
+//! Tests of descent.
+
 use crate::counting::Counting;
 use std::alloc::Global;
 use std::test::Fail;
@@ -6,14 +8,14 @@ use tt_improve::{Improved, improve};
 use tt_state::State;
 use tt_watch::{Progress, Silent};
 
-/// A class with two times, of which the second costs less.
+// A class with two times, of which the second costs less.
 const TWO_TIMES: &str = r#"{"nrDays":1,"nrWeeks":1,"slotsPerDay":288,
     "optimization":{"time":1,"room":1,"distribution":1,"student":1},
     "courses":[{"id":1,"configs":[{"subparts":[{"classes":[{"id":1,"room":false,"times":[
         {"days":"1","start":10,"length":4,"weeks":"1","penalty":5},
         {"days":"1","start":20,"length":4,"weeks":"1","penalty":1}]}]}]}]}]}"#;
 
-/// Two courses of two classes, each with the same two times, and two students, the first of both courses.
+// Two courses of two classes, each with the same two times, and two students, the first of both courses.
 const TWO_COURSES: &str = r#"{"nrDays":1,"nrWeeks":1,"slotsPerDay":288,
     "optimization":{"time":1,"room":1,"distribution":1,"student":1},
     "courses":[
@@ -25,7 +27,7 @@ const TWO_COURSES: &str = r#"{"nrDays":1,"nrWeeks":1,"slotsPerDay":288,
             {"id":4,"room":false,"limit":1,"times":[{"days":"1","start":10,"length":4,"weeks":"1","penalty":0},{"days":"1","start":20,"length":4,"weeks":"1","penalty":0}]}]}]}]}],
     "students":[{"id":1,"courses":[1,2]},{"id":2,"courses":[1,2]}]}"#;
 
-/// A class of the first course is the parent of the class of the second, which overlaps it.
+// A class of the first course is the parent of the class of the second, which overlaps it.
 const PARENT: &str = r#"{"nrDays":1,"nrWeeks":1,"slotsPerDay":288,
     "optimization":{"time":1,"room":1,"distribution":1,"student":1},
     "courses":[
@@ -36,7 +38,7 @@ const PARENT: &str = r#"{"nrDays":1,"nrWeeks":1,"slotsPerDay":288,
             {"id":3,"room":false,"parent":1,"times":[{"days":"1","start":10,"length":4,"weeks":"1","penalty":0}]}]}]}]}],
     "students":[{"id":1,"courses":[1,2]}]}"#;
 
-/// Two classes of one room with two times each. The second time of the first is the first of the second.
+// Two classes of one room with two times each. The second time of the first is the first of the second.
 const ONE_ROOM: &str = r#"{"nrDays":1,"nrWeeks":1,"slotsPerDay":288,
     "optimization":{"time":1,"room":1,"distribution":1,"student":1},
     "rooms":[{"id":1}],

@@ -1,3 +1,5 @@
+//! Tests of search, repair, `place` and `recall`.
+
 ghost use Rattle.std.specs.Prelude.{◌≡◌, IfOk};
 ghost use Rattle.tt_published.specs.Timetable.{IsTimetableOf};
 
@@ -14,7 +16,7 @@ use tt_solution::read_published;
 use tt_state::State;
 use tt_watch::{Progress, Silent};
 
-/// A class with two times, the first without a penalty, and a student of its course.
+// A class with two times, the first without a penalty, and a student of its course.
 const TWO_TIMES: &str = r#"{"nrDays":1,"nrWeeks":1,"slotsPerDay":288,
     "optimization":{"time":1,"room":1,"distribution":1,"student":1},
     "courses":[{"id":1,"configs":[{"subparts":[{"classes":[{"id":1,"room":false,"times":[
@@ -22,11 +24,11 @@ const TWO_TIMES: &str = r#"{"nrDays":1,"nrWeeks":1,"slotsPerDay":288,
         {"days":"1","start":20,"length":4,"weeks":"1","penalty":5}]}]}]}]}],
     "students":[{"id":7,"courses":[1]}]}"#;
 
-/// That class, published at the second time with that student.
+// That class, published at the second time with that student.
 const SECOND_TIME: &str =
     r#"{"classes":[{"id":1,"days":"1","start":20,"weeks":"1","students":[7]}]}"#;
 
-/// Two classes that can't be at once in their one room, of which the second has two times.
+// Two classes that can't be at once in their one room, of which the second has two times.
 const ONE_ROOM: &str = r#"{"nrDays":1,"nrWeeks":1,"slotsPerDay":288,
     "optimization":{"time":1,"room":1,"distribution":1,"student":1},
     "rooms":[{"id":1}],
@@ -37,13 +39,13 @@ const ONE_ROOM: &str = r#"{"nrDays":1,"nrWeeks":1,"slotsPerDay":288,
             {"days":"1","start":10,"length":4,"weeks":"1","penalty":0},
             {"days":"1","start":11,"length":4,"weeks":"1","penalty":3}]}]}]}]}]}"#;
 
-/// A class with one time, which has a penalty, and no room.
+// A class with one time, which has a penalty, and no room.
 const ONE_TIME: &str = r#"{"nrDays":1,"nrWeeks":1,"slotsPerDay":288,
     "optimization":{"time":2,"room":1,"distribution":1,"student":1},
     "courses":[{"id":1,"configs":[{"subparts":[{"classes":[{"id":1,"room":false,"times":[
         {"days":"1","start":10,"length":4,"weeks":"1","penalty":4}]}]}]}]}]}"#;
 
-/// Two classes of which only one can be placed, in their one room at their one time.
+// Two classes of which only one can be placed, in their one room at their one time.
 const ONE_OF_TWO: &str = r#"{"nrDays":5,"nrWeeks":5,"slotsPerDay":288,
     "optimization":{"time":1,"room":1,"distribution":1,"student":1},
     "rooms":[{"id":1}],

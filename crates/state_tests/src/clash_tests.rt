@@ -1,3 +1,5 @@
+//! Tests of blocked values and conflict sets.
+
 ghost use Rattle.std.specs.Prelude.{◌≡◌, length, replicate, None};
 ghost use Rattle.tt_score.specs.Fits.{Fits, plan_of};
 
@@ -9,8 +11,8 @@ use tt_problem::Problem;
 use tt_read::read;
 use tt_score::Score;
 
-/// Two classes that share a room, and two that need none: one day in all for the latter two, and no
-/// day that the second and the last both meet on.
+// Two classes that share a room, and two that need none: one day in all for the latter two, and no
+// day that the second and the last both meet on.
 const TEXT: &str = r#"{"nrDays":3,"nrWeeks":1,"slotsPerDay":288,
     "optimization":{"time":1,"room":1,"distribution":1,"student":1},
     "rooms":[{"id":71,"unavailable":[{"days":"100","start":0,"length":9,"weeks":"1"}]}],

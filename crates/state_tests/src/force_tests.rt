@@ -1,3 +1,5 @@
+//! Tests of classes that are forced, and of lists given within a step.
+
 use std::test::Fail;
 use test_help::{assigns, forces, state_of, value};
 use tt_bits::{Key, Value};
@@ -5,8 +7,8 @@ use tt_clash::blocked;
 use tt_plan::spot;
 use tt_state::{SectionFault, State};
 
-/// A room with two classes that may meet in it at one time, the second also a slot later; and a
-/// student who needs both.
+// A room with two classes that may meet in it at one time, the second also a slot later; and a
+// student who needs both.
 const TEXT: &str = r#"{"nrDays":1,"nrWeeks":1,"slotsPerDay":288,
     "optimization":{"time":1,"room":1,"distribution":1,"student":1},
     "rooms":[{"id":1}],
@@ -18,7 +20,7 @@ const TEXT: &str = r#"{"nrDays":1,"nrWeeks":1,"slotsPerDay":288,
             {"days":"1","start":11,"length":4,"weeks":"1","penalty":3}]}]}]}]}],
     "students":[{"id":1,"courses":[1]}]}"#;
 
-/// The first value of each class.
+// The first value of each class.
 const FIRST: Value = Value { time: 0, room: 0 };
 
 // How often the second class at a value has pushed out the first class.

@@ -1,11 +1,13 @@
+//! Tests of locks.
+
 ghost use Rattle.std.specs.Prelude.{◌≡◌};
 
 use std::test::Fail;
 use test_help::{assigns, forces, state_of, value};
 use tt_state::{LockFault, Obstacle, State};
 
-/// A room with two classes that may meet in it at one time, each also a slot later; and a class that
-/// needs no room.
+// A room with two classes that may meet in it at one time, each also a slot later; and a class that
+// needs no room.
 const TEXT: &str = r#"{"nrDays":1,"nrWeeks":1,"slotsPerDay":288,
     "optimization":{"time":1,"room":1,"distribution":1,"student":1},
     "rooms":[{"id":1}],

@@ -1,3 +1,5 @@
+//! Tests of domains, values and enrolments.
+
 use std::test::Fail;
 use test_help::problem;
 use tt_bits::Value;

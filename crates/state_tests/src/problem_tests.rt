@@ -1,3 +1,5 @@
+//! Tests of the problem and the sums over it.
+
 use std::alloc::{AllocError, Global};
 use std::test::Fail;
 use test_help::problem;

@@ -1,3 +1,5 @@
+//! Tests of the roster.
+
 ghost use Rattle.std.specs.Prelude.{◌≡◌, length, replicate, None, []};
 ghost use Rattle.tt_roster.specs.Kept.{IsRosterOf};
 

@@ -1,3 +1,5 @@
+//! Tests of the score.
+
 ghost use Rattle.std.specs.Prelude.{◌≡◌, length, replicate, None, []};
 ghost use Rattle.tt_score.specs.Fits.{Fits, plan_of, closures_of};
 

@@ -1,3 +1,5 @@
+//! Tests of the state: values, lists, closures, and going back.
+
 use std::test::Fail;
 use test_help::{assigns, problem, small_problem, value};
 use tt_bits::{Days, Time, Weeks};

@@ -1,3 +1,5 @@
+//! Tests of the answers of `suggest`.
+
 ghost use Rattle.std.specs.Prelude.{◌≤◌};
 
 use std::alloc::{AllocError, Global};
@@ -8,8 +10,8 @@ use tt_state::State;
 use tt_suggest::{Move, SuggestEnd, Suggested, suggest};
 use tt_text::Reply;
 
-/// A room; a class with one time; and a class whose first time is the same, and whose second time
-/// costs less.
+// A room; a class with one time; and a class whose first time is the same, and whose second time
+// costs less.
 const ONE_ROOM: &str = r#"{"nrDays":1,"nrWeeks":1,"slotsPerDay":288,
     "optimization":{"time":1,"room":1,"distribution":1,"student":1},
     "rooms":[{"id":1}],
@@ -20,7 +22,7 @@ const ONE_ROOM: &str = r#"{"nrDays":1,"nrWeeks":1,"slotsPerDay":288,
             {"days":"1","start":10,"length":4,"weeks":"1","penalty":5},
             {"days":"1","start":20,"length":4,"weeks":"1","penalty":1}]}]}]}]}]}"#;
 
-/// There the first class gets its time, and the second one its second time.
+// There the first class gets its time, and the second one its second time.
 const BOTH_MOVES: [Move; 2] = [
     Move {
         class: 0,

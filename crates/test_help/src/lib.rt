@@ -13,8 +13,8 @@ use tt_problem::Problem;
 use tt_read::read;
 use tt_state::State;
 
-/// A course with a subpart of two classes and one of a third, whose parent is the first class and
-/// which has one seat; two rooms; and two students of the course.
+// A course with a subpart of two classes and one of a third, whose parent is the first class and
+// which has one seat; two rooms; and two students of the course.
 const TEXT: &str = r#"{"nrDays":2,"nrWeeks":2,"slotsPerDay":288,
     "optimization":{"time":2,"room":3,"distribution":5,"student":7},
     "rooms":[
@@ -36,7 +36,7 @@ const TEXT: &str = r#"{"nrDays":2,"nrWeeks":2,"slotsPerDay":288,
         {"type":"MaxBreaks(0,1)","required":true,"classes":[21,23]}],
     "students":[{"id":31,"courses":[40]},{"id":32,"courses":[40]}]}"#;
 
-/// A course with one class that needs no room, and nothing else.
+// A course with one class that needs no room, and nothing else.
 const SMALL_TEXT: &str = r#"{"nrDays":1,"nrWeeks":1,"slotsPerDay":288,
     "optimization":{"time":1,"room":1,"distribution":1,"student":1},
     "courses":[{"id":1,"configs":[{"subparts":[{"classes":[{"id":1,"times":[

@@ -1,3 +1,5 @@
+//! Tests of the lines of `explain`, `why` and `stats`.
+
 use std::alloc::Global;
 use std::test::Fail;
 use test_help::{assigns, forces, sections, state_of, value};
@@ -5,7 +7,7 @@ use tt_explain::{explain, stats, why};
 use tt_state::State;
 use tt_text::Reply;
 
-/// A class with two rooms, of which one is unavailable at its time.
+// A class with two rooms, of which one is unavailable at its time.
 const TWO_ROOMS: &str = r#"{"nrDays":1,"nrWeeks":1,"slotsPerDay":288,
     "optimization":{"time":1,"room":1,"distribution":1,"student":1},
     "rooms":[
@@ -15,7 +17,7 @@ const TWO_ROOMS: &str = r#"{"nrDays":1,"nrWeeks":1,"slotsPerDay":288,
         {"id":1,"rooms":[{"id":1,"penalty":0},{"id":2,"penalty":1}],"times":[
             {"days":"1","start":10,"length":4,"weeks":"1","penalty":0}]}]}]}]}]}"#;
 
-/// Three classes on three days, a rule that allows two, and two rules that the first two break.
+// Three classes on three days, a rule that allows two, and two rules that the first two break.
 const THREE_DAYS: &str = r#"{"nrDays":3,"nrWeeks":1,"slotsPerDay":288,
     "optimization":{"time":1,"room":1,"distribution":1,"student":1},
     "courses":[{"id":1,"configs":[{"subparts":[{"classes":[
@@ -27,7 +29,7 @@ const THREE_DAYS: &str = r#"{"nrDays":3,"nrWeeks":1,"slotsPerDay":288,
         {"type":"SameDays","penalty":7,"classes":[1,2]},
         {"type":"DifferentTime","required":true,"classes":[2,1]}]}"#;
 
-/// Two classes of one course that want one room, and a student.
+// Two classes of one course that want one room, and a student.
 const ONE_ROOM: &str = r#"{"nrDays":1,"nrWeeks":1,"slotsPerDay":288,
     "optimization":{"time":1,"room":1,"distribution":1,"student":1},
     "rooms":[{"id":8}],

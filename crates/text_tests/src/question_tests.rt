@@ -1,3 +1,5 @@
+//! Tests of the lines of `values`, `student`, `meets` and `costs`.
+
 use std::alloc::Global;
 use std::test::Fail;
 use test_help::{assigns, forces, sections, state_of, value};
@@ -6,7 +8,7 @@ use tt_explain::{costs, meets, student, values, why};
 use tt_state::State;
 use tt_text::Reply;
 
-/// Two classes of one room, which the second can avoid.
+// Two classes of one room, which the second can avoid.
 const ONE_ROOM: &str = r#"{"nrDays":1,"nrWeeks":1,"slotsPerDay":288,
     "optimization":{"time":1,"room":1,"distribution":1,"student":1},
     "rooms":[{"id":1}],
@@ -17,7 +19,7 @@ const ONE_ROOM: &str = r#"{"nrDays":1,"nrWeeks":1,"slotsPerDay":288,
             {"days":"1","start":10,"length":4,"weeks":"1","penalty":5},
             {"days":"1","start":20,"length":4,"weeks":"1","penalty":1}]}]}]}]}]}"#;
 
-/// A class with two rooms, of which one is unavailable at its time.
+// A class with two rooms, of which one is unavailable at its time.
 const TWO_ROOMS: &str = r#"{"nrDays":1,"nrWeeks":1,"slotsPerDay":288,
     "optimization":{"time":1,"room":1,"distribution":1,"student":1},
     "rooms":[
@@ -27,7 +29,7 @@ const TWO_ROOMS: &str = r#"{"nrDays":1,"nrWeeks":1,"slotsPerDay":288,
         {"id":1,"rooms":[{"id":1,"penalty":0},{"id":2,"penalty":1}],"times":[
             {"days":"1","start":10,"length":4,"weeks":"1","penalty":0}]}]}]}]}]}"#;
 
-/// Two courses with two classes each, all at the same two times, and a student of both.
+// Two courses with two classes each, all at the same two times, and a student of both.
 const TWO_COURSES: &str = r#"{"nrDays":1,"nrWeeks":1,"slotsPerDay":288,
     "optimization":{"time":1,"room":1,"distribution":1,"student":1},
     "courses":[
@@ -47,8 +49,8 @@ const TWO_COURSES: &str = r#"{"nrDays":1,"nrWeeks":1,"slotsPerDay":288,
                 {"days":"1","start":20,"length":4,"weeks":"1","penalty":0}]}]}]}]}],
     "students":[{"id":1,"courses":[1,2]}]}"#;
 
-/// Two classes on two days; a soft rule that they break, one that they keep, and a required one that
-/// they break.
+// Two classes on two days; a soft rule that they break, one that they keep, and a required one that
+// they break.
 const RULES: &str = r#"{"nrDays":2,"nrWeeks":1,"slotsPerDay":288,
     "optimization":{"time":2,"room":1,"distribution":3,"student":1},
     "courses":[{"id":1,"configs":[{"subparts":[{"classes":[

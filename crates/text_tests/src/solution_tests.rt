@@ -1,3 +1,5 @@
+//! Tests of published timetables and drafts.
+
 use std::alloc::Global;
 use std::test::Fail;
 use test_help::{assigns, problem, sections, state_of, value};
@@ -7,16 +9,16 @@ use tt_solution::{read_published, write_published};
 use tt_state::State;
 use tt_text::Reply;
 
-/// A course with one class, which needs no room.
+// A course with one class, which needs no room.
 const ONE: &str = r#"{"nrDays":1,"nrWeeks":1,"slotsPerDay":288,
     "optimization":{"time":2,"room":1,"distribution":1,"student":1},
     "courses":[{"id":1,"configs":[{"id":1,"subparts":[{"id":1,"classes":[{"id":1,"room":false,
         "times":[{"days":"1","start":10,"length":4,"weeks":"1","penalty":4}]}]}]}]}]}"#;
 
-/// What is published of it, once the class is placed.
+// What is published of it, once the class is placed.
 const LINE: &str = r#"{"classes":[{"days":"1","id":1,"start":10,"students":[],"weeks":"1"}]}"#;
 
-/// Two subparts, the classes of the second each with a parent in the first, and two students.
+// Two subparts, the classes of the second each with a parent in the first, and two students.
 const PARENTS: &str = r#"{"nrDays":1,"nrWeeks":1,"slotsPerDay":288,
     "optimization":{"time":1,"room":1,"distribution":1,"student":1},
     "courses":[{"id":1,"configs":[{"subparts":[
@@ -28,15 +30,15 @@ const PARENTS: &str = r#"{"nrDays":1,"nrWeeks":1,"slotsPerDay":288,
             {"id":4,"parent":2,"times":[{"days":"1","start":10,"length":4,"weeks":"1","penalty":0}]}]}]}]}],
     "students":[{"id":1,"courses":[1]},{"id":2,"courses":[1]}]}"#;
 
-/// What is drafted of it, once each student has two classes and all but the second are placed.
+// What is drafted of it, once each student has two classes and all but the second are placed.
 const DRAFT: &str = concat!(
     r#"{"classes":[{"days":"1","id":1,"start":10,"students":[1],"weeks":"1"},"#,
     r#"{"days":"1","id":3,"start":10,"students":[1],"weeks":"1"},"#,
     r#"{"days":"1","id":4,"start":10,"students":[2],"weeks":"1"}]}"#,
 );
 
-/// Two classes of the larger problem. The second is listed first, with a room that isn't the
-/// problem's, and names a student twice.
+// Two classes of the larger problem. The second is listed first, with a room that isn't the
+// problem's, and names a student twice.
 const TWO: &str = r#"{"classes":[
     {"id":"23","days":"11","start":16,"weeks":"11","room":9,"students":[32,{"id":31},"32"]},
     {"students":[31],"weeks":"10","start":4,"room":null,"days":"10","id":21}]}"#;

@@ -1,3 +1,5 @@
+//! Tests of the lines of `violations`.
+
 use std::alloc::Global;
 use std::test::Fail;
 use test_help::{assigns, sections, state_of};
@@ -6,13 +8,13 @@ use tt_explain::violations;
 use tt_state::State;
 use tt_text::Reply;
 
-/// A course with one class, which needs no room.
+// A course with one class, which needs no room.
 const ONE: &str = r#"{"nrDays":1,"nrWeeks":1,"slotsPerDay":288,
     "optimization":{"time":2,"room":1,"distribution":1,"student":1},
     "courses":[{"id":1,"configs":[{"subparts":[{"classes":[{"id":1,"room":false,"times":[
         {"days":"1","start":10,"length":4,"weeks":"1","penalty":4}]}]}]}]}]}"#;
 
-/// Two classes in one room at one time, which share ten cells.
+// Two classes in one room at one time, which share ten cells.
 const TOGETHER: &str = r#"{"nrDays":5,"nrWeeks":5,"slotsPerDay":288,
     "optimization":{"time":1,"room":1,"distribution":1,"student":1},
     "rooms":[{"id":1}],
@@ -22,7 +24,7 @@ const TOGETHER: &str = r#"{"nrDays":5,"nrWeeks":5,"slotsPerDay":288,
         {"id":2,"rooms":[{"id":1,"penalty":0}],"times":[
             {"days":"11000","start":100,"length":12,"weeks":"11111","penalty":0}]}]}]}]}]}"#;
 
-/// A class with two rooms, of which the file closes one at its time.
+// A class with two rooms, of which the file closes one at its time.
 const TWO_ROOMS: &str = r#"{"nrDays":1,"nrWeeks":1,"slotsPerDay":288,
     "optimization":{"time":1,"room":1,"distribution":1,"student":1},
     "rooms":[
@@ -32,8 +34,8 @@ const TWO_ROOMS: &str = r#"{"nrDays":1,"nrWeeks":1,"slotsPerDay":288,
         {"id":1,"rooms":[{"id":1,"penalty":0},{"id":2,"penalty":1}],"times":[
             {"days":"1","start":10,"length":4,"weeks":"1","penalty":0}]}]}]}]}]}"#;
 
-/// Two classes at one time that two required rules forbid, a student of their course, and one of
-/// none.
+// Two classes at one time that two required rules forbid, a student of their course, and one of
+// none.
 const RULES: &str = r#"{"nrDays":1,"nrWeeks":1,"slotsPerDay":288,
     "optimization":{"time":1,"room":1,"distribution":1,"student":1},
     "courses":[{"id":1,"configs":[{"subparts":[

@@ -1,3 +1,5 @@
+//! A list that contracts see as its items.
+
 ghost use Rattle.std.specs.Prelude.{◌≡◌, ◌==◌, length, slice_get, option_copied};
 
 use std::marker::Model;

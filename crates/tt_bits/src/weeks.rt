@@ -1,3 +1,4 @@
+//! Sets of weeks.
 #![tactic(auto, using(tt_base::proofs::SetLemmas::set_words))]
 
 ghost use Rattle.std.specs.Prelude.{ℕ, ◌≡◌, ◌<◌, ◌≤◌, ◌^◌, ◌==◌, ◌&&◌, IfOk, IfSome, nat_lt, slice_index, string_bytes};

@@ -1,9 +1,11 @@
+//! The text of a set.
+
 ghost use Rattle.std.specs.Prelude.{◌≡◌, ◌≤◌, ◌∷◌, [], if◌then◌else◌, IfOk, string_bytes};
 ghost use Rattle.tt_bits.specs.Sets.{set_text};
 
 use std::alloc::{AllocError, Global};
 
-/// 1 for a place of a set, else 0.
+// 1 for a place of a set, else 0.
 fn digit(in_set: bool) -> &'static str
     ensures { result.now ≡ (if in_set then 49 else 48) ∷ [] }
 {

@@ -1,9 +1,11 @@
+//! Tests of the counts of the conflict-based statistics.
+
 use crate::Cbs;
 use std::alloc::AllocError;
 use std::test::Fail;
 use tt_bits::{Key, Value};
 
-/// The key of a class at the first of its values, for which another lost a value in this room.
+// The key of a class at the first of its values, for which another lost a value in this room.
 fn key(class: u32, other: u32, room: u16) -> Key {
     Key {
         class,
@@ -13,7 +15,7 @@ fn key(class: u32, other: u32, room: u16) -> Key {
     }
 }
 
-/// Raises a count that may grow.
+// Raises a count that may grow.
 fn raise(counts: &mut Cbs, key: Key) -> Result<(), AllocError> {
     if counts.count(key) == u64::MAX {
         return Ok(());
@@ -21,14 +23,14 @@ fn raise(counts: &mut Cbs, key: Key) -> Result<(), AllocError> {
     counts.bump(key)
 }
 
-/// Lowers a count that isn't 0.
+// Lowers a count that isn't 0.
 fn lower(counts: &mut Cbs, key: Key) {
     if counts.count(key) > 0 {
         counts.drop_one(key);
     }
 }
 
-/// The counts of a class as one number, a digit each, the first in front.
+// The counts of a class as one number, a digit each, the first in front.
 fn digits(counts: &Cbs, class: u32) -> u64 {
     let mut digits: u64 = 0;
     for (_key, count) in counts.of_class(class) {

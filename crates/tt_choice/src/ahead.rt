@@ -1,3 +1,5 @@
+//! What is sure of the subparts still to come: classes that may come, and pairs that do.
+
 ghost use Rattle.std.specs.Prelude.{[], ◌≡◌, ◌+◌, ◌<◌, ◌≤◌, length};
 ghost use Rattle.std.specs.List.{list_any};
 ghost use Rattle.tt_problem.specs.Spans.{is_in};
@@ -9,7 +11,7 @@ ghost use Rattle.tt_choice.specs.Standings.{situation_in};
 use crate::standing::Standing;
 use tt_problem::Span;
 
-/// Whether a class is one of some spans.
+// Whether a class is one of some spans.
 fn is_among(spans: &[Span], class: u32) -> bool
     ensures { result ≡ list_any (is_in class) spans.now }
 {
@@ -18,8 +20,8 @@ fn is_among(spans: &[Span], class: u32) -> bool
         .any(|span| span.first <= class && class < span.after)
 }
 
-/// Whether the parent of a class, where it has one, is in a front, already taken or a class of the
-/// subparts that are still to come.
+// Whether the parent of a class, where it has one, is in a front, already taken or a class of the
+// subparts that are still to come.
 #[tactic(auto, using(tt_base::proofs::ListLemmas::listed_turned))]
 fn may_have_parent(standing: &Standing, front: &[u32], rest: &[Span], class: u32) -> bool
     ensures { result ≡ may_have_parent (situation_in standing.now) front.now rest.now class }
@@ -32,14 +34,14 @@ fn may_have_parent(standing: &Standing, front: &[u32], rest: &[Span], class: u32
     }
 }
 
-/// Whether a class has a seat, and its parent may come too.
+// Whether a class has a seat, and its parent may come too.
 pub(crate) fn may_come(standing: &Standing, front: &[u32], rest: &[Span], class: u32) -> bool
     ensures { result ≡ may_come (situation_in standing.now) front.now rest.now class }
 {
     standing.has_seat(class) && may_have_parent(standing, front, rest, class)
 }
 
-/// Whether a subpart has a class that may come.
+// Whether a subpart has a class that may come.
 fn can_be_filled(standing: &Standing, front: &[u32], rest: &[Span], span: Span) -> bool
     ensures { result ≡ list_any (may_come (situation_in standing.now) front.now rest.now) (places_between span.first span.after) }
 {
@@ -51,7 +53,7 @@ fn can_be_filled(standing: &Standing, front: &[u32], rest: &[Span], span: Span) 
     false
 }
 
-/// Whether each of the subparts that are still to come has a class that may come.
+// Whether each of the subparts that are still to come has a class that may come.
 pub(crate) fn is_open(standing: &Standing, front: &[u32], rest: &[Span]) -> bool
     ensures { result ≡ is_open (situation_in standing.now) front.now rest.now }
 {
@@ -59,7 +61,7 @@ pub(crate) fn is_open(standing: &Standing, front: &[u32], rest: &[Span]) -> bool
         .all(|span| can_be_filled(standing, front, rest, *span))
 }
 
-/// The fewest classes of a front that a class of a span with a seat conflicts with.
+// The fewest classes of a front that a class of a span with a seat conflicts with.
 fn least_with(standing: &Standing, front: &[u32], span: Span) -> u64
     ensures least { IsLeastWith (situation_in standing.now) front.now span result }
     ensures few { result ≤ length front.now }
@@ -79,7 +81,7 @@ fn least_with(standing: &Standing, front: &[u32], span: Span) -> u64
     least
 }
 
-/// How many pairs of a front and the classes of later subparts are sure to come.
+// How many pairs of a front and the classes of later subparts are sure to come.
 pub(crate) fn sure_across(standing: &Standing, front: &[u32], rest: &[Span]) -> u64
     requires few_front { length front.now ≤ 20000 }
     requires few_rest { length rest.now ≤ 20000 }
@@ -93,8 +95,8 @@ pub(crate) fn sure_across(standing: &Standing, front: &[u32], rest: &[Span]) -> 
     pairs
 }
 
-/// The lesser of a number and the pairs that a class is sure to have with those already taken and
-/// with those of later subparts. A class without a seat lessens nothing.
+// The lesser of a number and the pairs that a class is sure to have with those already taken and
+// with those of later subparts. A class without a seat lessens nothing.
 fn lessened(standing: &Standing, class: u32, rest: &[Span], least: u64) -> u64
     requires few_rest { length rest.now ≤ 20000 }
     ensures sure { IsSureOf (situation_in standing.now) class rest.now result }
@@ -108,8 +110,8 @@ fn lessened(standing: &Standing, class: u32, rest: &[Span], least: u64) -> u64
     least.min(standing.pairs_with_taken(class) as u64 + across)
 }
 
-/// The fewest pairs that a class of a span with a seat is sure to have with those already taken and
-/// with those of later subparts.
+// The fewest pairs that a class of a span with a seat is sure to have with those already taken and
+// with those of later subparts.
 fn least_pairs(standing: &Standing, span: Span, rest: &[Span]) -> u64
     requires few_rest { length rest.now ≤ 20000 }
     ensures least { IsLeastOf (situation_in standing.now) span rest.now result }
@@ -125,8 +127,8 @@ fn least_pairs(standing: &Standing, span: Span, rest: &[Span]) -> u64
     least
 }
 
-/// Writes how many pairs are sure to come, from each subpart on: pairs with the classes already taken,
-/// and pairs among the classes that come.
+// Writes how many pairs are sure to come, from each subpart on: pairs with the classes already taken,
+// and pairs among the classes that come.
 pub(crate) fn look_ahead(standing: &Standing, subparts: &[Span], ahead: &mut [u64])
     requires few { length subparts.now ≤ 20000 }
     requires long { length subparts.now < length ahead.old }

@@ -1,3 +1,5 @@
+//! The least allowed choice of a course.
+
 ghost use Rattle.std.specs.Prelude.{◌≡◌, ℕ, ◌+◌, ◌-◌, ◌<◌, ◌≤◌, ◌++◌, ◌∷◌, [], None, false, length, take, IfNone, IfSome, All};
 ghost use Rattle.tt_choice.specs.Least.{pairs_added, least_choice};
 ghost use Rattle.tt_choice.specs.Passed.{better, passed};
@@ -23,7 +25,7 @@ pub struct Found {
     pairs: u64,
 }
 
-/// Whether a number of pairs is fewer than the best so far adds, if there is one.
+// Whether a number of pairs is fewer than the best so far adds, if there is one.
 fn is_fewer(found: Option<Found>, pairs: u64) -> bool
     ensures { result ≡ has_fewer found pairs }
 {
@@ -33,7 +35,7 @@ fn is_fewer(found: Option<Found>, pairs: u64) -> bool
     }
 }
 
-/// How many pairs a front adds together with one more class.
+// How many pairs a front adds together with one more class.
 fn pairs_with(standing: &Standing, front: &[u32], pairs: u64, class: u32) -> u64
     requires pairs { pairs ≡ pairs_added (situation_in standing.now) front.now }
     requires few { length front.now ≤ 20000 }
@@ -43,8 +45,8 @@ fn pairs_with(standing: &Standing, front: &[u32], pairs: u64, class: u32) -> u64
     pairs + standing.pairs_with_taken(class) as u64 + standing.pairs_with(front, class) as u64
 }
 
-/// Whether a choice that goes on from a front with a class of each later subpart may be taken for the
-/// best. `ahead` pairs of these classes are sure to come, beside those with the front.
+// Whether a choice that goes on from a front with a class of each later subpart may be taken for the
+// best. `ahead` pairs of these classes are sure to come, beside those with the front.
 fn leads_on(
     standing: &Standing,
     front: &[u32],
@@ -72,8 +74,8 @@ fn leads_on(
     is_fewer(found, sure + across)
 }
 
-/// How many pairs a front adds, from how many it adds without its last class, and `None` where no
-/// choice that goes on from it can be taken for the best.
+// How many pairs a front adds, from how many it adds without its last class, and `None` where no
+// choice that goes on from it can be taken for the best.
 fn pairs_through(
     standing: &Standing,
     front: &[u32],
@@ -104,7 +106,7 @@ fn pairs_through(
     }
 }
 
-/// Takes a whole choice for the best where it adds fewer pairs and is allowed.
+// Takes a whole choice for the best where it adds fewer pairs and is allowed.
 fn keep(
     standing: &Standing,
     choice: &[u32],
@@ -129,9 +131,9 @@ fn keep(
     }
 }
 
-/// Passes all choices of a configuration of these subparts, and keeps the best. `front` has the
-/// classes chosen so far, `class` is the next to be tried. A class with which the front leads on to
-/// no better choice is passed over.
+// Passes all choices of a configuration of these subparts, and keeps the best. `front` has the
+// classes chosen so far, `class` is the next to be tried. A class with which the front leads on to
+// no better choice is passed over.
 fn pass(
     standing: &Standing,
     subparts: &[Span],
@@ -189,8 +191,8 @@ fn pass(
     }
 }
 
-/// Passes all choices of a configuration, and keeps the best. Where a subpart has no class that could
-/// be in a choice, there is none to pass.
+// Passes all choices of a configuration, and keeps the best. Where a subpart has no class that could
+// be in a choice, there is none to pass.
 fn pass_open(
     standing: &Standing,
     subparts: &[Span],
@@ -213,7 +215,7 @@ fn pass_open(
     pass(standing, subparts, buffers, found)
 }
 
-/// How many pairs a front adds, from how many it adds together with one more class.
+// How many pairs a front adds, from how many it adds together with one more class.
 fn pairs_before(standing: &Standing, front: &[u32], pairs: u64, class: u32) -> u64
     requires pairs { pairs ≡ pairs_added (situation_in standing.now) (front.now ++ class ∷ []) }
     ensures { result ≡ pairs_added (situation_in standing.now) front.now }
@@ -221,9 +223,9 @@ fn pairs_before(standing: &Standing, front: &[u32], pairs: u64, class: u32) -> u
     pairs - standing.pairs_with_taken(class) as u64 - standing.pairs_with(front, class) as u64
 }
 
-/// The least allowed choice of a course: how many classes it has, which then stand at the front of
-/// the buffer of the best, and `None` where no choice is allowed. `configs` are the configurations of
-/// all courses, and `subparts` the subparts of all configurations.
+// The least allowed choice of a course: how many classes it has, which then stand at the front of
+// the buffer of the best, and `None` where no choice is allowed. `configs` are the configurations of
+// all courses, and `subparts` the subparts of all configurations.
 fn least_choice(
     standing: &Standing,
     configs: &[Span],
@@ -250,7 +252,7 @@ fn least_choice(
     }
 }
 
-/// How many conflicting pairs a choice adds to the classes taken, pairs inside it among them.
+// How many conflicting pairs a choice adds to the classes taken, pairs inside it among them.
 fn pairs_in(standing: &Standing, choice: &[u32]) -> u64
     requires few { length choice.now ≤ 20000 }
     ensures { result ≡ pairs_added (situation_in standing.now) choice.now }

@@ -1,3 +1,5 @@
+//! What the choices of a student are judged by.
+
 ghost use Rattle.std.specs.Prelude.{◌≡◌, ℕ, ◌<◌, ◌≤◌, Some, length};
 ghost use Rattle.tt_bits.specs.Spots.{spot_at};
 ghost use Rattle.tt_bits.specs.declared.times.Spot.{Spot};
@@ -9,8 +11,8 @@ use tt_roster::conflict;
 use tt_score::Score;
 use tt_state::{State, others_with};
 
-/// What the choices of a student are judged by: a score, the classes already taken, and those of them
-/// whose parent may be missing yet.
+// What the choices of a student are judged by: a score, the classes already taken, and those of them
+// whose parent may be missing yet.
 #[derive(Drop)]
 pub(crate) struct Standing<'a> {
     problem: &'a Problem,
@@ -51,7 +53,7 @@ impl<'a> Standing<'a> {
         }
     }
 
-    /// The limit of a class, if it has one.
+    // The limit of a class, if it has one.
     fn limit_of(&self, class: u32) -> Option<u32>
         ensures { result ≡ limit_of self.now.problem.now class }
     {
@@ -82,7 +84,7 @@ impl<'a> Standing<'a> {
         }
     }
 
-    /// The spot of a class, if it is placed.
+    // The spot of a class, if it is placed.
     fn spot_of(&self, class: u32) -> Option<&Spot>
         ensures none { IfNone result (spot_at (occupancy_of self.now.score.now).spots class ≡ None) }
         ensures some { IfSome result (λ spot. spot_at (occupancy_of self.now.score.now).spots class ≡ Some spot.now) }
@@ -124,7 +126,7 @@ impl<'a> Standing<'a> {
             .count()
     }
 
-    /// Whether the parent of a class, where it has one, is in a choice or already taken.
+    // Whether the parent of a class, where it has one, is in a choice or already taken.
     #[tactic(auto, using(tt_base::proofs::ListLemmas::listed_turned))]
     fn has_parent_with(&self, choice: &[u32], class: u32) -> bool
         ensures { result ≡ has_parent_with (situation_in self.now) choice.now class }
@@ -135,14 +137,14 @@ impl<'a> Standing<'a> {
         }
     }
 
-    /// Whether each class of a choice has a seat and its parent.
+    // Whether each class of a choice has a seat and its parent.
     fn may_be_taken(&self, choice: &[u32]) -> bool
         ensures { result ≡ may_be_taken (situation_in self.now) choice.now }
     {
         choice.iter().all(|class| self.has_seat(*class) && self.has_parent_with(choice, *class))
     }
 
-    /// Whether each class whose parent may be missing has it with a choice.
+    // Whether each class whose parent may be missing has it with a choice.
     fn brings_parents(&self, choice: &[u32]) -> bool
         ensures { result ≡ list_all (has_parent_with (situation_in self.now) choice.now) self.now.wanting.now }
     {

@@ -1,3 +1,5 @@
+//! Why a spot is blocked for a class.
+
 ghost use Rattle.std.specs.Prelude.{◌≡◌, ◌<◌, length, IfSome};
 ghost use Rattle.std.specs.List.{list_any};
 ghost use Rattle.tt_bits.specs.Times.{overlaps};
@@ -45,7 +47,7 @@ pub fn closed(problem: &Problem, closures: &Closures, spot: Spot) -> bool
     }
 }
 
-/// Whether the time overlaps one of some times.
+// Whether the time overlaps one of some times.
 fn overlaps_some(times: &[Time], time: Time) -> bool
     ensures { result ≡ list_any (overlaps time) times.now }
 {

@@ -13,7 +13,7 @@ use tt_pool::place_in_order;
 /// number of all classes.
 #[derive(Drop)]
 pub struct Listing {
-    /// Whether each class of the problem is listed.
+    // Whether each class of the problem is listed.
     marks: Vec<bool>,
     order: Vec<u32>,
 }
@@ -100,7 +100,7 @@ impl Listing {
     }
 }
 
-/// Takes the marks off the listed classes.
+// Takes the marks off the listed classes.
 fn clear_marks(marks: &mut [bool], listed: &[u32])
     requires listed { All (λ d. d < length marks.old) listed.now }
     requires each { (d : ℕ) → slice_index_or marks.old d false ≡ is_listed d listed.now }

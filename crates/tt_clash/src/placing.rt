@@ -1,3 +1,5 @@
+//! A class at a spot, among classes that have theirs.
+
 use tt_bits::Spot;
 use tt_problem::Problem;
 

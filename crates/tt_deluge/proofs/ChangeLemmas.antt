@@ -19,11 +19,11 @@ use Rattle.tt_score.specs.Placed.{unplaced_count}
 use Rattle.tt_state.specs.Snapshots.{Snapshot, StaysLocked, is_locked_in, may_lock, value_in, with_value}
 use Rattle.tt_state.specs.Values.{blocked_of, conflicts_of}
 use Rattle.tt_improve.specs.Classes.{is_free}
-use Rattle.tt_improve.specs.Objects.{movable_classes, seated_courses}
+use Rattle.tt_improve.specs.Targets.{movable_classes, seated_courses}
 use Rattle.tt_improve.specs.Standing.{IsMovable}
 use Rattle.tt_improve.proofs.ClassLemmas.{empty_is, none_is}
 use Rattle.tt_improve.proofs.FallLemmas.{hard-falls, spot_of_value}
-use Rattle.tt_deluge.specs.Deluged.{Objects, objects_at}
+use Rattle.tt_deluge.specs.Deluged.{Targets, targets_at}
 use Rattle.tt_deluge.specs.ClassRounds.{half_exchanged}
 use Rattle.tt_deluge.specs.Standing.{StandsAs}
 use Rattle.tt_deluge.specs.StudentRounds.{choices_in}
@@ -83,12 +83,12 @@ unplaced-alike (a ∷ old) (b ∷ new) long alike =
     let later = unplaced-alike old new (omega (arith, long)) (λ d. alike (suc d)) in
     omega (arith, first, later, sum_by-cons none_in a old, sum_by-cons none_in b new)
 
--- and the objects are the same
-pub objects-alike : (p : Parts) (s : Snapshot) (plan : List (Option Value)) → ArePlacedAlike s.plan plan
-    → objects_at p (record { plan = plan; lists = s.lists; statistics = s.statistics; closures = s.closures; locks = s.locks }) ≡ objects_at p s
+-- and the targets are the same
+pub targets-alike : (p : Parts) (s : Snapshot) (plan : List (Option Value)) → ArePlacedAlike s.plan plan
+    → targets_at p (record { plan = plan; lists = s.lists; statistics = s.statistics; closures = s.closures; locks = s.locks }) ≡ targets_at p s
 unfolding movable_classes seated_courses choices_in
-objects-alike p s plan alike =
-    let of_classes : List ℕ → Objects = λ (classes : List ℕ). record { classes = classes; choices = choices_in p s } in
+targets-alike p s plan alike =
+    let of_classes : List ℕ → Targets = λ (classes : List ℕ). record { classes = classes; choices = choices_in p s } in
     ap (λ (test : ℕ → Bool). of_classes (filter test (range_with_len 0 (length p.classes))))
     (fun_ext (λ (d : ℕ). ap (λ (b : Bool). b && not (is_locked_in s d)) (alike d)))
 
@@ -130,29 +130,29 @@ open_spot p s class v domain free =
 
 -- a class that gets a free value
 pub stands-moved : (p : Parts) (s : Snapshot) (class : ℕ) (v : Value) → IsValid p → length s.plan ≡ length p.classes → IsMovable p s class → IsOfDomain p class v → is_free p s class v ≡ true → StandsAs p s (with_value s class (Some v))
-stands-moved p s class v valid whole object domain free =
+stands-moved p s class v valid whole target domain free =
     let at = open_spot p s class v domain free in
-    let parts = movable-parts s class object.free in
+    let parts = movable-parts s class target.free in
     let alike = alike-set s.plan class v parts.0 in
     let count = unplaced-alike s.plan (slice_set s.plan class (Some v)) (length-set s.plan class (Some v)) alike in
     record {
-      hard = hard-falls p s.closures s.plan s.lists class v at.0 valid (omega (arith, whole, object.within)) at.1.spot at.1.open_one at.1.alone;
+      hard = hard-falls p s.closures s.plan s.lists class v at.0 valid (omega (arith, whole, target.within)) at.1.spot at.1.open_one at.1.alone;
       unplaced = omega (arith, count);
       statistics = refl;
       closures = refl;
       locks = refl;
-      objects = objects-alike p s (slice_set s.plan class (Some v)) alike;
+      targets = targets-alike p s (slice_set s.plan class (Some v)) alike;
       locked = others-stay s class (Some v) parts.1;
     }
 
 -- two classes that exchange their places
 pub stands-exchanged : (p : Parts) (s : Snapshot) (class : ℕ) (v : Value) (other : ℕ) (to : Value) → IsValid p → length s.plan ≡ length p.classes → IsMovable p s class → IsMovable p s other → IsOfDomain p class v → IsOfDomain p other to
     → is_free p (with_value s other None) class v ≡ true → is_free p (half_exchanged s class v other) other to ≡ true → StandsAs p s (with_value (half_exchanged s class v other) other (Some to))
-stands-exchanged p s class v other to valid whole object other_object domain other_domain free other_free =
+stands-exchanged p s class v other to valid whole target other_target domain other_domain free other_free =
     let at = open_spot p (with_value s other None) class v domain free in
     let other_at = open_spot p (half_exchanged s class v other) other to other_domain other_free in
-    let parts = movable-parts s class object.free in
-    let other_parts = movable-parts s other other_object.free in
+    let parts = movable-parts s class target.free in
+    let other_parts = movable-parts s other other_target.free in
     let end : List (Option Value) = slice_set (slice_set (slice_set s.plan other None) class (Some v)) other (Some to) in
     let alike : ArePlacedAlike s.plan end = alike-exchange s.plan class v other to parts.0 other_parts.0 in
     let long : length end ≡ length s.plan = omega (
@@ -163,19 +163,19 @@ stands-exchanged p s class v other to valid whole object other_object domain oth
     ) in
     let count = unplaced-alike s.plan end long alike in
     record {
-      hard = exchange-falls p s.closures s.plan s.lists class v at.0 other to other_at.0 valid (omega (arith, whole, object.within)) (omega (arith, whole, other_object.within)) at.1.spot other_at.1.spot at.1.open_one at.1.alone other_at.1.open_one other_at.1.alone;
+      hard = exchange-falls p s.closures s.plan s.lists class v at.0 other to other_at.0 valid (omega (arith, whole, target.within)) (omega (arith, whole, other_target.within)) at.1.spot other_at.1.spot at.1.open_one at.1.alone other_at.1.open_one other_at.1.alone;
       unplaced = omega (arith, count);
       statistics = refl;
       closures = refl;
       locks = refl;
-      objects = objects-alike p s end alike;
+      targets = targets-alike p s end alike;
       locked = λ d. stay-next s (half_exchanged s class v other) (with_value (half_exchanged s class v other) other (Some to)) d
           (stay-next s (with_value s other None) (half_exchanged s class v other) d (others-stay s other None other_parts.1 d) (others-stay (with_value s other None) class (Some v) parts.1 d))
           (others-stay (half_exchanged s class v other) other (Some to) other_parts.1 d);
     }
 
 pub stands-same : (p : Parts) (s : Snapshot) → StandsAs p s s
-stands-same p s = record { hard = omega arith; unplaced = omega arith; statistics = refl; closures = refl; locks = refl; objects = refl; locked = λ class is. (refl, is) }
+stands-same p s = record { hard = omega arith; unplaced = omega arith; statistics = refl; closures = refl; locks = refl; targets = refl; locked = λ class is. (refl, is) }
 
 pub stands-next : (p : Parts) (s t u : Snapshot) → StandsAs p s t → StandsAs p t u → StandsAs p s u
 stands-next p s t u one two = record {
@@ -184,6 +184,6 @@ stands-next p s t u one two = record {
   statistics = two.statistics ∙ one.statistics;
   closures = two.closures ∙ one.closures;
   locks = two.locks ∙ one.locks;
-  objects = two.objects ∙ one.objects;
+  targets = two.targets ∙ one.targets;
   locked = λ class. stay-next s t u class (one.locked class) (two.locked class);
 }

@@ -12,7 +12,7 @@ use Rattle.tt_problem.specs.Seats.{spans_at}
 use Rattle.tt_problem.specs.Spans.{IsSpanWithin}
 use Rattle.tt_struct.proofs.SpanWalks.{from, next_span, nth_place}
 use Rattle.tt_draw.specs.Words.{drawn, drawn_place}
-use Rattle.tt_deluge.specs.Draws.{by_item, draw}
+use Rattle.tt_deluge.specs.Draws.{by_item, draw_next}
 use Rattle.tt_deluge.specs.StudentRounds.{configurations_of, drawn_choice, fitting}
 
 module _ (p : Parts) (rest : List ℕ) where
@@ -44,7 +44,7 @@ configurations_are p course part is = ap (λ (o : Option CoursePart). option_map
 
 -- the configuration that is drawn
 pub config_drawn : (p : Parts) (course : ℕ) (part : CoursePart) (place : ℕ) (words left : Stream) (config : Span) → slice_get p.courses course ≡ Some part → IsSpanWithin (length p.configs) part.configs
-    → (place, left) ≡ draw (part.configs.after - part.configs.first) words → place < part.configs.after - part.configs.first → slice_get p.configs (part.configs.first + place) ≡ Some config
+    → (place, left) ≡ draw_next (part.configs.after - part.configs.first) words → place < part.configs.after - part.configs.first → slice_get p.configs (part.configs.first + place) ≡ Some config
     → drawn (next_u32 words).0 (configurations_of p course) ≡ Some (spans_at p.subparts config)
 config_drawn p course part place words left config is within next below at =
     let xs = spans_at p.configs part.configs in

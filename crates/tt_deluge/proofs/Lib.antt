@@ -11,5 +11,5 @@ pub mod TotalLemmas
 pub mod WordLemmas
 pub mod PlaceLemmas
 pub mod ChoiceLemmas
-pub mod ObjectLemmas
+pub mod TargetLemmas
 pub mod StudentLemmas

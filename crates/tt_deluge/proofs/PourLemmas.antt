@@ -11,7 +11,7 @@ use Rattle.tt_problem.specs.declared.parts.Parts.{Parts}
 use Rattle.tt_state.specs.Snapshots.{Snapshot}
 use Rattle.tt_improve.specs.Classes.{total_of}
 use Rattle.tt_deluge.specs.declared.pouring.Moment.{Moment as Kept}
-use Rattle.tt_deluge.specs.Deluged.{Moment, Objects, after_round, are_none, best_moment, deluged, first_moment, found_by, level_at, made_within, moment_with, moments_after, objects_at}
+use Rattle.tt_deluge.specs.Deluged.{DelugeMoment, Targets, after_round, are_none, best_moment, deluged, first_moment, found_by, level_at, made_within, moment_with, moments_after, targets_at}
 use Rattle.tt_deluge.specs.Pouring.{HasFallen, IsMomentOf, IsPouring, by_total, moment_of}
 use Rattle.tt_deluge.specs.Standing.{BeginsWith, StandsAs}
 use Rattle.tt_deluge.specs.UnderWay.{ended_at}
@@ -27,15 +27,15 @@ one_number m n = decides (nat_lt m n) (m == n)
     decides false false = refl
 
 -- a moment comes before another by its total
-lesser : (p : Parts) (a b : Moment) → is_less (by_total p) a b ≡ nat_lt (total_of p a.snapshot) (total_of p b.snapshot)
+lesser : (p : Parts) (a b : DelugeMoment) → is_less (by_total p) a b ≡ nat_lt (total_of p a.snapshot) (total_of p b.snapshot)
 lesser p a b = one_number (total_of p a.snapshot) (total_of p b.snapshot)
 
 -- a round that makes this change, or none
-pub round-leads : (p : Parts) (o : Objects) (first rounds i : ℕ) (s t : Snapshot) (changed level : ℕ) (words left : Stream) (made : Bool) → level ≡ level_at first rounds i (total_of p s)
+pub round-leads : (p : Parts) (o : Targets) (first rounds i : ℕ) (s t : Snapshot) (changed level : ℕ) (words left : Stream) (made : Bool) → level ≡ level_at first rounds i (total_of p s)
     → made_within p level (found_by p o s words).0 ≡ cond made (Some t) None → (made ≡ false → t ≡ s) → left ≡ (found_by p o s words).1
     → after_round p o first rounds i (moment_of s changed words) ≡ moment_of t (changed + cond made 1 0) left
 round-leads p o first rounds i s t changed level words left made level_is change still words_are =
-    let m : Moment = moment_of s changed words in
+    let m : DelugeMoment = moment_of s changed words in
     let found : Option Snapshot × Stream = found_by p o s words in
     ap (λ (l : ℕ). moment_with m (made_within p l found.0) found.1) (sym level_is)
     ∙ ap (λ (c : Option Snapshot). moment_with m c found.1) change
@@ -49,49 +49,49 @@ round-leads p o first rounds i s t changed level words left made level_is change
         ap (λ (u : Snapshot). moment_of u changed left) (sym (still refl)) ∙ ap (λ (n : ℕ). moment_of t n left) none
 
 -- the moments from one on
-pub next-moments : (p : Parts) (o : Objects) (first rounds i : ℕ) (m next : Moment) → i < rounds → after_round p o first rounds i m ≡ next
+pub next-moments : (p : Parts) (o : Targets) (first rounds i : ℕ) (m next : DelugeMoment) → i < rounds → after_round p o first rounds i m ≡ next
     → moments_after p o first rounds (rounds - i) i m ≡ next ∷ moments_after p o first rounds (rounds - (i + 1)) (i + 1) next
 unfolding moments_after
 next-moments p o first rounds i m next below is =
     let more : rounds - i ≡ suc (rounds - (i + 1)) = omega arith in
     ap (λ (n : ℕ). moments_after p o first rounds n i m) more
-    ∙ ap (λ (a : Moment). a ∷ moments_after p o first rounds (rounds - (i + 1)) (i + 1) a) is
+    ∙ ap (λ (a : DelugeMoment). a ∷ moments_after p o first rounds (rounds - (i + 1)) (i + 1) a) is
 
-pub last-moments : (p : Parts) (o : Objects) (first rounds i : ℕ) (m : Moment) → rounds ≤ i → moments_after p o first rounds (rounds - i) i m ≡ []
+pub last-moments : (p : Parts) (o : Targets) (first rounds i : ℕ) (m : DelugeMoment) → rounds ≤ i → moments_after p o first rounds (rounds - i) i m ≡ []
 unfolding moments_after
 last-moments p o first rounds i m past =
     let none : rounds - i ≡ 0 = omega arith in
     ap (λ (n : ℕ). moments_after p o first rounds n i m) none
 
 -- before the first round
-pub pour-start : (p : Parts) (o : Objects) (rounds seed first : ℕ) (s : Snapshot) (trail : List Snapshot) (words : Stream) (best : Kept) → o ≡ objects_at p s → first ≡ total_of p s → IsMomentOf p s trail best → best.changed ≡ 0 → moment_of s 0 words ≡ first_moment seed s
+pub pour-start : (p : Parts) (o : Targets) (rounds seed first : ℕ) (s : Snapshot) (trail : List Snapshot) (words : Stream) (best : Kept) → o ≡ targets_at p s → first ≡ total_of p s → IsMomentOf p s trail best → best.changed ≡ 0 → moment_of s 0 words ≡ first_moment seed s
     → IsPouring p s trail (moments_after p o first rounds (rounds - 0) 0 (moment_of s best.changed words)) best (best_moment p rounds seed s)
 unfolding best_moment
-pour-start p o rounds seed first s trail words best objects first_is moment none begins =
+pour-start p o rounds seed first s trail words best targets first_is moment none begins =
     let whole : rounds - 0 ≡ rounds = omega arith in
     let at : moment_of s best.changed words ≡ first_moment seed s = ap (λ (n : ℕ). moment_of s n words) none ∙ begins in
-    let ends : (o : Objects) (first n : ℕ) (m : Moment) → Moment = λ (o : Objects) (first n : ℕ) (m : Moment). best_of (is_less (by_total p)) m (moments_after p o first rounds n 0 m) in
+    let ends : (o : Targets) (first n : ℕ) (m : DelugeMoment) → DelugeMoment = λ (o : Targets) (first n : ℕ) (m : DelugeMoment). best_of (is_less (by_total p)) m (moments_after p o first rounds n 0 m) in
     record {
       now = s;
       words = words;
       moment = moment;
-      ends = ap (λ (o : Objects). ends o first (rounds - 0) (moment_of s best.changed words)) objects
-          ∙ ap (λ (n : ℕ). ends (objects_at p s) n (rounds - 0) (moment_of s best.changed words)) first_is
-          ∙ ap (λ (n : ℕ). ends (objects_at p s) (total_of p s) n (moment_of s best.changed words)) whole
-          ∙ ap (ends (objects_at p s) (total_of p s) rounds) at;
+      ends = ap (λ (o : Targets). ends o first (rounds - 0) (moment_of s best.changed words)) targets
+          ∙ ap (λ (n : ℕ). ends (targets_at p s) n (rounds - 0) (moment_of s best.changed words)) first_is
+          ∙ ap (λ (n : ℕ). ends (targets_at p s) (total_of p s) n (moment_of s best.changed words)) whole
+          ∙ ap (ends (targets_at p s) (total_of p s) rounds) at;
       fallen = inl (none, refl);
       stands = stands-same p s;
     }
 
 -- a later moment takes the place of the best so far, or doesn't
-takes : (p : Parts) (m next : Moment) (rest : List Moment) (b : Bool) → nat_lt (total_of p next.snapshot) (total_of p m.snapshot) ≡ b
+takes : (p : Parts) (m next : DelugeMoment) (rest : List DelugeMoment) (b : Bool) → nat_lt (total_of p next.snapshot) (total_of p m.snapshot) ≡ b
     → best_of (is_less (by_total p)) m (next ∷ rest) ≡ best_of (is_less (by_total p)) (cond b next m) rest
 takes p m next rest b is = ap (λ (c : Bool). best_of (is_less (by_total p)) (cond c next m) rest) (lesser p next m ∙ is)
 
 moved-on : (p : Parts) (s : Snapshot) (kept : Kept) (front whole : List Snapshot) → BeginsWith front whole → IsMomentOf p s front kept → IsMomentOf p s whole kept
 moved-on p s kept front whole begins is = record { total = is.total; small = is.small; at = front-get front whole kept.mark s begins is.at }
 
-pour-by : (p : Parts) (s t : Snapshot) (front whole : List Snapshot) (ahead : List Moment) (best kept : Kept) (words : Stream) (end : Moment) (b : Bool)
+pour-by : (p : Parts) (s t : Snapshot) (front whole : List Snapshot) (ahead : List DelugeMoment) (best kept : Kept) (words : Stream) (end : DelugeMoment) (b : Bool)
     → (way : IsPouring p s front (moment_of t kept.changed words ∷ ahead) best end) → nat_lt (total_of p t) (total_of p way.now) ≡ b → BeginsWith front whole → IsMomentOf p t whole kept → StandsAs p s t → (kept.changed ≡ 0 → t ≡ s)
     → IsPouring p s whole ahead (if b then kept else best) end
 pour-by p s t front whole ahead best kept words end true way less begins moment stands still = record {
@@ -125,7 +125,7 @@ pour-by p s t front whole ahead best kept words end false way less begins moment
 }
 
 -- a round that is made
-pub pour-on : (p : Parts) (s t : Snapshot) (front whole : List Snapshot) (ahead : List Moment) (best kept : Kept) (words : Stream) (end : Moment)
+pub pour-on : (p : Parts) (s t : Snapshot) (front whole : List Snapshot) (ahead : List DelugeMoment) (best kept : Kept) (words : Stream) (end : DelugeMoment)
     → IsPouring p s front (moment_of t kept.changed words ∷ ahead) best end → BeginsWith front whole → IsMomentOf p t whole kept → StandsAs p s t → (kept.changed ≡ 0 → t ≡ s)
     → IsPouring p s whole ahead (if nat_lt kept.total best.total then kept else best) end
 pour-on p s t front whole ahead best kept words end way begins moment stands still =
@@ -133,16 +133,16 @@ pour-on p s t front whole ahead best kept words end way begins moment stands sti
     pour-by p s t front whole ahead best kept words end (nat_lt kept.total best.total) way same begins moment stands still
 
 -- where the way ends
-pub pour-end : (p : Parts) (s t : Snapshot) (trail : List Snapshot) (best : Kept) (end : Moment) → (way : IsPouring p s trail [] best end) → slice_get trail best.mark ≡ Some t → t ≡ way.now
+pub pour-end : (p : Parts) (s t : Snapshot) (trail : List Snapshot) (best : Kept) (end : DelugeMoment) → (way : IsPouring p s trail [] best end) → slice_get trail best.mark ≡ Some t → t ≡ way.now
 pour-end p s t trail best end way is = let both : Some t ≡ Some way.now = sym is ∙ way.moment.at in cc both
 
-pub deluged-end : (p : Parts) (rounds seed : ℕ) (s t : Snapshot) (trail : List Snapshot) (best : Kept) → (way : IsPouring p s trail [] best (best_moment p rounds seed s)) → t ≡ way.now → are_none (objects_at p s) ≡ false
+pub deluged-end : (p : Parts) (rounds seed : ℕ) (s t : Snapshot) (trail : List Snapshot) (best : Kept) → (way : IsPouring p s trail [] best (best_moment p rounds seed s)) → t ≡ way.now → are_none (targets_at p s) ≡ false
     → ended_at t rounds best.changed ≡ deluged p rounds seed s
 unfolding deluged
 deluged-end p rounds seed s t trail best way is some =
-    rw some (ap (λ (u : Snapshot). ended_at u rounds best.changed) is ∙ ap (λ (m : Moment). ended_at m.snapshot rounds m.changed) way.ends)
+    rw some (ap (λ (u : Snapshot). ended_at u rounds best.changed) is ∙ ap (λ (m : DelugeMoment). ended_at m.snapshot rounds m.changed) way.ends)
 
-pub deluged-none : (p : Parts) (rounds seed : ℕ) (s : Snapshot) → are_none (objects_at p s) ≡ true → ended_at s 0 0 ≡ deluged p rounds seed s
+pub deluged-none : (p : Parts) (rounds seed : ℕ) (s : Snapshot) → are_none (targets_at p s) ≡ true → ended_at s 0 0 ≡ deluged p rounds seed s
 unfolding deluged
 deluged-none p rounds seed s none = rw none refl
 

@@ -14,17 +14,17 @@ use Rattle.tt_state.specs.declared.seats.SectionFault.{SectionFault}
 use Rattle.tt_state.specs.declared.seats.SectionFault.TheVariants.{Full, Invalid}
 use Rattle.tt_state.specs.Faults.{section_fault_of}
 use Rattle.tt_state.specs.Seats.{first_without_seat, has_seat}
-use Rattle.tt_state.specs.Snapshots.{Snapshot, in_order, list_in, with_list}
+use Rattle.tt_state.specs.Snapshots.{Snapshot, classes_in_order, list_in, with_list}
 use Rattle.tt_state.specs.Sound.{IsSound}
 use Rattle.tt_choice.specs.Least.{pairs_added}
 use Rattle.tt_choice.proofs.SeatingLemmas.{all_seats}
 use Rattle.tt_improve.specs.Classes.{total_of}
 use Rattle.tt_improve.specs.Courses.{beside, may_replace, own_of, rest_of}
-use Rattle.tt_improve.specs.Objects.{movable_classes}
+use Rattle.tt_improve.specs.Targets.{movable_classes}
 use Rattle.tt_improve.specs.Standing.{IsSeatedIn}
-use Rattle.tt_improve.specs.declared.objects.Object.{Object}
+use Rattle.tt_improve.specs.declared.targets.Target.{Target}
 use Rattle.tt_improve.proofs.StudentLemmas.{replaced_courses, replaced_total, rest_below, rest_seats}
-use Rattle.tt_deluge.specs.Deluged.{Objects, made_within}
+use Rattle.tt_deluge.specs.Deluged.{Targets, made_within}
 use Rattle.tt_deluge.specs.Standing.{StandsAs}
 use Rattle.tt_deluge.specs.StudentRounds.{choices_in, is_choice, replaced}
 
@@ -68,7 +68,7 @@ module _ (p : Parts) (s : Snapshot) (student : ℕ) (rest choice : List ℕ) (se
 -- what a choice comes to
 module _ (p : Parts) (s : Snapshot) (student level : ℕ) (rest own choice : List ℕ) where
   abbrev now : Snapshot
-  now = with_list s student (in_order (rest ++ choice))
+  now = with_list s student (classes_in_order (rest ++ choice))
 
   made_none : (b : Bool) → b ≡ false → made_within p level (if b then Some now else None) ≡ None
   made_none b is = rw is refl
@@ -80,8 +80,8 @@ module _ (p : Parts) (s : Snapshot) (student level : ℕ) (rest own choice : Lis
   may_not : may_replace p s student rest choice ≡ false → made_within p level (replaced p s student rest own choice) ≡ None
   may_not fails = made_none (not (pointwise nat_eq choice own) && may_replace p s student rest choice) (ap (λ (b : Bool). not (pointwise nat_eq choice own) && b) fails ∙ and_none (not (pointwise nat_eq choice own)))
 
-  is_made : pointwise nat_eq choice own ≡ false → may_replace p s student rest choice ≡ true → nat_le (total_of p (with_list s student (in_order (rest ++ choice)))) level ≡ true
-      → made_within p level (replaced p s student rest own choice) ≡ Some (with_list s student (in_order (rest ++ choice)))
+  is_made : pointwise nat_eq choice own ≡ false → may_replace p s student rest choice ≡ true → nat_le (total_of p (with_list s student (classes_in_order (rest ++ choice)))) level ≡ true
+      → made_within p level (replaced p s student rest own choice) ≡ Some (with_list s student (classes_in_order (rest ++ choice)))
   is_made other may low = rw (other, may, low) refl
 
 -- the total, by the pairs
@@ -99,41 +99,41 @@ above total others adds had new level replaced_is others_are high = sym (no new 
 
 -- the total, where the lists and the numbers are named
 total_by : (p : Parts) (s : Snapshot) (student course : ℕ) → IsValid p → IsSound p s → IsSeatedIn p s student course → (rest own choice : List ℕ) → rest ≡ rest_of p course (list_in s student) → own ≡ own_of p course (list_in s student)
-    → total_of p (with_list s student (in_order (rest ++ choice))) + p.weights.student * pairs_added (beside p s student rest) own ≡ total_of p s + p.weights.student * pairs_added (beside p s student rest) choice
-total_by p s student course valid sound object rest own choice r o =
-    subst (λ (l : List ℕ). total_of p (with_list s student (in_order (l ++ choice))) + p.weights.student * pairs_added (beside p s student l) own ≡ total_of p s + p.weights.student * pairs_added (beside p s student l) choice) (sym r)
-    (subst (λ (l : List ℕ). total_of p (with_list s student (in_order (rest_of p course (list_in s student) ++ choice))) + p.weights.student * pairs_added (beside p s student (rest_of p course (list_in s student))) l
+    → total_of p (with_list s student (classes_in_order (rest ++ choice))) + p.weights.student * pairs_added (beside p s student rest) own ≡ total_of p s + p.weights.student * pairs_added (beside p s student rest) choice
+total_by p s student course valid sound target rest own choice r o =
+    subst (λ (l : List ℕ). total_of p (with_list s student (classes_in_order (l ++ choice))) + p.weights.student * pairs_added (beside p s student l) own ≡ total_of p s + p.weights.student * pairs_added (beside p s student l) choice) (sym r)
+    (subst (λ (l : List ℕ). total_of p (with_list s student (classes_in_order (rest_of p course (list_in s student) ++ choice))) + p.weights.student * pairs_added (beside p s student (rest_of p course (list_in s student))) l
     ≡ total_of p s + p.weights.student * pairs_added (beside p s student (rest_of p course (list_in s student))) choice) (sym o)
-    (replaced_total p s student course valid sound object choice))
+    (replaced_total p s student course valid sound target choice))
 
 -- what the snapshot then stands on
-abbrev both : List ℕ → List Object → Objects
+abbrev both : List ℕ → List Target → Targets
 both classes choices = record { classes = classes; choices = choices }
 
 stands_then : (p : Parts) (s : Snapshot) (student course : ℕ) → IsValid p → IsSound p s → IsSeatedIn p s student course → (choice : List ℕ) → is_enrolment p student (rest_of p course (list_in s student) ++ choice) ≡ true
-    → StandsAs p s (with_list s student (in_order (rest_of p course (list_in s student) ++ choice)))
+    → StandsAs p s (with_list s student (classes_in_order (rest_of p course (list_in s student) ++ choice)))
 unfolding movable_classes choices_in
-stands_then p s student course valid sound object choice is =
-    let courses = replaced_courses p s student course valid sound object choice is in
+stands_then p s student course valid sound target choice is =
+    let courses = replaced_courses p s student course valid sound target choice is in
     record {
       hard = omega arith;
       unplaced = omega arith;
       statistics = refl;
       closures = refl;
       locks = refl;
-      objects = ap (λ (courses : List Object). both (movable_classes p s) (filter (is_choice p) courses)) courses;
+      targets = ap (λ (courses : List Target). both (movable_classes p s) (filter (is_choice p) courses)) courses;
       locked = λ class is. (refl, is);
     }
 
 stands_replaced : (p : Parts) (s : Snapshot) (student course : ℕ) → IsValid p → IsSound p s → IsSeatedIn p s student course → (rest choice : List ℕ) → rest ≡ rest_of p course (list_in s student) → is_enrolment p student (rest ++ choice) ≡ true
-    → StandsAs p s (with_list s student (in_order (rest ++ choice)))
-stands_replaced p s student course valid sound object rest choice r enrolled =
-    subst (λ (l : List ℕ). is_enrolment p student (l ++ choice) ≡ true → StandsAs p s (with_list s student (in_order (l ++ choice)))) (sym r) (stands_then p s student course valid sound object choice) enrolled
+    → StandsAs p s (with_list s student (classes_in_order (rest ++ choice)))
+stands_replaced p s student course valid sound target rest choice r enrolled =
+    subst (λ (l : List ℕ). is_enrolment p student (l ++ choice) ≡ true → StandsAs p s (with_list s student (classes_in_order (l ++ choice)))) (sym r) (stands_then p s student course valid sound target choice) enrolled
 
 -- a list is the rest with a choice: what its fault tells, and what comes of it where there is none
-module _ (p : Parts) (s : Snapshot) (student course : ℕ) (valid : IsValid p) (sound : IsSound p s) (object : IsSeatedIn p s student course) (rest own choice list : List ℕ) (r : rest ≡ rest_of p course (list_in s student)) (is : list ≡ rest ++ choice) where
+module _ (p : Parts) (s : Snapshot) (student course : ℕ) (valid : IsValid p) (sound : IsSound p s) (target : IsSeatedIn p s student course) (rest own choice list : List ℕ) (r : rest ≡ rest_of p course (list_in s student)) (is : list ≡ rest ++ choice) where
   seats_of_rest : list_all (has_seat p s.lists student) rest ≡ true
-  seats_of_rest = subst (λ (l : List ℕ). list_all (has_seat p s.lists student) l ≡ true) (sym r) (rest_seats p s student course valid sound object)
+  seats_of_rest = subst (λ (l : List ℕ). list_all (has_seat p s.lists student) l ≡ true) (sym r) (rest_seats p s student course valid sound target)
 
   no_fault : (o : Option SectionFault) → is_some o ≡ false → o ≡ None
   no_fault None e = refl
@@ -152,46 +152,46 @@ module _ (p : Parts) (s : Snapshot) (student course : ℕ) (valid : IsValid p) (
 
   pub list_below : All (λ (k : ℕ). k < length p.classes) choice → All (λ (k : ℕ). k < length p.classes) list
   list_below below =
-      let front : AllByRecursion (λ (k : ℕ). k < length p.classes) rest = subst (AllByRecursion (λ (k : ℕ). k < length p.classes)) (sym r) (rest_below p s student course valid sound object) in
+      let front : AllByRecursion (λ (k : ℕ). k < length p.classes) rest = subst (AllByRecursion (λ (k : ℕ). k < length p.classes)) (sym r) (rest_below p s student course valid sound target) in
       subst (All (λ (k : ℕ). k < length p.classes)) (sym is) (All-append (λ (k : ℕ). k < length p.classes) rest choice (All-from_recursion (λ (k : ℕ). k < length p.classes) rest front) below)
 
   pub made_is : (level : ℕ) (after : Snapshot) (o : Option SectionFault) → o ≡ section_fault_of p s.lists student list → is_some o ≡ false → pointwise nat_eq choice own ≡ false
-      → nat_le (total_of p (with_list s student (in_order (rest ++ choice)))) level ≡ true → after ≡ with_list s student (in_order list) → made_within p level (replaced p s student rest own choice) ≡ Some after
+      → nat_le (total_of p (with_list s student (classes_in_order (rest ++ choice)))) level ≡ true → after ≡ with_list s student (classes_in_order list) → made_within p level (replaced p s student rest own choice) ≡ Some after
   made_is level after o at none other low present =
       is_made p s student level rest own choice other (may_by_none p s student rest choice seats_of_rest (none_is o at none)) low
-      ∙ sym (ap (λ (t : Snapshot). Some t) (present ∙ ap (λ (l : List ℕ). with_list s student (in_order l)) is))
+      ∙ sym (ap (λ (t : Snapshot). Some t) (present ∙ ap (λ (l : List ℕ). with_list s student (classes_in_order l)) is))
 
-  pub stands_is : (after : Snapshot) (o : Option SectionFault) → o ≡ section_fault_of p s.lists student list → is_some o ≡ false → after ≡ with_list s student (in_order list) → StandsAs p s after
+  pub stands_is : (after : Snapshot) (o : Option SectionFault) → o ≡ section_fault_of p s.lists student list → is_some o ≡ false → after ≡ with_list s student (classes_in_order list) → StandsAs p s after
   stands_is after o at none present =
       let enrolled = enrolled_by (is_enrolment p student (rest ++ choice)) (first_without_seat p s.lists student (rest ++ choice)) (none_is o at none) in
-      subst (λ (t : Snapshot). StandsAs p s t) (sym (present ∙ ap (λ (l : List ℕ). with_list s student (in_order l)) is)) (stands_replaced p s student course valid sound object rest choice r enrolled)
+      subst (λ (t : Snapshot). StandsAs p s t) (sym (present ∙ ap (λ (l : List ℕ). with_list s student (classes_in_order l)) is)) (stands_replaced p s student course valid sound target rest choice r enrolled)
 
 -- whether the total is at most a level, by the pairs that the choice adds and those that the own classes had
-module _ (p : Parts) (s : Snapshot) (student course : ℕ) (valid : IsValid p) (sound : IsSound p s) (object : IsSeatedIn p s student course) (rest own choice : List ℕ) (r : rest ≡ rest_of p course (list_in s student)) (o : own ≡ own_of p course (list_in s student)) (total had adds : ℕ) (total_is : total ≡ total_of p s)
+module _ (p : Parts) (s : Snapshot) (student course : ℕ) (valid : IsValid p) (sound : IsSound p s) (target : IsSeatedIn p s student course) (rest own choice : List ℕ) (r : rest ≡ rest_of p course (list_in s student)) (o : own ≡ own_of p course (list_in s student)) (total had adds : ℕ) (total_is : total ≡ total_of p s)
     (had_is : had ≡ p.weights.student * pairs_added (beside p s student rest) own) (adds_is : adds ≡ p.weights.student * pairs_added (beside p s student rest) choice) where
-  replaced_is : total_of p (with_list s student (in_order (rest ++ choice))) + had ≡ total + adds
-  replaced_is = rw (total_is, had_is, adds_is) (total_by p s student course valid sound object rest own choice r o)
+  replaced_is : total_of p (with_list s student (classes_in_order (rest ++ choice))) + had ≡ total + adds
+  replaced_is = rw (total_is, had_is, adds_is) (total_by p s student course valid sound target rest own choice r o)
 
   none_added : p.weights.student * pairs_added (beside p s student rest) [] ≡ 0
   none_added = omega arith
 
   pub had_low : had ≤ total
-  had_low = omega (arith, total_is, had_is, none_added, total_by p s student course valid sound object rest own [] r o)
+  had_low = omega (arith, total_is, had_is, none_added, total_by p s student course valid sound target rest own [] r o)
 
-  pub level_tested : (others level : ℕ) → others + had ≡ total → adds ≤ level → nat_le others (level - adds) ≡ nat_le (total_of p (with_list s student (in_order (rest ++ choice)))) level
+  pub level_tested : (others level : ℕ) → others + had ≡ total → adds ≤ level → nat_le others (level - adds) ≡ nat_le (total_of p (with_list s student (classes_in_order (rest ++ choice)))) level
   level_tested others level others_are low = by (nat_le others (level - adds)) refl
     where
       past : (m n : ℕ) → nat_le m n ≡ false → n < m
       past m n is = grind (arith, nat_tests)
 
-      by : (b : Bool) → nat_le others (level - adds) ≡ b → b ≡ nat_le (total_of p (with_list s student (in_order (rest ++ choice)))) level
-      by true is = at_most total others adds had (total_of p (with_list s student (in_order (rest ++ choice)))) level replaced_is others_are low (leb-true others (level - adds) is)
-      by false is = above total others adds had (total_of p (with_list s student (in_order (rest ++ choice)))) level replaced_is others_are (omega (arith, past others (level - adds) is, low))
+      by : (b : Bool) → nat_le others (level - adds) ≡ b → b ≡ nat_le (total_of p (with_list s student (classes_in_order (rest ++ choice)))) level
+      by true is = at_most total others adds had (total_of p (with_list s student (classes_in_order (rest ++ choice)))) level replaced_is others_are low (leb-true others (level - adds) is)
+      by false is = above total others adds had (total_of p (with_list s student (classes_in_order (rest ++ choice)))) level replaced_is others_are (omega (arith, past others (level - adds) is, low))
 
   not_below : (m n : ℕ) → n < m → nat_le m n ≡ false
   not_below m n lt = grind (arith, nat_tests)
 
-  pub level_past : (level : ℕ) → level < adds → nat_le adds level ≡ nat_le (total_of p (with_list s student (in_order (rest ++ choice)))) level
+  pub level_past : (level : ℕ) → level < adds → nat_le adds level ≡ nat_le (total_of p (with_list s student (classes_in_order (rest ++ choice)))) level
   level_past level high =
       not_below adds level high
-      ∙ above total (total - had) adds had (total_of p (with_list s student (in_order (rest ++ choice)))) level replaced_is (omega (arith, had_low)) (omega (arith, high))
+      ∙ above total (total - had) adds had (total_of p (with_list s student (classes_in_order (rest ++ choice)))) level replaced_is (omega (arith, had_low)) (omega (arith, high))

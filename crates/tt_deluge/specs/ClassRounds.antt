@@ -12,7 +12,7 @@ use Rattle.tt_plan.specs.Domain.{domain_of, spot_at_value}
 use Rattle.tt_state.specs.Snapshots.{Snapshot, is_locked_in, value_in, with_value}
 use Rattle.tt_state.specs.Values.{blocked_of, conflicts_of, is_value}
 use Rattle.tt_improve.specs.Classes.{is_free}
-use Rattle.tt_deluge.specs.Draws.{by_draw, draw}
+use Rattle.tt_deluge.specs.Draws.{by_draw, draw_next}
 
 -- the class has this value
 abbrev pub has_value : Snapshot → (class : ℕ) → Value → Bool
@@ -39,9 +39,9 @@ abbrev pub value_at_time : Parts → (class : ℕ) → Time → (room : Option �
 value_at_time p class t room = find (stands_at p class t room) (domain_of p class)
 
 -- an item, or another where there is none
-abbrev pub or_else : {A : Type 0} → Option A → Option A → Option A
-or_else None other = other
-or_else (Some x) other = Some x
+abbrev pub first_some : {A : Type 0} → Option A → Option A → Option A
+first_some None other = other
+first_some (Some x) other = Some x
 
 -- the spot that a class has
 abbrev pub spot_in : Parts → Snapshot → (class : ℕ) → Option Spot
@@ -49,7 +49,7 @@ spot_in p s class = option_and_then (spot_at_value p class) (value_in s class)
 
 -- the value by which the other class of an exchange comes to the time of the class: with the room of the class, or else with its own
 abbrev pub value_by_spots : Parts → (other : ℕ) → (at had : Spot) → Option Value
-value_by_spots p other at had = or_else (value_at_time p other at.time at.room) (value_at_time p other at.time had.room)
+value_by_spots p other at had = first_some (value_at_time p other at.time at.room) (value_at_time p other at.time had.room)
 
 -- the same for two classes of a snapshot
 unfoldable pub exchange_value : Parts → Snapshot → (class other : ℕ) → Option Value
@@ -71,16 +71,16 @@ exchanged p s class v other to =
     if may_exchange p s class v other to then Some (with_value (half_exchanged s class v other) other (Some to)) else None
 
 -- the snapshot with a class at a value that isn't blocked, by the conflict set: where it is empty, or one class that isn't locked, in an exchange with it
-abbrev pub among : Parts → Snapshot → (class : ℕ) → Value → (conflicts : List ℕ) → Option Snapshot
-among p s class v [] = Some (with_value s class (Some v))
-among p s class v (other ∷ []) =
+abbrev pub moved_by_conflicts : Parts → Snapshot → (class : ℕ) → Value → (conflicts : List ℕ) → Option Snapshot
+moved_by_conflicts p s class v [] = Some (with_value s class (Some v))
+moved_by_conflicts p s class v (other ∷ []) =
     if is_locked_in s other then None else option_and_then (exchanged p s class v other) (exchange_value p s class other)
-among p s class v (other ∷ more ∷ others) = None
+moved_by_conflicts p s class v (other ∷ more ∷ others) = None
 
 -- the snapshot with a class at a value or in an exchange, none where it has the value, or where the value is blocked
 unfoldable pub moved_to_value : Parts → Snapshot → (class : ℕ) → Value → Option Snapshot
 moved_to_value p s class v =
-    if has_value s class v || is_some (blocked_of p s.closures class v) then None else among p s class v (conflicts_of p s class v)
+    if has_value s class v || is_some (blocked_of p s.closures class v) then None else moved_by_conflicts p s class v (conflicts_of p s class v)
 
 -- the snapshot with a class at the next free value, none where it has none
 abbrev pub moved_to_next : Parts → Snapshot → (class place : ℕ) → Option Snapshot
@@ -94,7 +94,7 @@ class_change p s kind class place =
 -- the change of a class, with a place in its domain by the next word, and the words after it
 abbrev pub class_drawn : Parts → Snapshot → (kind class : ℕ) → Stream → Option Snapshot × Stream
 class_drawn p s kind class words =
-    let place = draw (length (domain_of p class)) words in (class_change p s kind class place.0, place.1)
+    let place = draw_next (length (domain_of p class)) words in (class_change p s kind class place.0, place.1)
 
 -- what a round on one of these classes finds
 unfoldable pub class_round : Parts → (classes : List ℕ) → Snapshot → (kind : ℕ) → Stream → Option Snapshot × Stream

@@ -4,8 +4,8 @@ use Rattle.rand_core.specs.Stream.{Stream, next_u32}
 use Rattle.tt_draw.specs.Words.{drawn, drawn_place}
 
 -- a number below a count by the next word, and the words after it
-abbrev pub draw : (count : ℕ) → Stream → ℕ × Stream
-draw count words = (drawn_place (next_u32 words).0 count, (next_u32 words).1)
+abbrev pub draw_next : (count : ℕ) → Stream → ℕ × Stream
+draw_next count words = (drawn_place (next_u32 words).0 count, (next_u32 words).1)
 
 -- what an item gives with the words after the one that drew it; without an item nothing, and no word is drawn
 abbrev pub by_item : {A B : Type 0} → (A → Stream → Option B × Stream) → Stream → Option A → Option B × Stream

@@ -7,11 +7,11 @@ use Rattle.tt_problem.specs.declared.parts.Parts.{Parts}
 use Rattle.tt_state.specs.Snapshots.{Snapshot}
 use Rattle.tt_improve.specs.Classes.{total_of}
 use Rattle.tt_deluge.specs.declared.pouring.Moment.{Moment as Kept}
-use Rattle.tt_deluge.specs.Deluged.{Moment}
+use Rattle.tt_deluge.specs.Deluged.{DelugeMoment}
 use Rattle.tt_deluge.specs.Standing.{StandsAs}
 
 -- a moment of this snapshot, with so many changes and these words to come
-abbrev pub moment_of : Snapshot → (changed : ℕ) → Stream → Moment
+abbrev pub moment_of : Snapshot → (changed : ℕ) → Stream → DelugeMoment
 moment_of s changed words = record { snapshot = s; changed = changed; words = words }
 
 -- what is kept of a moment is of the last snapshot of a trail
@@ -21,7 +21,7 @@ pub record IsMomentOf (p : Parts) (s : Snapshot) (trail : List Snapshot) (kept :
   pub at : slice_get trail kept.mark ≡ Some s
 
 -- the number by which a moment is chosen
-abbrev pub by_total : Parts → Moment → List ℕ
+abbrev pub by_total : Parts → DelugeMoment → List ℕ
 by_total p m = total_of p m.snapshot ∷ []
 
 -- nothing has changed, or the total has fallen by some changes
@@ -29,7 +29,7 @@ abbrev pub HasFallen : Parts → (start now : Snapshot) → (changed : ℕ) → 
 HasFallen p start now changed = ((changed ≡ 0) × (now ≡ start)) ⊎ ((0 < changed) × (total_of p now < total_of p start))
 
 -- the best moment so far is one of the trail, and with what is still ahead the way has this one as its best
-pub record IsPouring (p : Parts) (start : Snapshot) (trail : List Snapshot) (ahead : List Moment) (best : Kept) (end : Moment) : Type 0 where
+pub record IsPouring (p : Parts) (start : Snapshot) (trail : List Snapshot) (ahead : List DelugeMoment) (best : Kept) (end : DelugeMoment) : Type 0 where
   pub now : Snapshot
   pub words : Stream
   pub moment : IsMomentOf p now trail best

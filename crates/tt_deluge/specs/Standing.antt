@@ -4,9 +4,9 @@ use Rattle.tt_problem.specs.declared.parts.Parts.{Parts}
 use Rattle.tt_state.specs.History.{Held, trail}
 use Rattle.tt_state.specs.Snapshots.{Snapshot, StaysLocked}
 use Rattle.tt_improve.specs.Classes.{totals_in}
-use Rattle.tt_deluge.specs.Deluged.{made_within, objects_at}
+use Rattle.tt_deluge.specs.Deluged.{made_within, targets_at}
 
--- the second snapshot is no harder than the first, has no class more unplaced, and the same statistics, closures, locks and objects;
+-- the second snapshot is no harder than the first, has no class more unplaced, and the same statistics, closures, locks and targets;
 -- and each locked class is where it was
 pub record StandsAs (p : Parts) (s t : Snapshot) : Type 0 where
   pub hard : (totals_in p t).hard ≤ (totals_in p s).hard
@@ -14,7 +14,7 @@ pub record StandsAs (p : Parts) (s t : Snapshot) : Type 0 where
   pub statistics : t.statistics ≡ s.statistics
   pub closures : t.closures ≡ s.closures
   pub locks : t.locks ≡ s.locks
-  pub objects : objects_at p t ≡ objects_at p s
+  pub targets : targets_at p t ≡ targets_at p s
   pub locked : (class : ℕ) → StaysLocked s t class
 
 -- the second list begins with the first one

@@ -8,13 +8,13 @@ use Rattle.tt_base.specs.Lists.{is_listed}
 use Rattle.tt_problem.specs.declared.parts.Span.{Span}
 use Rattle.tt_problem.specs.declared.parts.Parts.{Parts}
 use Rattle.tt_problem.specs.Seats.{span_length, spans_at}
-use Rattle.tt_state.specs.Snapshots.{Snapshot, in_order, list_in, with_list}
+use Rattle.tt_state.specs.Snapshots.{Snapshot, classes_in_order, list_in, with_list}
 use Rattle.tt_choice.specs.Choices.{places_between}
 use Rattle.tt_choice.specs.Situations.{parent_in}
 use Rattle.tt_improve.specs.Courses.{may_replace, own_of, rest_of}
-use Rattle.tt_improve.specs.Objects.{seated_courses}
-use Rattle.tt_improve.specs.declared.objects.Object.{Object}
-use Rattle.tt_improve.specs.declared.objects.Object.TheVariants.{Class, Course}
+use Rattle.tt_improve.specs.Targets.{seated_courses}
+use Rattle.tt_improve.specs.declared.targets.Target.{Target}
+use Rattle.tt_improve.specs.declared.targets.Target.TheVariants.{Class, Course}
 use Rattle.tt_deluge.specs.Draws.{by_draw}
 
 -- the configurations of a course, each as its subparts
@@ -30,13 +30,13 @@ is_single _ = false
 abbrev pub has_choice : Parts → (course : ℕ) → Bool
 has_choice p course = not (is_single (configurations_of p course))
 
--- the object is a course of a student with a choice of classes
-abbrev pub is_choice : Parts → Object → Bool
+-- the target is a course of a student with a choice of classes
+abbrev pub is_choice : Parts → Target → Bool
 is_choice p (Class class) = false
 is_choice p (Course student course) = has_choice p course
 
 -- the courses with a choice of each student who has classes, in order
-unfoldable pub choices_in : Parts → Snapshot → List Object
+unfoldable pub choices_in : Parts → Snapshot → List Target
 choices_in p s = filter (is_choice p) (seated_courses p s)
 
 -- a class fits beside others: it has no parent, or its parent is one of them
@@ -57,7 +57,7 @@ drawn_choice p rest so_far (subpart ∷ subparts) words =
 -- the snapshot in which a choice replaces the student's own classes of a course, where it differs and may do so
 abbrev pub replaced : Parts → Snapshot → (student : ℕ) → (rest own choice : List ℕ) → Option Snapshot
 replaced p s student rest own choice =
-    if not (pointwise nat_eq choice own) && may_replace p s student rest choice then Some (with_list s student (in_order (rest ++ choice))) else None
+    if not (pointwise nat_eq choice own) && may_replace p s student rest choice then Some (with_list s student (classes_in_order (rest ++ choice))) else None
 
 -- the change of a student by a choice, if there is one
 abbrev pub replaced_if : Parts → Snapshot → (student : ℕ) → (rest own : List ℕ) → Option (List ℕ) × Stream → Option Snapshot × Stream
@@ -70,10 +70,10 @@ student_drawn p s student course subparts words =
     replaced_if p s student rest (own_of p course (list_in s student)) (drawn_choice p rest [] subparts words)
 
 -- the change of a course of a student: first a configuration is drawn
-abbrev pub choice_drawn : Parts → Snapshot → Object → Stream → Option Snapshot × Stream
+abbrev pub choice_drawn : Parts → Snapshot → Target → Stream → Option Snapshot × Stream
 choice_drawn p s (Class class) words = (None, words)
 choice_drawn p s (Course student course) words = by_draw (configurations_of p course) (student_drawn p s student course) words
 
 -- what a round on one of these courses of students finds
-unfoldable pub student_round : Parts → (choices : List Object) → Snapshot → Stream → Option Snapshot × Stream
+unfoldable pub student_round : Parts → (choices : List Target) → Snapshot → Stream → Option Snapshot × Stream
 student_round p choices s words = by_draw choices (choice_drawn p s) words

@@ -1,28 +1,28 @@
--- Proof. The objects of a deluge as lists, and the courses with a choice.
+-- Proof. The targets of a deluge as lists, and the courses with a choice.
 use Rattle.std.specs.Prelude.{◌≡◌, ℕ, ◌<◌, Bool, false, List, [], ◌∷◌, length, map, slice_index_or}
 use Rattle.tt_problem.specs.declared.parts.Parts.{Parts}
-use Rattle.tt_improve.specs.declared.objects.Object.{Object}
-use Rattle.tt_improve.specs.declared.objects.Object.TheVariants.{Class, Course}
-use Rattle.tt_deluge.specs.declared.objects.Choice.{Choice}
-use Rattle.tt_deluge.specs.declared.objects.Objects.{Objects as Kept}
-use Rattle.tt_deluge.specs.Deluged.{Objects}
+use Rattle.tt_improve.specs.declared.targets.Target.{Target}
+use Rattle.tt_improve.specs.declared.targets.Target.TheVariants.{Class, Course}
+use Rattle.tt_deluge.specs.declared.targets.Choice.{Choice}
+use Rattle.tt_deluge.specs.declared.targets.Targets.{Targets as Kept}
+use Rattle.tt_deluge.specs.Deluged.{Targets}
 use Rattle.tt_deluge.specs.StudentRounds.{has_choice}
 
 -- the course of a student
-abbrev pub object_of : Choice → Object
-object_of choice = Course choice.student choice.course
+abbrev pub target_of : Choice → Target
+target_of choice = Course choice.student choice.course
 
 -- what rounds are made over
-abbrev pub objects_in : Kept → Objects
-objects_in objects = record { classes = objects.classes.items; choices = map object_of objects.choices.items }
+abbrev pub targets_in : Kept → Targets
+targets_in targets = record { classes = targets.classes.items; choices = map target_of targets.choices.items }
 
--- the class of an object that is one
-abbrev pub class_of : Object → List ℕ
+-- the class of a target that is one
+abbrev pub class_of : Target → List ℕ
 class_of (Class class) = class ∷ []
 class_of (Course student course) = []
 
--- the course of the object, if it is one, is of the problem
-abbrev pub IsCourseWithin : Parts → Object → Type 0
+-- the course of the target, if it is one, is of the problem
+abbrev pub IsCourseWithin : Parts → Target → Type 0
 IsCourseWithin p (Class class) = Unit {0}
 IsCourseWithin p (Course student course) = course < length p.courses
 

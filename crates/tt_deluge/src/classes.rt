@@ -1,3 +1,5 @@
+//! Rounds on classes: a class gets a free value, or exchanges places with another class.
+
 ghost use Rattle.std.specs.Prelude.{◌≡◌, ◌+◌, ◌∷◌, ◌<◌, ◌≤◌, ◌^◌, [], None, Some, IfNone, IfOk, IfSome, OnOk, cond, false, length, true};
 ghost use Rattle.tt_plan.specs.Domain.{IsOfDomain, domain_of};
 ghost use Rattle.tt_state.specs.History.{IsWithinStep, earlier, trail, with_taken};
@@ -15,7 +17,7 @@ use tt_bits::Value;
 use tt_plan::{domain_size, value_at};
 use tt_state::State;
 
-/// The place that is so many after another among some, where the first one comes after the last.
+// The place that is so many after another among some, where the first one comes after the last.
 fn place_after(place: u32, more: u32, count: u32) -> u32
     requires place { place < count }
     requires more { more < count }
@@ -31,8 +33,8 @@ fn place_after(place: u32, more: u32, count: u32) -> u32
     }
 }
 
-/// The first of a class's values, from a place of its domain on and then before it, that is free and
-/// that the class hasn't.
+// The first of a class's values, from a place of its domain on and then before it, that is free and
+// that the class hasn't.
 fn next_free(state: &mut State, class: u32, place: u32) -> Option<Value>
     requires class { class < length state.old.problem.classes }
     requires place { place < length (domain_of state.old.problem class) }
@@ -53,8 +55,8 @@ fn next_free(state: &mut State, class: u32, place: u32) -> Option<Value>
     None
 }
 
-/// Gives a class a value that is free, in the last step, where the total is then at most the level.
-/// Whether it does.
+// Gives a class a value that is free, in the last step, where the total is then at most the level.
+// Whether it does.
 fn move_within(state: &mut State, class: u32, value: Value, level: u128) -> Result<bool, AllocError>
     requires class { IsMovable state.old.problem state.old.present class }
     requires value { IsOfDomain state.old.problem class value }
@@ -74,7 +76,7 @@ fn move_within(state: &mut State, class: u32, value: Value, level: u128) -> Resu
     Ok(true)
 }
 
-/// A round on a class that walks on from a place of its domain to the next value that is free.
+// A round on a class that walks on from a place of its domain to the next value that is free.
 fn move_to_next(state: &mut State, class: u32, place: u32, level: u128) -> Result<bool, AllocError>
     requires class { IsMovable state.old.problem state.old.present class }
     requires place { place < length (domain_of state.old.problem class) }
@@ -89,7 +91,7 @@ fn move_to_next(state: &mut State, class: u32, place: u32, level: u128) -> Resul
     }
 }
 
-/// The one class of the conflict set that was found last, if it has one.
+// The one class of the conflict set that was found last, if it has one.
 fn only_taken(state: &State) -> Option<u32>
     requires { length state.now.taken ≤ 1 }
     ensures none { IfNone result (state.now.taken ≡ []) }
@@ -99,8 +101,8 @@ fn only_taken(state: &State) -> Option<u32>
     state.taken().first().copied()
 }
 
-/// A round on a class that looks at one value. The class gets it where it is free, or exchanges its place
-/// with the one class that stands in its way.
+// A round on a class that looks at one value. The class gets it where it is free, or exchanges its place
+// with the one class that stands in its way.
 fn move_to_value(
     state: &mut State,
     class: u32,
@@ -126,10 +128,10 @@ fn move_to_value(
     }
 }
 
-/// A round on a class, in the last step, by a kind below 32 and a place in its domain: the class walks on
-/// to the next value that is free, gets the value at the place, or exchanges its place with the one class
-/// in its way, where the total is then at most the level. Whether it does; else nothing is added to the
-/// trail.
+// A round on a class, in the last step, by a kind below 32 and a place in its domain: the class walks on
+// to the next value that is free, gets the value at the place, or exchanges its place with the one class
+// in its way, where the total is then at most the level. Whether it does; else nothing is added to the
+// trail.
 pub(crate) fn class_round(
     state: &mut State,
     class: u32,

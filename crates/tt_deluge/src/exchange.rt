@@ -1,10 +1,12 @@
+//! Two classes that change places.
+
 ghost use Rattle.std.specs.Prelude.{◌≡◌, ◌&&◌, ◌<◌, [], ◌∷◌, None, Some, IfOk, IfSome, OnOk, false, true, length, max};
 ghost use Rattle.tt_plan.specs.Domain.{IsOfDomain};
 ghost use Rattle.tt_state.specs.History.{IsWithinStep, earlier, trail, with_taken};
 ghost use Rattle.tt_state.specs.Snapshots.{is_locked_in, with_value};
 ghost use Rattle.tt_improve.specs.Classes.{is_free};
 ghost use Rattle.tt_improve.specs.Standing.{IsMovable};
-ghost use Rattle.tt_deluge.specs.ClassRounds.{among, begin_alike, exchange_value, half_exchanged, spot_in, value_at_time};
+ghost use Rattle.tt_deluge.specs.ClassRounds.{moved_by_conflicts, begin_alike, exchange_value, half_exchanged, spot_in, value_at_time};
 ghost use Rattle.tt_deluge.specs.Places.{place_of_room, place_of_time};
 ghost use Rattle.tt_deluge.specs.Standing.{BeginsWith, IsClassRound};
 
@@ -14,14 +16,14 @@ use tt_bits::{Spot, Time, Value};
 use tt_problem::{Problem, RoomChoice, TimeChoice};
 use tt_state::State;
 
-/// Whether the days, the weeks and the start of two times are the same.
+// Whether the days, the weeks and the start of two times are the same.
 fn begin_alike(a: &Time, b: &Time) -> bool
     ensures { result ≡ begin_alike a.now b.now }
 {
     a.days == b.days && a.weeks == b.weeks && a.start == b.start
 }
 
-/// The first place of a time with the days, the weeks and the start of another.
+// The first place of a time with the days, the weeks and the start of another.
 fn place_of_time(times: &[TimeChoice], time: &Time) -> Option<usize>
     ensures place { result ≡ place_of_time times.now time.now }
     ensures within { IfSome result (λ place. place < length times.now) }
@@ -34,7 +36,7 @@ fn place_of_time(times: &[TimeChoice], time: &Time) -> Option<usize>
     None
 }
 
-/// The first place of a room, or 0 where there is none to be had and none is asked for.
+// The first place of a room, or 0 where there is none to be had and none is asked for.
 fn place_of_room(rooms: &[RoomChoice], room: Option<u32>) -> Option<usize>
     ensures place { result ≡ place_of_room rooms.now room }
     ensures within { IfSome result (λ place. place < max 1 (length rooms.now)) }
@@ -50,7 +52,7 @@ fn place_of_room(rooms: &[RoomChoice], room: Option<u32>) -> Option<usize>
     None
 }
 
-/// The first value of a class with the days, the weeks and the start of a time, and this room or none.
+// The first value of a class with the days, the weeks and the start of a time, and this room or none.
 fn value_at_time(problem: &Problem, class: u32, time: &Time, room: Option<u32>) -> Option<Value>
     requires { class < length problem.now.classes }
     ensures value { result ≡ value_at_time problem.now class time.now room }
@@ -65,7 +67,7 @@ fn value_at_time(problem: &Problem, class: u32, time: &Time, room: Option<u32>) 
     })
 }
 
-/// The spot that a class has.
+// The spot that a class has.
 fn spot_now(state: &State, class: u32) -> Option<Spot>
     requires { class < length state.now.problem.classes }
     ensures { result ≡ spot_in state.now.problem state.now.present class }
@@ -73,8 +75,8 @@ fn spot_now(state: &State, class: u32) -> Option<Spot>
     state.score().roster().spots()[class as usize]
 }
 
-/// The value by which another class comes to the time of a class: with the room of the class, or else
-/// with its own.
+// The value by which another class comes to the time of a class: with the room of the class, or else
+// with its own.
 fn exchange_value(state: &State, class: u32, other: u32) -> Option<Value>
     requires class { class < length state.now.problem.classes }
     requires other { other < length state.now.problem.classes }
@@ -89,8 +91,8 @@ fn exchange_value(state: &State, class: u32, other: u32) -> Option<Value>
     }
 }
 
-/// Takes a class out in the last step, and gives both classes their values, as far as these are free.
-/// Whether both are.
+// Takes a class out in the last step, and gives both classes their values, as far as these are free.
+// Whether both are.
 fn exchange_steps(
     state: &mut State,
     class: u32,
@@ -119,9 +121,9 @@ fn exchange_steps(
     Ok(true)
 }
 
-/// Gives a class a value in whose way one class alone stands, and that class the value by which it comes
-/// to where the first one was, in the last step: where that class isn't locked, both values are free then,
-/// and the total is at most the level. Whether it does.
+// Gives a class a value in whose way one class alone stands, and that class the value by which it comes
+// to where the first one was, in the last step: where that class isn't locked, both values are free then,
+// and the total is at most the level. Whether it does.
 pub(crate) fn exchange(
     state: &mut State,
     class: u32,
@@ -134,7 +136,7 @@ pub(crate) fn exchange(
     requires other { other < length state.old.problem.classes }
     requires step { 0 < length (earlier state.old) }
     ensures step { IsWithinStep (with_taken state.old []) (with_taken state.new []) }
-    ensures round { IfOk result (IsClassRound level (among state.old.problem state.old.present class value (other ∷ [])) (with_taken state.old []) (with_taken state.new [])) }
+    ensures round { IfOk result (IsClassRound level (moved_by_conflicts state.old.problem state.old.present class value (other ∷ [])) (with_taken state.old []) (with_taken state.new [])) }
 {
     state.problem().validity();
     state.soundness();

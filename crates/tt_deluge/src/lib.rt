@@ -9,9 +9,9 @@
 
 mod classes;
 mod exchange;
-mod objects;
 mod pouring;
 mod students;
+mod targets;
 mod values;
 mod words;
 

@@ -1,20 +1,22 @@
+//! The great deluge: its level, its rounds, and its best moment.
+
 ghost use Rattle.std.specs.Prelude.{◌≡◌, ◌↔◌, ℕ, ◌<◌, ◌≤◌, ◌^◌, [], ◌∷◌, IfOk, OnErr, OnOk, false, if◌then◌else◌, length, map, nat_lt};
 ghost use Rattle.tt_state.specs.History.{IsWithinStep, desk_of, earlier, stepped, trail, with_taken};
 ghost use Rattle.tt_state.specs.Snapshots.{StaysLocked};
 ghost use Rattle.tt_improve.specs.Classes.{total_of, totals_in};
-ghost use Rattle.tt_improve.specs.Objects.{movable_classes};
+ghost use Rattle.tt_improve.specs.Targets.{movable_classes};
 ghost use Rattle.tt_deluge.specs.ClassRounds.{class_round};
 ghost use Rattle.tt_deluge.specs.StudentRounds.{choices_in, student_round};
-ghost use Rattle.tt_deluge.specs.Deluged.{are_none, best_moment, deluged, found_by, is_on_class, level_at, objects_at};
+ghost use Rattle.tt_deluge.specs.Deluged.{are_none, best_moment, deluged, found_by, is_on_class, level_at, targets_at};
 ghost use Rattle.tt_deluge.specs.Pouring.{IsMomentOf, IsPouring};
 ghost use Rattle.tt_deluge.specs.Reading.{words_of};
 ghost use Rattle.tt_deluge.specs.Standing.{IsRound, StandsAs};
 ghost use Rattle.tt_deluge.specs.UnderWay.{ended_at};
-ghost use Rattle.tt_deluge.specs.Views.{object_of, objects_in};
+ghost use Rattle.tt_deluge.specs.Views.{target_of, targets_in};
 
 use crate::classes::class_round;
-use crate::objects::{Choice, Objects};
 use crate::students::{StudentBuffers, student_round};
+use crate::targets::{Choice, Targets};
 use crate::words::draw_below;
 use rand_pcg::Lcg64Xsh32;
 use std::alloc::{AllocError, Global};
@@ -29,8 +31,8 @@ pub struct Deluged {
     pub changed: u32,
 }
 
-/// A moment on the way: its total, how many changes led to it, and its place in the trail of the last
-/// step.
+// A moment on the way: its total, how many changes led to it, and its place in the trail of the last
+// step.
 #[derive(Clone, Copy, Debug, PartialEq, Eq)]
 struct Moment {
     total: u128,
@@ -38,41 +40,41 @@ struct Moment {
     mark: u64,
 }
 
-/// What a deluge works with: the objects, and room for what a student's round looks at.
+// What a deluge works with: the targets, and room for what a student's round looks at.
 #[derive(Drop)]
 struct Work {
-    objects: Objects,
+    targets: Targets,
     buffers: StudentBuffers,
 }
 
 impl Work {
-    /// Before the first round.
+    // Before the first round.
     fn new(alloc: Global, state: &State) -> Result<Work, AllocError>
-        ensures objects { IfOk result (λ work. objects_in work.objects ≡ objects_at state.now.problem state.now.present) }
-        ensures few_classes { IfOk result (λ work. length work.objects.classes.items ≤ 2 ^ 32) }
-        ensures few_choices { IfOk result (λ work. length work.objects.choices.items ≤ 2 ^ 32) }
+        ensures targets { IfOk result (λ work. targets_in work.targets ≡ targets_at state.now.problem state.now.present) }
+        ensures few_classes { IfOk result (λ work. length work.targets.classes.items ≤ 2 ^ 32) }
+        ensures few_choices { IfOk result (λ work. length work.targets.choices.items ≤ 2 ^ 32) }
     {
-        let objects = Objects::new(alloc, state)?;
+        let targets = Targets::new(alloc, state)?;
         let buffers = StudentBuffers::new(alloc);
-        Ok(Work { objects, buffers })
+        Ok(Work { targets, buffers })
     }
 }
 
-/// Whether there is nothing to change.
-fn are_none(objects: &Objects) -> bool
-    ensures { result ≡ are_none (objects_in objects.now) }
+// Whether there is nothing to change.
+fn are_none(targets: &Targets) -> bool
+    ensures { result ≡ are_none (targets_in targets.now) }
 {
-    objects.classes.is_empty() && objects.choices.is_empty()
+    targets.classes.is_empty() && targets.choices.is_empty()
 }
 
-/// Whether a round of a kind is one on a class.
-fn is_on_class(objects: &Objects, kind: u32) -> bool
-    ensures { result ≡ is_on_class (objects_in objects.now) kind }
+// Whether a round of a kind is one on a class.
+fn is_on_class(targets: &Targets, kind: u32) -> bool
+    ensures { result ≡ is_on_class (targets_in targets.now) kind }
 {
-    objects.choices.is_empty() || (!objects.classes.is_empty() && kind % 2 == 1)
+    targets.choices.is_empty() || (!targets.classes.is_empty() && kind % 2 == 1)
 }
 
-/// The present total.
+// The present total.
 fn total_now(state: &State) -> u128
     ensures total { result ≡ total_of state.now.problem state.now.present }
     ensures small { result < 2 ^ 127 }
@@ -80,7 +82,7 @@ fn total_now(state: &State) -> u128
     state.score().totals().total
 }
 
-/// The present moment, to which so many changes led.
+// The present moment, to which so many changes led.
 fn moment_now(state: &State, changed: u32) -> Moment
     ensures moment { IsMomentOf state.now.problem state.now.present (trail state.now) result }
     ensures changed { result.changed ≡ changed }
@@ -92,16 +94,16 @@ fn moment_now(state: &State, changed: u32) -> Moment
     }
 }
 
-/// The later moment, where its total is below that of the earlier one, and otherwise the earlier one.
+// The later moment, where its total is below that of the earlier one, and otherwise the earlier one.
 fn better(best: Moment, now: Moment) -> Moment
     ensures { result ≡ (if nat_lt now.total best.total then now else best) }
 {
     if now.total < best.total { now } else { best }
 }
 
-/// The level in a round of so many, counted from 0: it sinks from the first total to 0, but not below the
-/// present one. What it has sunk by is the first total times the round, divided by the rounds; a product
-/// of the two could be too large.
+// The level in a round of so many, counted from 0: it sinks from the first total to 0, but not below the
+// present one. What it has sunk by is the first total times the round, divided by the rounds; a product
+// of the two could be too large.
 fn level_at(first: u128, rounds: u32, round: u32, present: u128) -> u128
     requires { round < rounds }
     ensures { result ≡ level_at first rounds round present }
@@ -111,8 +113,8 @@ fn level_at(first: u128, rounds: u32, round: u32, present: u128) -> u128
     present.max(first - sunk)
 }
 
-/// A round on a class that a random word draws, in the last step, with a place in its domain that the
-/// next one draws. Whether it changes something.
+// A round on a class that a random word draws, in the last step, with a place in its domain that the
+// next one draws. Whether it changes something.
 fn round_on_class(
     state: &mut State,
     classes: &[u32],
@@ -136,8 +138,8 @@ fn round_on_class(
     class_round(state, class, kind, place, level)
 }
 
-/// A round on a course of a student that a random word draws, in the last step. Whether it changes
-/// something.
+// A round on a course of a student that a random word draws, in the last step. Whether it changes
+// something.
 fn round_on_student(
     state: &mut State,
     choices: &[Choice],
@@ -145,43 +147,43 @@ fn round_on_student(
     level: u128,
     buffers: &mut StudentBuffers,
 ) -> Result<bool, AllocError>
-    requires choices { map object_of choices.now ≡ choices_in state.old.problem state.old.present }
+    requires choices { map target_of choices.now ≡ choices_in state.old.problem state.old.present }
     requires some { 0 < length choices.now }
     requires few { length choices.now ≤ 2 ^ 32 }
     requires step { 0 < length (earlier state.old) }
     ensures step { IsWithinStep (with_taken state.old []) (with_taken state.new []) }
-    ensures words { OnOk result (words_of words.new ≡ (student_round state.old.problem (map object_of choices.now) state.old.present (words_of words.old)).1) }
-    ensures round { IfOk result (IsRound level (student_round state.old.problem (map object_of choices.now) state.old.present (words_of words.old)).0 (with_taken state.old []) (with_taken state.new [])) }
+    ensures words { OnOk result (words_of words.new ≡ (student_round state.old.problem (map target_of choices.now) state.old.present (words_of words.old)).1) }
+    ensures round { IfOk result (IsRound level (student_round state.old.problem (map target_of choices.now) state.old.present (words_of words.old)).0 (with_taken state.old []) (with_taken state.new [])) }
 {
     let choice = choices[draw_below(words, choices.len() as u64) as usize];
     student_round(state, choice, words, level, buffers)
 }
 
-/// A round of a kind that a random word draws, in the last step. Whether it changes something.
+// A round of a kind that a random word draws, in the last step. Whether it changes something.
 fn make_round(
     state: &mut State,
     work: &mut Work,
     words: &mut Lcg64Xsh32,
     level: u128,
 ) -> Result<bool, AllocError>
-    requires objects { objects_in work.old.objects ≡ objects_at state.old.problem state.old.present }
-    requires some { are_none (objects_in work.old.objects) ≡ false }
-    requires few_classes { length work.old.objects.classes.items ≤ 2 ^ 32 }
-    requires few_choices { length work.old.objects.choices.items ≤ 2 ^ 32 }
+    requires targets { targets_in work.old.targets ≡ targets_at state.old.problem state.old.present }
+    requires some { are_none (targets_in work.old.targets) ≡ false }
+    requires few_classes { length work.old.targets.classes.items ≤ 2 ^ 32 }
+    requires few_choices { length work.old.targets.choices.items ≤ 2 ^ 32 }
     requires level { level < 2 ^ 127 }
     requires step { 0 < length (earlier state.old) }
-    ensures objects { work.new.objects ≡ work.old.objects }
+    ensures targets { work.new.targets ≡ work.old.targets }
     ensures step { IsWithinStep (with_taken state.old []) (with_taken state.new []) }
-    ensures words { OnOk result (words_of words.new ≡ (found_by state.old.problem (objects_in work.old.objects) state.old.present (words_of words.old)).1) }
-    ensures round { IfOk result (IsRound level (found_by state.old.problem (objects_in work.old.objects) state.old.present (words_of words.old)).0 (with_taken state.old []) (with_taken state.new [])) }
+    ensures words { OnOk result (words_of words.new ≡ (found_by state.old.problem (targets_in work.old.targets) state.old.present (words_of words.old)).1) }
+    ensures round { IfOk result (IsRound level (found_by state.old.problem (targets_in work.old.targets) state.old.present (words_of words.old)).0 (with_taken state.old []) (with_taken state.new [])) }
 {
     let kind = draw_below(words, 32) as u32;
-    if is_on_class(&work.objects, kind) {
-        round_on_class(state, work.objects.classes.as_slice(), kind, words, level)
+    if is_on_class(&work.targets, kind) {
+        round_on_class(state, work.targets.classes.as_slice(), kind, words, level)
     } else {
         round_on_student(
             state,
-            work.objects.choices.as_slice(),
+            work.targets.choices.as_slice(),
             words,
             level,
             &mut work.buffers,
@@ -189,8 +191,8 @@ fn make_round(
     }
 }
 
-/// Makes so many rounds in the last step, and answers the first moment of the least total. The watcher is
-/// told of each round.
+// Makes so many rounds in the last step, and answers the first moment of the least total. The watcher is
+// told of each round.
 fn pour<W: Watcher>(
     state: &mut State,
     work: &mut Work,
@@ -198,10 +200,10 @@ fn pour<W: Watcher>(
     seed: u64,
     watcher: &mut W,
 ) -> Result<Moment, AllocError>
-    requires objects { objects_in work.old.objects ≡ objects_at state.old.problem state.old.present }
-    requires some { are_none (objects_in work.old.objects) ≡ false }
-    requires few_classes { length work.old.objects.classes.items ≤ 2 ^ 32 }
-    requires few_choices { length work.old.objects.choices.items ≤ 2 ^ 32 }
+    requires targets { targets_in work.old.targets ≡ targets_at state.old.problem state.old.present }
+    requires some { are_none (targets_in work.old.targets) ≡ false }
+    requires few_classes { length work.old.targets.classes.items ≤ 2 ^ 32 }
+    requires few_choices { length work.old.targets.choices.items ≤ 2 ^ 32 }
     requires step { 0 < length (earlier state.old) }
     ensures step { IsWithinStep (with_taken state.old []) (with_taken state.new []) }
     ensures way { IfOk result (λ best. IsPouring state.old.problem state.old.present (trail state.new) [] best (best_moment state.old.problem rounds seed state.old.present)) }
@@ -223,8 +225,8 @@ fn pour<W: Watcher>(
     Ok(best)
 }
 
-/// Makes rounds, as one step, and goes back to the first moment of the least total. Where memory runs out,
-/// the step is undone.
+// Makes rounds, as one step, and goes back to the first moment of the least total. Where memory runs out,
+// the step is undone.
 fn deluge_in_step<W: Watcher>(
     alloc: Global,
     state: &mut State,
@@ -243,7 +245,7 @@ fn deluge_in_step<W: Watcher>(
 {
     let mut work = Work::new(alloc, state)?;
     state.begin()?;
-    if are_none(&work.objects) {
+    if are_none(&work.targets) {
         return Ok(Deluged {
             rounds: 0,
             changed: 0,

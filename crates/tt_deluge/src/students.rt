@@ -1,20 +1,22 @@
+//! Rounds on students: a drawn choice of a course replaces a student's own.
+
 ghost use Rattle.std.specs.Prelude.{◌≡◌, ◌<◌, ◌≤◌, ◌++◌, [], All, None, Some, IfNone, IfOk, IfSome, OnOk, cond, false, length, nat_le, slice_get};
 ghost use Rattle.rand_core.specs.Stream.{next_u32};
 ghost use Rattle.tt_problem.specs.Seats.{spans_at};
 ghost use Rattle.tt_problem.specs.Spans.{IsSpanWithin};
 ghost use Rattle.tt_state.specs.History.{IsWithinStep, earlier, trail};
-ghost use Rattle.tt_state.specs.Snapshots.{in_order, list_in, with_list};
+ghost use Rattle.tt_state.specs.Snapshots.{classes_in_order, list_in, with_list};
 ghost use Rattle.tt_draw.specs.Words.{drawn};
 ghost use Rattle.tt_improve.specs.Classes.{total_of};
 ghost use Rattle.tt_improve.specs.Courses.{is_of_course, own_of, rest_of};
 ghost use Rattle.tt_improve.specs.Standing.{IsSeatedIn};
-ghost use Rattle.tt_improve.specs.declared.objects.Object.TheVariants.{Course};
+ghost use Rattle.tt_improve.specs.declared.targets.Target.TheVariants.{Course};
 ghost use Rattle.tt_deluge.specs.Deluged.{made_within};
 ghost use Rattle.tt_deluge.specs.Reading.{words_of};
 ghost use Rattle.tt_deluge.specs.Standing.{BeginsWith, StandsAs};
 ghost use Rattle.tt_deluge.specs.StudentRounds.{choice_drawn, configurations_of, drawn_choice, fits_beside, fitting, replaced};
 
-use crate::objects::Choice;
+use crate::targets::Choice;
 use crate::words::draw_below;
 use rand_pcg::Lcg64Xsh32;
 use std::alloc::{AllocError, Global};
@@ -22,7 +24,7 @@ use tt_choice::pairs_of;
 use tt_problem::{Problem, Span};
 use tt_state::State;
 
-/// Whether a class is of a course.
+// Whether a class is of a course.
 fn is_of_course(problem: &Problem, course: u32, class: u32) -> bool
     requires { class < length problem.now.classes }
     ensures { result ≡ is_of_course problem.now course class }
@@ -30,8 +32,8 @@ fn is_of_course(problem: &Problem, course: u32, class: u32) -> bool
     course == problem.course_of(class)
 }
 
-/// Whether a class fits beside the rest of a student's list and the choice so far: it has no parent, or
-/// its parent is one of these.
+// Whether a class fits beside the rest of a student's list and the choice so far: it has no parent, or
+// its parent is one of these.
 fn fits_beside(problem: &Problem, rest: &[u32], so_far: &[u32], class: u32) -> bool
     requires { class < length problem.now.classes }
     ensures { result ≡ fits_beside problem.now (rest.now ++ so_far.now) class }
@@ -42,7 +44,7 @@ fn fits_beside(problem: &Problem, rest: &[u32], so_far: &[u32], class: u32) -> b
     }
 }
 
-/// How many classes of a subpart fit.
+// How many classes of a subpart fit.
 fn fitting_count(problem: &Problem, rest: &[u32], so_far: &[u32], subpart: Span) -> u32
     requires { IsSpanWithin (length problem.now.classes) subpart }
     ensures { result ≡ length (fitting problem.now (rest.now ++ so_far.now) subpart) }
@@ -56,7 +58,7 @@ fn fitting_count(problem: &Problem, rest: &[u32], so_far: &[u32], subpart: Span)
     count
 }
 
-/// The class at a place among those of a subpart that fit.
+// The class at a place among those of a subpart that fit.
 fn fitting_at(
     problem: &Problem,
     rest: &[u32],
@@ -80,7 +82,7 @@ fn fitting_at(
     None
 }
 
-/// A class of a subpart, drawn among those that fit. Where none fits no word is drawn.
+// A class of a subpart, drawn among those that fit. Where none fits no word is drawn.
 fn draw_class(
     problem: &Problem,
     rest: &[u32],
@@ -102,8 +104,8 @@ fn draw_class(
     fitting_at(problem, rest, so_far, subpart, place)
 }
 
-/// Draws a class of each subpart of a configuration, among those that fit beside the rest of a student's
-/// list and the choice so far. Whether there is one of each.
+// Draws a class of each subpart of a configuration, among those that fit beside the rest of a student's
+// list and the choice so far. Whether there is one of each.
 fn draw_classes(
     problem: &Problem,
     config: Span,
@@ -129,7 +131,7 @@ fn draw_classes(
     Ok(true)
 }
 
-/// The configuration of a course that the next random word draws.
+// The configuration of a course that the next random word draws.
 fn draw_config(problem: &Problem, course: u32, words: &mut Lcg64Xsh32) -> Span
     requires { course < length problem.now.courses }
     ensures config { drawn (next_u32 (words_of words.old)).0 (configurations_of problem.now course) ≡ Some (spans_at problem.now.subparts result) }
@@ -141,8 +143,8 @@ fn draw_config(problem: &Problem, course: u32, words: &mut Lcg64Xsh32) -> Span
     problem.config(configs.first + place)
 }
 
-/// Room for the rounds on students: a student's own classes of a course, the rest of the list, and the
-/// drawn choice. It is used again in each round.
+// Room for the rounds on students: a student's own classes of a course, the rest of the list, and the
+// drawn choice. It is used again in each round.
 #[derive(Drop)]
 pub(crate) struct StudentBuffers {
     own: Vec<u32>,
@@ -151,7 +153,7 @@ pub(crate) struct StudentBuffers {
 }
 
 impl StudentBuffers {
-    /// No classes yet.
+    // No classes yet.
     pub(crate) fn new(alloc: Global) -> StudentBuffers {
         StudentBuffers {
             own: Vec::new(alloc),
@@ -160,7 +162,7 @@ impl StudentBuffers {
         }
     }
 
-    /// Parts the list of a student by a course.
+    // Parts the list of a student by a course.
     fn part(&mut self, state: &State, student: u32, course: u32) -> Result<(), AllocError>
         requires { student < length state.now.problem.students }
         ensures own { OnOk result (self.new.own.items ≡ own_of state.now.problem course (list_in state.now.present student)) }
@@ -180,8 +182,8 @@ impl StudentBuffers {
     }
 }
 
-/// Whether the total is at most a level once a choice replaces a student's own classes of a course. Only
-/// the pairs of the student change.
+// Whether the total is at most a level once a choice replaces a student's own classes of a course. Only
+// the pairs of the student change.
 fn is_within(
     state: &State,
     student: u32,
@@ -189,11 +191,11 @@ fn is_within(
     buffers: &StudentBuffers,
     level: u128,
 ) -> bool
-    requires object { IsSeatedIn state.now.problem state.now.present student course }
+    requires target { IsSeatedIn state.now.problem state.now.present student course }
     requires own { buffers.now.own.items ≡ own_of state.now.problem course (list_in state.now.present student) }
     requires rest { buffers.now.rest.items ≡ rest_of state.now.problem course (list_in state.now.present student) }
     requires few { length buffers.now.choice.items ≤ 20000 }
-    ensures { result ≡ nat_le (total_of state.now.problem (with_list state.now.present student (in_order (buffers.now.rest.items ++ buffers.now.choice.items)))) level }
+    ensures { result ≡ nat_le (total_of state.now.problem (with_list state.now.present student (classes_in_order (buffers.now.rest.items ++ buffers.now.choice.items)))) level }
 {
     state.soundness();
     state.problem().validity();
@@ -205,8 +207,8 @@ fn is_within(
     adds <= level && others <= level - adds
 }
 
-/// Replaces a student's own classes of a course by the drawn choice, in the last step, where it differs
-/// from them, the student may get it, and the total is then at most a level. Whether it does.
+// Replaces a student's own classes of a course by the drawn choice, in the last step, where it differs
+// from them, the student may get it, and the total is then at most a level. Whether it does.
 fn replace(
     state: &mut State,
     student: u32,
@@ -214,7 +216,7 @@ fn replace(
     buffers: &mut StudentBuffers,
     level: u128,
 ) -> Result<bool, AllocError>
-    requires object { IsSeatedIn state.old.problem state.old.present student course }
+    requires target { IsSeatedIn state.old.problem state.old.present student course }
     requires own { buffers.old.own.items ≡ own_of state.old.problem course (list_in state.old.present student) }
     requires rest { buffers.old.rest.items ≡ rest_of state.old.problem course (list_in state.old.present student) }
     requires below { All (λ class. class < length state.old.problem.classes) buffers.old.choice.items }
@@ -245,9 +247,9 @@ fn replace(
     Ok(true)
 }
 
-/// A round on a course of a student, in the last step: a choice of its classes is drawn, and replaces
-/// the student's own where it differs from them, the student may get it, and the total is then at most
-/// the level. Whether it does.
+// A round on a course of a student, in the last step: a choice of its classes is drawn, and replaces
+// the student's own where it differs from them, the student may get it, and the total is then at most
+// the level. Whether it does.
 pub(crate) fn student_round(
     state: &mut State,
     choice: Choice,
@@ -255,7 +257,7 @@ pub(crate) fn student_round(
     level: u128,
     buffers: &mut StudentBuffers,
 ) -> Result<bool, AllocError>
-    requires object { IsSeatedIn state.old.problem state.old.present choice.student choice.course }
+    requires target { IsSeatedIn state.old.problem state.old.present choice.student choice.course }
     requires step { 0 < length (earlier state.old) }
     ensures step { IsWithinStep state.old state.new }
     ensures words { OnOk result (words_of words.new ≡ (choice_drawn state.old.problem state.old.present (Course choice.student choice.course) (words_of words.old)).1) }

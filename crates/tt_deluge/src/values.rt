@@ -1,3 +1,5 @@
+//! Whether a class has a value, and whether a value is free.
+
 ghost use Rattle.std.specs.Prelude.{◌≡◌};
 ghost use Rattle.tt_plan.specs.Domain.{IsOfDomain};
 ghost use Rattle.tt_improve.specs.Classes.{is_free};
@@ -6,7 +8,7 @@ ghost use Rattle.tt_deluge.specs.ClassRounds.{has_value};
 use tt_bits::Value;
 use tt_state::State;
 
-/// Whether a class has this value.
+// Whether a class has this value.
 pub(crate) fn has_value(state: &State, class: u32, value: Value) -> bool
     ensures { result ≡ has_value state.now.present class value }
 {
@@ -16,7 +18,7 @@ pub(crate) fn has_value(state: &State, class: u32, value: Value) -> bool
     }
 }
 
-/// Whether a value of a class is free: it isn't blocked, and pushes no class out.
+// Whether a value of a class is free: it isn't blocked, and pushes no class out.
 #[tactic(auto, using(tt_improve::proofs::ClassLemmas::none_within))]
 pub(crate) fn is_free(state: &mut State, class: u32, value: Value) -> bool
     requires { IsOfDomain state.old.problem class value }

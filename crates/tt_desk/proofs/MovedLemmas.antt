@@ -23,7 +23,7 @@ use Rattle.tt_score.specs.Forcing.{among}
 use Rattle.tt_published.specs.Timetable.{Timetable, IsTimetableOf}
 use Rattle.tt_published.specs.Published.{is_moved, moved_in}
 use Rattle.tt_published.proofs.MovedLemmas.{moved_few, moved_same}
-use Rattle.tt_state.specs.Snapshots.{Snapshot, in_order, with_list}
+use Rattle.tt_state.specs.Snapshots.{Snapshot, classes_in_order, with_list}
 use Rattle.tt_state.specs.Values.{conflicts_of, obstacle_of}
 use Rattle.tt_state.specs.History.{Held, desk_of, stepped, with_taken}
 use Rattle.tt_enrol.specs.Enrolled.{enrolled}
@@ -184,7 +184,7 @@ force_change old found new published class v count was is valid belongs within s
     rw (q, now, was_is open_one, count_is, is_now) (moved_forced old.problem published old.present class v sound belongs within each)
 
 -- a student who is enrolled moves no class
-enrolled_plan : (s now : Snapshot) (o : Option (List ℕ)) (student : ℕ) → option_map (λ list. with_list s student (in_order list)) o ≡ Some now → now.plan ≡ s.plan
+enrolled_plan : (s now : Snapshot) (o : Option (List ℕ)) (student : ℕ) → option_map (λ list. with_list s student (classes_in_order list)) o ≡ Some now → now.plan ≡ s.plan
 enrolled_plan s now None student is = absurd (cc is)
 enrolled_plan s now (Some list) student is = ap (λ o. option_map_or (λ t. t.plan) o s.plan) (sym is)
 

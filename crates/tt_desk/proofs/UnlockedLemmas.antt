@@ -6,9 +6,9 @@ use Rattle.std.specs.Option.{option_and_then}
 use Rattle.tt_base.specs.Lists.{first_least}
 use Rattle.tt_bits.specs.declared.times.Value.{Value}
 use Rattle.tt_clash.specs.declared.Block.{Block}
-use Rattle.tt_deluge.specs.ClassRounds.{among, exchanged, exchange_value}
+use Rattle.tt_deluge.specs.ClassRounds.{moved_by_conflicts, exchanged, exchange_value}
 use Rattle.tt_desk.specs.Unlocked.{IsWithoutLocks, moment_of}
-use Rattle.tt_improve.specs.Objects.{movable_classes}
+use Rattle.tt_improve.specs.Targets.{movable_classes}
 use Rattle.tt_plan.specs.Domain.{domain_of}
 use Rattle.tt_problem.specs.declared.parts.Parts.{Parts}
 use Rattle.tt_search.specs.PlaceTurns.{all_least, burden_of, least_values}
@@ -67,7 +67,7 @@ module _ (p : Parts) (s : Snapshot) (free : (class : ℕ) → is_locked_in s cla
   unfolding least_values
   placings outs class = ap (all_least (burden_of p (moment_of s outs) class)) (alike (is_available p s class) (is_open p s.closures class) (available class) (domain_of p class))
 
-  exchanges : (class : ℕ) (v : Value) (other : ℕ) → among p s class v (other ∷ []) ≡ option_and_then (exchanged p s class v other) (exchange_value p s class other)
+  exchanges : (class : ℕ) (v : Value) (other : ℕ) → moved_by_conflicts p s class v (other ∷ []) ≡ option_and_then (exchanged p s class v other) (exchange_value p s class other)
   exchanges class v other = rw (free other) refl
 
   objects : movable_classes p s ≡ filter (λ class. is_some (value_in s class)) (range_with_len 0 (length p.classes))

@@ -16,7 +16,7 @@ use Rattle.tt_plan.specs.Named.{find_value}
 use Rattle.tt_struct.specs.Enrolments.{is_enrolment}
 use Rattle.tt_score.specs.declared.totals.Totals as totals
 use Rattle.tt_score.specs.Totals.{totals_of}
-use Rattle.tt_state.specs.Snapshots.{Snapshot, opening_snapshot, value_in, with_value, list_in, with_list, in_order, is_open_in, with_closed, with_reopened, is_locked_in, with_lock, with_unplaced, lockable, all_locked, locked_classes, none_locked}
+use Rattle.tt_state.specs.Snapshots.{Snapshot, opening_snapshot, value_in, with_value, list_in, with_list, classes_in_order, is_open_in, with_closed, with_reopened, is_locked_in, with_lock, with_unplaced, lockable, all_locked, locked_classes, none_locked}
 use Rattle.tt_state.specs.Seats.{first_without_seat}
 use Rattle.tt_state.specs.Values.{conflicts_of, obstacle_of}
 use Rattle.tt_state.specs.Faults.{lock_fault_of}
@@ -156,9 +156,9 @@ abbrev pub enrolment : Desk → ℕ → Result Snapshot Refusal
 enrolment d student = ok_or (enrolled d.problem d.present student) NoEnrolment
 
 -- the desk with the newest of these earlier snapshots as its present one
-abbrev pub undone : Parts → List Snapshot → Result Desk Refusal
-undone p [] = Err NothingToUndo
-undone p (s ∷ ss) = Ok (record { problem = p; present = s; earlier = ss })
+abbrev pub stepped_back : Parts → List Snapshot → Result Desk Refusal
+stepped_back p [] = Err NothingToUndo
+stepped_back p (s ∷ ss) = Ok (record { problem = p; present = s; earlier = ss })
 
 -- how far a snapshot with these totals is from being ready
 abbrev pub not_ready : totals.Totals → Refusal
@@ -286,7 +286,7 @@ carried_out s (Section student classes) = do
   i ← known_student s.desk.problem student
   valid ← valid_list s.desk i list
   free ← none_or (λ full. NoSeat (class_id s.desk.problem full)) (first_without_seat s.desk.problem s.desk.present.lists i list)
-  Ok (with_step s (with_list s.desk.present i (in_order list)) [])
+  Ok (with_step s (with_list s.desk.present i (classes_in_order list)) [])
 carried_out s (Drop student) = do
   i ← known_student s.desk.problem student
   had ← sectioned s.desk i
@@ -326,7 +326,7 @@ carried_out s (Unlock class) = do
   Ok (with_step s (with_lock s.desk.present c false) [])
 carried_out s UnlockAll = Ok (with_none_locked s)
 carried_out s Undo = do
-  d ← undone s.desk.problem s.desk.earlier
+  d ← stepped_back s.desk.problem s.desk.earlier
   Ok (with_desk s d [])
 carried_out s Publish = do
   now ← ready s.desk

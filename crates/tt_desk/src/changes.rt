@@ -18,7 +18,7 @@ use tt_script::{Command, Ids};
 use tt_state::{Obstacle, SectionFault};
 use tt_text::Reply;
 
-/// Why no value of a class is named.
+// Why no value of a class is named.
 pub(crate) fn value_refusal(fault: NoValue) -> Refusal
     ensures { result ≡ value_refusal fault }
 {
@@ -69,7 +69,7 @@ fn written_time(
 }
 
 impl Session {
-    /// Gives a class a value, by ids and the number of a time.
+    // Gives a class a value, by ids and the number of a time.
     #[tactic(auto, using(crate::proofs::MovedLemmas::moved_once))]
     pub(crate) fn assign(
         &mut self,
@@ -96,7 +96,7 @@ impl Session {
         }
     }
 
-    /// Takes its value from a class, by its id.
+    // Takes its value from a class, by its id.
     #[tactic(auto, using(crate::proofs::MovedLemmas::moved_once))]
     pub(crate) fn unassign(&mut self, class: u32) -> Result<Outcome, AllocError>
         ensures ok { IfOk result (λ outcome. command_step self.old (Command.Unassign class) ≡ record { session = self.new; outcome = outcome; lines = [] }) }
@@ -116,7 +116,7 @@ impl Session {
         }
     }
 
-    /// Gives a student the classes of a list, by ids.
+    // Gives a student the classes of a list, by ids.
     pub(crate) fn section(&mut self, student: u32, classes: Ids) -> Result<Outcome, AllocError>
         ensures ok { IfOk result (λ outcome. command_step self.old (Command.Section student classes) ≡ record { session = self.new; outcome = outcome; lines = [] }) }
         ensures memory { OnErr result (MayTake self.old (Command.Section student classes)) }
@@ -140,7 +140,7 @@ impl Session {
         }
     }
 
-    /// Takes all classes from a student, by the student's id.
+    // Takes all classes from a student, by the student's id.
     pub(crate) fn drop_student(&mut self, student: u32) -> Result<Outcome, AllocError>
         ensures ok { IfOk result (λ outcome. command_step self.old (Command.Drop student) ≡ record { session = self.new; outcome = outcome; lines = [] }) }
         ensures memory { OnErr result (MayTake self.old (Command.Drop student)) }
@@ -157,7 +157,7 @@ impl Session {
         }
     }
 
-    /// Closes a room, by its id, at the time that two words and two numbers of slots write.
+    // Closes a room, by its id, at the time that two words and two numbers of slots write.
     pub(crate) fn close(
         &mut self,
         room: u32,
@@ -184,7 +184,7 @@ impl Session {
         }
     }
 
-    /// Lifts all closures of a room, by its id.
+    // Lifts all closures of a room, by its id.
     pub(crate) fn reopen(&mut self, room: u32) -> Result<Outcome, AllocError>
         ensures ok { IfOk result (λ outcome. command_step self.old (Command.Reopen room) ≡ record { session = self.new; outcome = outcome; lines = [] }) }
         ensures memory { OnErr result (MayTake self.old (Command.Reopen room)) }
@@ -201,7 +201,7 @@ impl Session {
         }
     }
 
-    /// Goes back by a step.
+    // Goes back by a step.
     pub(crate) fn undo(&mut self) -> Outcome
         ensures { command_step self.old Command.Undo ≡ record { session = self.new; outcome = result; lines = [] } }
     {
@@ -213,8 +213,8 @@ impl Session {
         }
     }
 
-    /// Forces a class to a value, by ids and the number of a time, with a line for each class that is
-    /// taken out.
+    // Forces a class to a value, by ids and the number of a time, with a line for each class that is
+    // taken out.
     pub(crate) fn force(
         &mut self,
         class: u32,

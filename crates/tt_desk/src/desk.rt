@@ -1,3 +1,5 @@
+//! What a line does to a session, and the reply to it.
+
 ghost use Rattle.std.specs.Prelude.{◌≡◌, ◌<◌, [], Err, IfOk, OnErr, OnOk, length};
 ghost use Rattle.tt_script.specs.Forms.{HasDepth};
 ghost use Rattle.tt_desk.specs.Desk.{command_step, line_step};

@@ -30,7 +30,7 @@ impl Session {
         ensures { ((class : ℕ) → is_locked_in self.now.desk.present class ≡ false) → IsWithoutLocks self.now.desk.problem self.now.desk.present }
     {}
 
-    /// Locks a class, by its id.
+    // Locks a class, by its id.
     pub(crate) fn lock(&mut self, class: u32) -> Result<Outcome, AllocError>
         ensures ok { IfOk result (λ outcome. command_step self.old (Command.Lock class) ≡ record { session = self.new; outcome = outcome; lines = [] }) }
         ensures memory { OnErr result (MayTake self.old (Command.Lock class)) }
@@ -48,7 +48,7 @@ impl Session {
         }
     }
 
-    /// Locks each placed class, and says how many became locked.
+    // Locks each placed class, and says how many became locked.
     pub(crate) fn lock_all(&mut self, reply: &mut Reply) -> Result<Outcome, AllocError>
         requires { reply.old ≡ [] }
         ensures ok { IfOk result (λ outcome. command_step self.old Command.LockAll ≡ record { session = self.new; outcome = outcome; lines = reply.new }) }
@@ -60,7 +60,7 @@ impl Session {
         Ok(Outcome::Accepted)
     }
 
-    /// Takes the lock off a class, by its id.
+    // Takes the lock off a class, by its id.
     pub(crate) fn unlock(&mut self, class: u32) -> Result<Outcome, AllocError>
         ensures ok { IfOk result (λ outcome. command_step self.old (Command.Unlock class) ≡ record { session = self.new; outcome = outcome; lines = [] }) }
         ensures memory { OnErr result (MayTake self.old (Command.Unlock class)) }
@@ -77,7 +77,7 @@ impl Session {
         }
     }
 
-    /// Takes the lock off each class, and says how many had one.
+    // Takes the lock off each class, and says how many had one.
     pub(crate) fn unlock_all(&mut self, reply: &mut Reply) -> Result<Outcome, AllocError>
         requires { reply.old ≡ [] }
         ensures ok { IfOk result (λ outcome. command_step self.old Command.UnlockAll ≡ record { session = self.new; outcome = outcome; lines = reply.new }) }

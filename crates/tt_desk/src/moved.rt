@@ -17,8 +17,8 @@ use tt_bits::Value;
 use tt_published::{Published, is_moved, moved};
 use tt_state::State;
 
-/// How many published classes are moved, and how many were before each of the newest steps, as far
-/// as this is known. Without a published timetable the number is 0.
+// How many published classes are moved, and how many were before each of the newest steps, as far
+// as this is known. Without a published timetable the number is 0.
 #[derive(Drop)]
 pub(crate) struct MovedCounts {
     count: u32,
@@ -34,7 +34,7 @@ impl Model for MovedCounts {
     ghost view = { λ m. record { count = m.count; before = reverse m.before.items } };
 }
 
-/// How many published classes are moved, by going over all.
+// How many published classes are moved, by going over all.
 fn count_all(state: &State, published: &Option<Published>) -> u32
     requires { IfSome published.now (IsTimetableOf state.now.problem) }
     ensures { result ≡ moved_in state.now.problem published.now state.now.present.plan }
@@ -48,7 +48,7 @@ fn count_all(state: &State, published: &Option<Published>) -> u32
     }
 }
 
-/// How many of some classes are moved by a published timetable.
+// How many of some classes are moved by a published timetable.
 fn count_of(state: &State, published: &Published, classes: &[u32]) -> u32
     requires belongs { IsTimetableOf state.now.problem published.now }
     requires within { All (λ class. class < length state.now.problem.classes) classes.now }
@@ -66,7 +66,7 @@ fn count_of(state: &State, published: &Published, classes: &[u32]) -> u32
     count
 }
 
-/// How many of some classes are moved, while there is a published timetable; else 0.
+// How many of some classes are moved, while there is a published timetable; else 0.
 pub(crate) fn count_among(state: &State, published: &Option<Published>, classes: &[u32]) -> u32
     requires belongs { IfSome published.now (IsTimetableOf state.now.problem) }
     requires within { All (λ class. class < length state.now.problem.classes) classes.now }
@@ -80,7 +80,7 @@ pub(crate) fn count_among(state: &State, published: &Option<Published>, classes:
     }
 }
 
-/// How many of a class and the conflict set found last are moved.
+// How many of a class and the conflict set found last are moved.
 #[tactic(auto, using(crate::proofs::MovedLemmas::among_cons))]
 pub(crate) fn count_with_taken(state: &State, published: &Option<Published>, class: u32) -> u32
     requires belongs { IfSome published.now (IsTimetableOf state.now.problem) }
@@ -93,8 +93,8 @@ pub(crate) fn count_with_taken(state: &State, published: &Option<Published>, cla
     count_among(state, published, &[class]) + count_among(state, published, state.taken())
 }
 
-/// How many of a class and of its conflict set at a value are moved, where nothing stands in the way.
-/// The conflict set found last may differ then.
+// How many of a class and of its conflict set at a value are moved, where nothing stands in the way.
+// The conflict set found last may differ then.
 #[tactic(auto, using(tt_state::proofs::ObstacleLemmas::not_blocked))]
 pub(crate) fn count_with_conflicts(
     state: &mut State,
@@ -115,7 +115,7 @@ pub(crate) fn count_with_conflicts(
 }
 
 impl MovedCounts {
-    /// Those of the present snapshot alone.
+    // Those of the present snapshot alone.
     pub(crate) fn new(alloc: Global, state: &State, published: &Option<Published>) -> MovedCounts
         requires { IfSome published.now (IsTimetableOf state.now.problem) }
         ensures { AreMovedIn state.now.problem published.now (state.now.present ∷ earlier state.now) (result.count ∷ result.before) }
@@ -126,14 +126,14 @@ impl MovedCounts {
         }
     }
 
-    /// How many are moved now.
+    // How many are moved now.
     pub(crate) fn count(&self) -> u32
         ensures { result ≡ self.now.count }
     {
         self.count
     }
 
-    /// Counts anew, once another timetable is published.
+    // Counts anew, once another timetable is published.
     pub(crate) fn restart(&mut self, state: &State, published: &Option<Published>)
         requires { IfSome published.now (IsTimetableOf state.now.problem) }
         ensures { AreMovedIn state.now.problem published.now (state.now.present ∷ earlier state.now) (self.new.count ∷ self.new.before) }
@@ -142,8 +142,8 @@ impl MovedCounts {
         self.count = count_all(state, published);
     }
 
-    /// Keeps the number before a step, while there is a published timetable. Where memory is wanting,
-    /// nothing is known any more of what was before.
+    // Keeps the number before a step, while there is a published timetable. Where memory is wanting,
+    // nothing is known any more of what was before.
     fn keep(&mut self, published: &Option<Published>)
         ensures now { self.new.count ≡ self.old.count }
         ensures before { (p : Parts) (t : Option Timetable) (snapshots : List Snapshot) → AreMovedIn p t snapshots (self.old.count ∷ self.old.before) → AreMovedIn p t snapshots self.new.before }
@@ -153,7 +153,7 @@ impl MovedCounts {
         }
     }
 
-    /// Follows a step that leaves each class where it is.
+    // Follows a step that leaves each class where it is.
     pub(crate) fn step(&mut self, state: &State, published: &Option<Published>)
         requires before { AreMovedIn state.now.problem published.now (earlier state.now) (self.old.count ∷ self.old.before) }
         requires same { self.old.count ≡ moved_in state.now.problem published.now state.now.present.plan }
@@ -162,8 +162,8 @@ impl MovedCounts {
         self.keep(published);
     }
 
-    /// Follows a step by which some classes may be moved or no longer be, of which `was` were moved before and
-    /// `is` are now.
+    // Follows a step by which some classes may be moved or no longer be, of which `was` were moved before and
+    // `is` are now.
     #[tactic(auto, using(crate::proofs::MovedLemmas::moved_most))]
     pub(crate) fn step_over(
         &mut self,
@@ -186,7 +186,7 @@ impl MovedCounts {
         };
     }
 
-    /// Follows a step that may move any class.
+    // Follows a step that may move any class.
     pub(crate) fn step_anew(&mut self, state: &State, published: &Option<Published>)
         requires belongs { IfSome published.now (IsTimetableOf state.now.problem) }
         requires before { AreMovedIn state.now.problem published.now (earlier state.now) (self.old.count ∷ self.old.before) }
@@ -196,7 +196,7 @@ impl MovedCounts {
         self.count = count_all(state, published);
     }
 
-    /// Goes back by a step.
+    // Goes back by a step.
     pub(crate) fn back(&mut self, state: &State, published: &Option<Published>)
         requires belongs { IfSome published.now (IsTimetableOf state.now.problem) }
         requires before { AreMovedIn state.now.problem published.now (state.now.present ∷ earlier state.now) self.old.before }

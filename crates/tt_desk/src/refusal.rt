@@ -1,3 +1,5 @@
+//! Why a line is refused, and what becomes of a line.
+
 use tt_clash::Block;
 
 /// Why a line is refused.

@@ -1,3 +1,5 @@
+//! The reply to a line: own lines, and the line of totals or refusal.
+
 ghost use Rattle.std.specs.Prelude.{◌≡◌, ◌<◌, ◌≤◌, ◌+◌, ◌++◌, [], OnOk, OnErr, codes, decimal, length};
 ghost use Rattle.std.specs.List.{flat_map};
 ghost use Rattle.std.specs.Option.{option_copied, option_map_or};
@@ -131,7 +133,7 @@ fn add_refusal(reply: &mut Reply, refusal: Refusal) -> Result<(), AllocError>
     }
 }
 
-/// The line of a refusal, in an empty reply. It takes no memory.
+// The line of a refusal, in an empty reply. It takes no memory.
 pub(crate) fn put_refusal(reply: &mut Reply, refusal: Refusal)
     requires { reply.old ≡ [] }
     ensures { reply.new ≡ refusal_line refusal }
@@ -150,7 +152,7 @@ fn add_taken_line(reply: &mut Reply, problem: &Problem, class: u32) -> Result<()
     reply.text("\n")
 }
 
-/// Appends a line for each class that was taken out.
+// Appends a line for each class that was taken out.
 pub(crate) fn add_taken(
     reply: &mut Reply,
     problem: &Problem,
@@ -227,7 +229,7 @@ fn add_best(
     }
 }
 
-/// How many students were enrolled and how many are left, in an empty reply.
+// How many students were enrolled and how many are left, in an empty reply.
 pub(crate) fn put_enrolled(reply: &mut Reply, counts: Enrolled)
     requires { reply.old ≡ [] }
     ensures { reply.new ≡ field (codes "enrolled ") counts.enrolled ++ field (codes " left ") counts.left ++ codes "\n" }
@@ -239,7 +241,7 @@ pub(crate) fn put_enrolled(reply: &mut Reply, counts: Enrolled)
     reply.text("\n").unwrap();
 }
 
-/// How many classes became locked, in an empty reply.
+// How many classes became locked, in an empty reply.
 pub(crate) fn put_locked(reply: &mut Reply, count: u32)
     requires { reply.old ≡ [] }
     ensures { reply.new ≡ field (codes "locked ") count ++ codes "\n" }
@@ -248,7 +250,7 @@ pub(crate) fn put_locked(reply: &mut Reply, count: u32)
     reply.text("\n").unwrap();
 }
 
-/// From how many classes the lock was taken, in an empty reply.
+// From how many classes the lock was taken, in an empty reply.
 pub(crate) fn put_unlocked(reply: &mut Reply, count: u32)
     requires { reply.old ≡ [] }
     ensures { reply.new ≡ field (codes "unlocked ") count ++ codes "\n" }
@@ -257,7 +259,7 @@ pub(crate) fn put_unlocked(reply: &mut Reply, count: u32)
     reply.text("\n").unwrap();
 }
 
-/// How many turns were made, in an empty reply.
+// How many turns were made, in an empty reply.
 pub(crate) fn put_turns(reply: &mut Reply, made: u32)
     requires { reply.old ≡ [] }
     ensures { reply.new ≡ field (codes "turns ") made ++ codes "\n" }
@@ -266,7 +268,7 @@ pub(crate) fn put_turns(reply: &mut Reply, made: u32)
     reply.text("\n").unwrap();
 }
 
-/// How many rounds were made and how many changed something, in an empty reply.
+// How many rounds were made and how many changed something, in an empty reply.
 pub(crate) fn put_rounds(reply: &mut Reply, rounds: u32, changed: u32)
     requires { reply.old ≡ [] }
     ensures { reply.new ≡ field (codes "rounds ") rounds ++ field (codes " changed ") changed ++ codes "\n" }
@@ -276,7 +278,7 @@ pub(crate) fn put_rounds(reply: &mut Reply, rounds: u32, changed: u32)
     reply.text("\n").unwrap();
 }
 
-/// Appends how many values were tried, and the best suggestion.
+// Appends how many values were tried, and the best suggestion.
 #[tactic(auto, using(std::proofs::Common::append_assoc), unfolding(crate::specs::Desk::suggested_lines))]
 pub(crate) fn add_suggested(
     reply: &mut Reply,

@@ -13,7 +13,7 @@ use tt_solution::write_published;
 use tt_text::Reply;
 
 impl Session {
-    /// Tells what each value of a class would cost, by its id.
+    // Tells what each value of a class would cost, by its id.
     pub(crate) fn values(&mut self, class: u32, reply: &mut Reply) -> Result<Outcome, AllocError>
         requires { reply.old ≡ [] }
         ensures ok { IfOk result (λ outcome. command_step self.old (Command.Values class) ≡ record { session = self.new; outcome = outcome; lines = reply.new }) }
@@ -27,7 +27,7 @@ impl Session {
         Ok(Outcome::Accepted)
     }
 
-    /// Tells with which other classes a class conflicts, and for how many students, by its id.
+    // Tells with which other classes a class conflicts, and for how many students, by its id.
     pub(crate) fn meets(
         &self,
         alloc: Global,
@@ -45,7 +45,7 @@ impl Session {
         Ok(Outcome::Accepted)
     }
 
-    /// Tells which classes a student has and which of them conflict, by the student's id.
+    // Tells which classes a student has and which of them conflict, by the student's id.
     pub(crate) fn student(&self, student: u32, reply: &mut Reply) -> Result<Outcome, AllocError>
         requires { reply.old ≡ [] }
         ensures ok { IfOk result (λ outcome. command_step self.now (Command.Student student) ≡ record { session = self.now; outcome = outcome; lines = reply.new }) }
@@ -58,7 +58,7 @@ impl Session {
         Ok(Outcome::Accepted)
     }
 
-    /// Tells all that is wrong with the present timetable.
+    // Tells all that is wrong with the present timetable.
     pub(crate) fn violations(&self, alloc: Global, reply: &mut Reply) -> Result<Outcome, AllocError>
         requires { reply.old ≡ [] }
         ensures ok { IfOk result (λ outcome. command_step self.now Command.Violations ≡ record { session = self.now; outcome = outcome; lines = reply.new }) }
@@ -68,7 +68,7 @@ impl Session {
         Ok(Outcome::Accepted)
     }
 
-    /// Tells what the total is made of.
+    // Tells what the total is made of.
     pub(crate) fn costs(&self, reply: &mut Reply) -> Result<Outcome, AllocError>
         requires { reply.old ≡ [] }
         ensures ok { IfOk result (λ outcome. command_step self.now Command.Costs ≡ record { session = self.now; outcome = outcome; lines = reply.new }) }
@@ -78,7 +78,7 @@ impl Session {
         Ok(Outcome::Accepted)
     }
 
-    /// Tells what there is of the timetable, in the form in which it would be published.
+    // Tells what there is of the timetable, in the form in which it would be published.
     pub(crate) fn draft(&self, alloc: Global, reply: &mut Reply) -> Result<Outcome, AllocError>
         requires { reply.old ≡ [] }
         ensures ok { IfOk result (λ outcome. command_step self.now Command.Draft ≡ record { session = self.now; outcome = outcome; lines = reply.new }) }

@@ -1,3 +1,5 @@
+//! For what of a command memory is wanting.
+
 ghost use Rattle.std.specs.Prelude.{◌≡◌};
 ghost use Rattle.tt_desk.specs.declared.wanting.Wanting.TheVariants.{Command as of_command};
 

@@ -8,7 +8,7 @@ use Rattle.tt_problem.specs.declared.parts.StudentPart.{StudentPart}
 use Rattle.tt_problem.specs.declared.parts.Parts.{Parts}
 use Rattle.tt_problem.specs.Valid.{IsValid}
 use Rattle.tt_state.specs.Faults.{section_fault_of}
-use Rattle.tt_state.specs.Snapshots.{Snapshot, with_list, in_order}
+use Rattle.tt_state.specs.Snapshots.{Snapshot, with_list, classes_in_order}
 use Rattle.tt_enrol.specs.Students.{classes_found}
 use Rattle.tt_enrol.specs.Enrolled.{enrolled}
 use Rattle.tt_choice.specs.Seating.{MayGet}
@@ -24,11 +24,11 @@ found_fits p s student list valid lt e =
 
 pub enrolled_none : (p : Parts) (s : Snapshot) (student : ℕ) → classes_found p s student ≡ None → enrolled p s student ≡ None
 unfolding enrolled
-enrolled_none p s student e = ap (option_map (λ list. with_list s student (in_order list))) e
+enrolled_none p s student e = ap (option_map (λ list. with_list s student (classes_in_order list))) e
 
-pub enrolled_some : (p : Parts) (s : Snapshot) (student : ℕ) (list : List ℕ) → classes_found p s student ≡ Some list → enrolled p s student ≡ Some (with_list s student (in_order list))
+pub enrolled_some : (p : Parts) (s : Snapshot) (student : ℕ) (list : List ℕ) → classes_found p s student ≡ Some list → enrolled p s student ≡ Some (with_list s student (classes_in_order list))
 unfolding enrolled
-enrolled_some p s student list e = ap (option_map (λ list. with_list s student (in_order list))) e
+enrolled_some p s student list e = ap (option_map (λ list. with_list s student (classes_in_order list))) e
 
 -- what holds anyhow holds on an error
 pub on_err : {T E P : Type 0} (r : Result T E) → P → OnErr r P

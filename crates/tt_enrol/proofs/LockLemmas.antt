@@ -4,7 +4,7 @@ use Rattle.std.specs.Prelude.{fold, if◌then◌else◌, slice_index_or}
 use Rattle.std.specs.List.{range_with_len}
 use Rattle.std.specs.Option.{option_map}
 use Rattle.tt_problem.specs.declared.parts.Parts.{Parts}
-use Rattle.tt_state.specs.Snapshots.{Snapshot, StaysLocked, in_order, with_list}
+use Rattle.tt_state.specs.Snapshots.{Snapshot, StaysLocked, classes_in_order, with_list}
 use Rattle.tt_state.specs.Sound.{lacks_classes}
 use Rattle.tt_enrol.specs.Students.{classes_found}
 use Rattle.tt_enrol.specs.Enrolled.{AllEnrolled, all_enrolled, enrolled, one_student_more, with_student}
@@ -21,9 +21,9 @@ enrolled_has : (p : Parts) (first s t : Snapshot) (student : ℕ) → HasPlacesO
 unfolding enrolled
 enrolled_has p first s t student has is = by (classes_found p s student) is
   where
-    by : (o : Option (List ℕ)) → option_map (λ list. with_list s student (in_order list)) o ≡ Some t → HasPlacesOf first t
+    by : (o : Option (List ℕ)) → option_map (λ list. with_list s student (classes_in_order list)) o ≡ Some t → HasPlacesOf first t
     by None is = absurd (cc)
-    by (Some list) is = let same : with_list s student (in_order list) ≡ t = cc in subst (HasPlacesOf first) same (record { plan = has.plan; locks = has.locks })
+    by (Some list) is = let same : with_list s student (classes_in_order list) ≡ t = cc in subst (HasPlacesOf first) same (record { plan = has.plan; locks = has.locks })
 
 next_has : (p : Parts) (first : Snapshot) (all : AllEnrolled) (student : ℕ) → HasPlacesOf first all.snapshot → HasPlacesOf first (with_student p all student).snapshot
 next_has p first all student has = by (lacks_classes p all.snapshot student)

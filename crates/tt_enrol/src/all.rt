@@ -1,3 +1,5 @@
+//! The enrolment of all students who have a course and no class.
+
 ghost use Rattle.std.specs.Prelude.{◌≡◌, ◌+◌, ◌<◌, ◌≤◌, [], ℕ, None, Some, IfOk, IsSome, OnOk, OnErr, cond, false, true, length};
 ghost use Rattle.tt_state.specs.History.{IsWithinStep, desk_of, earlier, stepped};
 ghost use Rattle.tt_state.specs.Snapshots.{StaysLocked};
@@ -19,8 +21,8 @@ pub struct Enrolled {
     pub left: u32,
 }
 
-/// Enrols a student, in the last step, where there is an enrolment; whether there
-/// is one. Want of memory comes only where there is one.
+// Enrols a student, in the last step, where there is an enrolment; whether there
+// is one. Want of memory comes only where there is one.
 fn enrol_one(state: &mut State, buffers: &mut Buffers, student: u32) -> Result<bool, AllocError>
     requires student { student < length state.old.problem.students }
     requires step { 0 < length (earlier state.old) }
@@ -43,9 +45,9 @@ fn enrol_one(state: &mut State, buffers: &mut Buffers, student: u32) -> Result<b
     }
 }
 
-/// Enrols the student at a place, in the last step, where the student has a course and no class and
-/// there is an enrolment. `so_far` has how many of the students before got one. Want of memory comes
-/// only where one is enrolled.
+// Enrols the student at a place, in the last step, where the student has a course and no class and
+// there is an enrolment. `so_far` has how many of the students before got one. Want of memory comes
+// only where one is enrolled.
 fn enrol_next(
     state: &mut State,
     buffers: &mut Buffers,
@@ -81,8 +83,8 @@ fn enrol_next(
     }
 }
 
-/// Enrols each student who has a course and no class, in the last step, where there is an enrolment.
-/// The watcher is told of each student. Want of memory comes only where some student gets one.
+// Enrols each student who has a course and no class, in the last step, where there is an enrolment.
+// The watcher is told of each student. Want of memory comes only where some student gets one.
 fn enrol_each<W: Watcher>(
     state: &mut State,
     buffers: &mut Buffers,

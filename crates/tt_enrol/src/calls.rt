@@ -1,3 +1,5 @@
+//! The enrolment of one student.
+
 ghost use Rattle.std.specs.Prelude.{◌≡◌, ◌<◌, ◌∷◌, [], ℕ, None, Some, Ok, IfOk, IfSome, MatchOption, OnErr, false, true, length};
 ghost use Rattle.tt_state.specs.History.{desk_of, stepped, trail};
 ghost use Rattle.tt_state.specs.Snapshots.{StaysLocked};
@@ -9,8 +11,8 @@ use crate::enrolling::{Buffers, find};
 use std::alloc::{AllocError, Global};
 use tt_state::State;
 
-/// The classes found for a student, in the order of the student's courses; `None` where some course
-/// has no allowed choice.
+// The classes found for a student, in the order of the student's courses; `None` where some course
+// has no allowed choice.
 fn classes_found(alloc: Global, state: &State, student: u32) -> Result<Option<Vec<u32>>, AllocError>
     requires { student < length state.now.problem.students }
     ensures found { IfOk result (λ list. MatchOption list (classes_found state.now.problem state.now.present student ≡ None) (λ list. classes_found state.now.problem state.now.present student ≡ Some list.items)) }

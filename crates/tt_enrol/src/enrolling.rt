@@ -1,3 +1,5 @@
+//! Room for the walks over choices, and the classes found for a student.
+
 ghost use Rattle.std.specs.Prelude.{◌≡◌, ◌<◌, ◌≤◌, IfOk, IfSome, length};
 ghost use Rattle.tt_choice.specs.Found.{chosen_by};
 ghost use Rattle.tt_enrol.specs.Ready.{HasRoom};

@@ -1,3 +1,5 @@
+//! The least choices of a student's courses, course after course.
+
 ghost use Rattle.std.specs.Prelude.{◌≡◌, ◌+◌, ◌*◌, ◌<◌, ◌≤◌, ◌++◌, [], length, map, take, IfSome};
 ghost use Rattle.tt_choice.specs.Choices.{choices_at};
 ghost use Rattle.tt_choice.specs.Ready.{HasRoom};
@@ -8,7 +10,7 @@ ghost use Rattle.tt_choice.specs.Found.{chosen_by};
 use tt_choice::{ChoiceBuffers, least_of_course};
 use tt_state::State;
 
-/// Writes the front of one buffer after that of another.
+// Writes the front of one buffer after that of another.
 fn append(taken: &mut [u32], count: usize, best: &[u32], size: usize)
     requires room { count + size ≤ length taken.old }
     requires within { size ≤ length best.now }

@@ -26,7 +26,7 @@ use Rattle.tt_state.specs.Snapshots.{Snapshot, list_in, value_in}
 use Rattle.tt_verify.specs.Costs.{cost_at}
 use Rattle.tt_verify.proofs.PairLemmas.{costs_by_place, length-related_pairs}
 use Rattle.tt_explain.specs.declared.costing.ClassCosts.{ClassCosts}
-use Rattle.tt_explain.specs.Explain.{amount_line, line_at, pairs_with, rule_line}
+use Rattle.tt_explain.specs.Explain.{amount_line, line_at, pair_count, rule_line}
 use Rattle.tt_explain.specs.Student.{all_pairs, conflict_between, student_pairs}
 use Rattle.tt_explain.specs.Meets.{all_met, is_met, met_classes, met_students}
 use Rattle.tt_explain.specs.Costs.{AddUp, all_costs, class_costs, costly_classes, costly_rules, costly_sum, is_costly_class, is_costly_place, is_costly_rule, no_costs, placed_costs}
@@ -119,7 +119,7 @@ module _ (p : Parts) (s : Snapshot) where
 
   -- the conflicting pairs with a class; none where it isn't placed
   pairs_paid : (class : ℕ) → (class_costs p s class).conflicts ≡ option_map_or (class_conflicts p.travel (spots_of p s.plan) s.lists class) (spot_at (spots_of p s.plan) class) 0
-  unfolding class_costs pairs_with
+  unfolding class_costs pair_count
   pairs_paid class = by (value_in s class) refl
     where
       by : (o : Option Value) → value_in s class ≡ o
@@ -153,8 +153,8 @@ add_up p s valid fit whole ordered = record {
 }
 
 -- the students whom `meets` counts are the conflicting pairs with the class
-pub met_add_up : (p : Parts) (s : Snapshot) (class : ℕ) → All (Ascends 0 (length p.classes)) s.lists → all_met p s class ≡ pairs_with p s class
-unfolding all_met met_classes is_met met_students conflict_between pairs_with
+pub met_add_up : (p : Parts) (s : Snapshot) (class : ℕ) → All (Ascends 0 (length p.classes)) s.lists → all_met p s class ≡ pair_count p s class
+unfolding all_met met_classes is_met met_students conflict_between pair_count
 met_add_up p s class ordered =
     sum-filter (met_students p s class) (is_met p s class) (range_with_len 0 (length p.classes)) (λ other none. none_above (met_students p s class other) none)
     ∙ conflicts-by_other p.travel (spots_of p s.plan) (length p.classes) s.lists ordered class

@@ -14,7 +14,7 @@ use Rattle.tt_state.specs.Snapshots.{Snapshot, value_in}
 use Rattle.tt_text.specs.Fields.{field}
 use Rattle.tt_verify.specs.Costs.{cost_at}
 use Rattle.tt_explain.specs.declared.costing.ClassCosts.{ClassCosts}
-use Rattle.tt_explain.specs.Explain.{line_at, pairs_with}
+use Rattle.tt_explain.specs.Explain.{line_at, pair_count}
 
 -- ---- the rules
 
@@ -38,7 +38,7 @@ no_costs = record { time = 0; room = 0; conflicts = 0 }
 
 -- what a class costs that has this value: the penalties of its time and room, and in how many conflicting pairs it is
 abbrev pub placed_costs : Parts → Snapshot → (class : ℕ) → Value → ClassCosts
-placed_costs p s class v = record { time = time_penalty p class v; room = room_penalty p class v; conflicts = pairs_with p s class }
+placed_costs p s class v = record { time = time_penalty p class v; room = room_penalty p class v; conflicts = pair_count p s class }
 
 -- what a class costs
 unfoldable pub class_costs : Parts → Snapshot → (class : ℕ) → ClassCosts

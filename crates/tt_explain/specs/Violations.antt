@@ -9,7 +9,7 @@ use Rattle.tt_state.specs.Sound.{lacks_classes}
 use Rattle.tt_struct.specs.Enrolments.{is_enrolment}
 use Rattle.tt_verify.specs.declared.violation.Violation.{Violation}
 use Rattle.tt_verify.specs.declared.violation.Violation.TheVariants as what
-use Rattle.tt_verify.specs.Lines.{number_line, lines_of}
+use Rattle.tt_verify.specs.Lines.{number_line, violation_lines}
 use Rattle.tt_verify.specs.Violations.{hard_violations}
 
 -- a class that has no value
@@ -42,4 +42,4 @@ fault_count t = t.unplaced + t.unsectioned + t.hard
 
 -- a line for each of them, and the line on how many they are
 unfoldable pub violations_lines : Parts → Snapshot → List ℕ
-violations_lines p s = lines_of p (present_violations p s) ++ number_line (length (present_violations p s))
+violations_lines p s = violation_lines p (present_violations p s) ++ number_line (length (present_violations p s))

@@ -1,3 +1,5 @@
+//! The lines of `student`: the classes of a student, and the pairs that conflict.
+
 ghost use Rattle.std.specs.Prelude.{◌≡◌, ◌++◌, ◌<◌, [], OnOk, drop, if◌then◌else◌, length};
 ghost use Rattle.tt_score.specs.Totals.{totals_of};
 ghost use Rattle.tt_state.specs.Snapshots.{list_in};
@@ -11,7 +13,7 @@ use tt_roster::Attendance;
 use tt_state::State;
 use tt_text::Reply;
 
-/// Appends the line on a class of a student.
+// Appends the line on a class of a student.
 #[tactic(auto, using(std::proofs::Common::append_assoc), unfolding(crate::specs::Student::class_line))]
 fn add_class_line(out: &mut Reply, problem: &Problem, class: u32) -> Result<(), AllocError>
     ensures { OnOk result (out.new ≡ out.old ++ class_line problem.now class) }
@@ -20,7 +22,7 @@ fn add_class_line(out: &mut Reply, problem: &Problem, class: u32) -> Result<(), 
     out.text("\n")
 }
 
-/// Appends a line for each class of a student.
+// Appends a line for each class of a student.
 fn add_class_lines(out: &mut Reply, state: &State, student: u32) -> Result<(), AllocError>
     requires { student < length state.now.problem.students }
     ensures { OnOk result (out.new ≡ out.old ++ class_lines state.now.problem (list_in state.now.present student)) }
@@ -31,7 +33,7 @@ fn add_class_lines(out: &mut Reply, state: &State, student: u32) -> Result<(), A
     Ok(())
 }
 
-/// Appends the line on two classes that nobody can attend both.
+// Appends the line on two classes that nobody can attend both.
 #[tactic(auto, using(std::proofs::Common::append_assoc), unfolding(crate::specs::Student::pair_line))]
 fn add_pair_line(
     out: &mut Reply,
@@ -46,7 +48,7 @@ fn add_pair_line(
     out.text("\n")
 }
 
-/// Appends the line on two classes, where nobody can attend both.
+// Appends the line on two classes, where nobody can attend both.
 fn add_pair(out: &mut Reply, state: &State, class: u32, other: u32) -> Result<(), AllocError>
     ensures { OnOk result (out.new ≡ out.old ++ (if conflict_between state.now.problem state.now.present class other then pair_line state.now.problem (class, other) else [])) }
 {
@@ -57,7 +59,7 @@ fn add_pair(out: &mut Reply, state: &State, class: u32, other: u32) -> Result<()
     }
 }
 
-/// Appends a line for each of some classes that nobody can attend beside a class.
+// Appends a line for each of some classes that nobody can attend beside a class.
 fn add_pairs_with(
     out: &mut Reply,
     state: &State,
@@ -72,7 +74,7 @@ fn add_pairs_with(
     Ok(())
 }
 
-/// The classes of a student behind so many.
+// The classes of a student behind so many.
 fn classes_behind(state: &State, student: u32, count: u32) -> Attendance<'_>
     requires { student < length state.now.problem.students }
     ensures { result ≡ drop count (list_in state.now.present student) }
@@ -84,7 +86,7 @@ fn classes_behind(state: &State, student: u32, count: u32) -> Attendance<'_>
     classes
 }
 
-/// Appends a line for each pair of a student's classes that nobody can attend both.
+// Appends a line for each pair of a student's classes that nobody can attend both.
 fn add_pair_lines(out: &mut Reply, state: &State, student: u32) -> Result<(), AllocError>
     requires { student < length state.now.problem.students }
     ensures { OnOk result (out.new ≡ out.old ++ pair_lines state.now.problem (student_pairs state.now.problem state.now.present student)) }
@@ -99,7 +101,7 @@ fn add_pair_lines(out: &mut Reply, state: &State, student: u32) -> Result<(), Al
     Ok(())
 }
 
-/// The pairs of a student are those that are counted, and those of all students add up.
+// The pairs of a student are those that are counted, and those of all students add up.
 fn pairs_add_up(state: &State, student: u32)
     ensures { AreCounted state.now.problem state.now.present student (totals_of state.now.problem state.now.present.closures state.now.present.plan state.now.present.lists) }
 {

@@ -1,3 +1,5 @@
+//! The lines of `costs`: the soft rules and the classes from which the total comes.
+
 ghost use Rattle.std.specs.Prelude.{◌≡◌, ◌++◌, ◌<◌, [], OnOk, if◌then◌else◌, length, nat_lt};
 ghost use Rattle.tt_plan.specs.Domain.{spots_of};
 ghost use Rattle.tt_score.specs.Totals.{totals_of};
@@ -23,7 +25,7 @@ pub struct ClassCosts {
 }
 
 impl ClassCosts {
-    /// Whether one of them is above 0.
+    // Whether one of them is above 0.
     fn costs_something(&self) -> bool
         ensures { result ≡ nat_lt 0 (all_costs self.now) }
     {
@@ -31,7 +33,7 @@ impl ClassCosts {
     }
 }
 
-/// Appends the line on the rule at a place, where it is soft and its amount is above 0.
+// Appends the line on the rule at a place, where it is soft and its amount is above 0.
 #[tactic(auto, unfolding(crate::specs::Explain::line_at, crate::specs::Explain::rule_line, crate::specs::Costs::is_costly_rule))]
 fn add_costly_rule(out: &mut Reply, state: &State, place: u32) -> Result<(), AllocError>
     requires { place < length state.now.problem.rules }
@@ -43,7 +45,7 @@ fn add_costly_rule(out: &mut Reply, state: &State, place: u32) -> Result<(), All
     add_rule_line(out, state, place)
 }
 
-/// Appends a line for each soft rule with an amount above 0.
+// Appends a line for each soft rule with an amount above 0.
 #[tactic(auto, unfolding(crate::specs::Costs::costly_rule_lines))]
 fn add_costly_rules(out: &mut Reply, state: &State) -> Result<(), AllocError>
     ensures { OnOk result (out.new ≡ out.old ++ costly_rule_lines state.now.problem (spots_of state.now.problem state.now.present.plan)) }
@@ -54,7 +56,7 @@ fn add_costly_rules(out: &mut Reply, state: &State) -> Result<(), AllocError>
     Ok(())
 }
 
-/// What a class costs.
+// What a class costs.
 #[tactic(auto, unfolding(crate::specs::Costs::class_costs))]
 fn class_costs(state: &State, class: u32) -> ClassCosts
     ensures { result ≡ class_costs state.now.problem state.now.present class }
@@ -73,7 +75,7 @@ fn class_costs(state: &State, class: u32) -> ClassCosts
     }
 }
 
-/// Appends the line on what a class costs.
+// Appends the line on what a class costs.
 #[tactic(auto, using(std::proofs::Common::append_assoc), unfolding(crate::specs::Costs::class_cost_line))]
 fn add_class_cost_line(
     out: &mut Reply,
@@ -90,7 +92,7 @@ fn add_class_cost_line(
     out.text("\n")
 }
 
-/// Appends the line on what a class costs, where that is something.
+// Appends the line on what a class costs, where that is something.
 fn add_costly_class(out: &mut Reply, state: &State, class: u32) -> Result<(), AllocError>
     ensures { OnOk result (out.new ≡ out.old ++ (if is_costly_class state.now.problem state.now.present class then class_cost_line state.now.problem class (class_costs state.now.problem state.now.present class) else [])) }
 {
@@ -102,7 +104,7 @@ fn add_costly_class(out: &mut Reply, state: &State, class: u32) -> Result<(), Al
     }
 }
 
-/// Appends a line for each class that costs something.
+// Appends a line for each class that costs something.
 #[tactic(auto, unfolding(crate::specs::Costs::costly_class_lines))]
 fn add_costly_classes(out: &mut Reply, state: &State) -> Result<(), AllocError>
     ensures { OnOk result (out.new ≡ out.old ++ costly_class_lines state.now.problem state.now.present) }
@@ -113,7 +115,7 @@ fn add_costly_classes(out: &mut Reply, state: &State) -> Result<(), AllocError>
     Ok(())
 }
 
-/// What costs something adds up to the totals.
+// What costs something adds up to the totals.
 fn costs_add_up(state: &State)
     ensures { AddUp state.now.problem state.now.present (totals_of state.now.problem state.now.present.closures state.now.present.plan state.now.present.lists) }
 {

@@ -1,6 +1,8 @@
+//! The lines of `meets`: the classes that the students of a class can't attend beside it.
+
 ghost use Rattle.std.specs.Prelude.{◌≡◌, ℕ, ◌++◌, ◌<◌, [], IfOk, OnOk, if◌then◌else◌, length, slice_index};
 ghost use Rattle.tt_roster.specs.Joint.{joint_students};
-ghost use Rattle.tt_explain.specs.Explain.{pairs_with};
+ghost use Rattle.tt_explain.specs.Explain.{pair_count};
 ghost use Rattle.tt_explain.specs.Meets.{met_students, is_met, all_met, meeting_line, met_line, meets_lines};
 
 use crate::now::conflict_between;
@@ -9,7 +11,7 @@ use tt_problem::Problem;
 use tt_state::State;
 use tt_text::Reply;
 
-/// How many students a class has in common with each other class.
+// How many students a class has in common with each other class.
 fn joint_row(alloc: Global, state: &State, class: u32) -> Result<Vec<u32>, AllocError>
     ensures whole { IfOk result (λ row. length row.items ≡ length state.now.problem.classes) }
     ensures row { IfOk result (λ row. (other : ℕ) → slice_index row.items other ≡ joint_students state.now.present.lists class other) }
@@ -24,8 +26,8 @@ fn joint_row(alloc: Global, state: &State, class: u32) -> Result<Vec<u32>, Alloc
     Ok(row)
 }
 
-/// How many students have a class and another one that nobody can attend beside it, where so many
-/// have both.
+// How many students have a class and another one that nobody can attend beside it, where so many
+// have both.
 #[tactic(auto, unfolding(crate::specs::Meets::met_students))]
 fn met_students(state: &State, class: u32, other: u32, common: u32) -> u32
     requires { common ≡ joint_students state.now.present.lists class other }
@@ -38,7 +40,7 @@ fn met_students(state: &State, class: u32, other: u32, common: u32) -> u32
     }
 }
 
-/// Appends the line on another class and the students who have both.
+// Appends the line on another class and the students who have both.
 #[tactic(auto, using(std::proofs::Common::append_assoc), unfolding(crate::specs::Meets::meeting_line))]
 fn add_meeting_line(
     out: &mut Reply,
@@ -53,8 +55,8 @@ fn add_meeting_line(
     out.text("\n")
 }
 
-/// Appends the line on another class, where some students have it and the class that nobody can
-/// attend beside it.
+// Appends the line on another class, where some students have it and the class that nobody can
+// attend beside it.
 fn add_meeting(
     out: &mut Reply,
     state: &State,
@@ -73,9 +75,9 @@ fn add_meeting(
     }
 }
 
-/// The students who are counted are the conflicting pairs with the class.
+// The students who are counted are the conflicting pairs with the class.
 fn meetings_add_up(state: &State, class: u32)
-    ensures { all_met state.now.problem state.now.present class ≡ pairs_with state.now.problem state.now.present class }
+    ensures { all_met state.now.problem state.now.present class ≡ pair_count state.now.problem state.now.present class }
 {
     state.soundness();
 }
@@ -87,7 +89,7 @@ fn meetings_add_up(state: &State, class: u32)
 #[tactic(auto, unfolding(crate::specs::Meets::meets_lines))]
 pub fn meets(alloc: Global, state: &State, class: u32, out: &mut Reply) -> Result<(), AllocError>
     ensures lines { OnOk result (out.new ≡ out.old ++ meets_lines state.now.problem state.now.present class) }
-    ensures conflicts { all_met state.now.problem state.now.present class ≡ pairs_with state.now.problem state.now.present class }
+    ensures conflicts { all_met state.now.problem state.now.present class ≡ pair_count state.now.problem state.now.present class }
 {
     meetings_add_up(state, class);
     let row = joint_row(alloc, state, class)?;

@@ -1,3 +1,5 @@
+//! The lines of `values`: what each value of a class would cost.
+
 ghost use Rattle.std.specs.Prelude.{◌≡◌, ◌++◌, ◌<◌, [], OnOk, length};
 ghost use Rattle.tt_bits.specs.declared.times.Value.{Value};
 ghost use Rattle.tt_plan.specs.Domain.{IsOfDomain};
@@ -21,7 +23,7 @@ pub struct ValueCosts {
     pub total: u128,
 }
 
-/// What a class at a value would cost, whose conflict set was found last. Nothing is changed.
+// What a class at a value would cost, whose conflict set was found last. Nothing is changed.
 #[tactic(auto, unfolding(crate::specs::Values::value_costs))]
 fn value_costs(state: &mut State, class: u32, value: Value) -> ValueCosts
     requires value { IsOfDomain state.old.problem class value }
@@ -36,7 +38,7 @@ fn value_costs(state: &mut State, class: u32, value: Value) -> ValueCosts
     ValueCosts { out, weight, total }
 }
 
-/// Appends what a class at a value would cost.
+// Appends what a class at a value would cost.
 #[tactic(auto, using(std::proofs::Common::append_assoc), unfolding(crate::specs::Values::costs_text))]
 fn add_costs(out: &mut Reply, costs: ValueCosts) -> Result<(), AllocError>
     ensures { OnOk result (out.new ≡ out.old ++ costs_text costs) }
@@ -46,7 +48,7 @@ fn add_costs(out: &mut Reply, costs: ValueCosts) -> Result<(), AllocError>
     out.field(" trial ", costs.total)
 }
 
-/// Appends what stands in the way of a value, or what the class would cost there.
+// Appends what stands in the way of a value, or what the class would cost there.
 #[tactic(auto, using(tt_state::proofs::ObstacleLemmas::not_blocked), unfolding(crate::specs::Values::price_by))]
 fn add_price(out: &mut Reply, state: &mut State, class: u32, value: Value) -> Result<(), AllocError>
     requires { IsOfDomain state.old.problem class value }
@@ -62,7 +64,7 @@ fn add_price(out: &mut Reply, state: &mut State, class: u32, value: Value) -> Re
     }
 }
 
-/// Appends the line on a value of a class.
+// Appends the line on a value of a class.
 #[tactic(auto, using(std::proofs::Common::append_assoc), unfolding(crate::specs::Values::priced_line))]
 fn add_priced_line(
     out: &mut Reply,

@@ -1,3 +1,5 @@
+//! The lines of `violations`: all that is wrong in the present snapshot.
+
 ghost use Rattle.std.specs.Prelude.{◌≡◌, ◌+◌, ◌++◌, [], ◌<◌, ◌↔◌, IfOk, OnOk, length, true};
 ghost use Rattle.tt_explain.specs.Violations.{enrolment_fault, enrolment_faults, fault_count, hard_faults, present_violations, unplaced_fault, unplaced_faults, violations_lines};
 ghost use Rattle.tt_score.specs.Totals.{totals_of};
@@ -9,7 +11,7 @@ use tt_state::State;
 use tt_text::Reply;
 use tt_verify::{Violation, add_count, add_hard_violations, add_lines};
 
-/// Adds a class that has no value.
+// Adds a class that has no value.
 #[tactic(auto, unfolding(crate::specs::Violations::unplaced_fault))]
 fn add_unplaced_fault(
     state: &State,
@@ -24,7 +26,7 @@ fn add_unplaced_fault(
     Ok(())
 }
 
-/// Adds each class that has no value.
+// Adds each class that has no value.
 #[tactic(auto, using(tt_verify::proofs::WalkLemmas::pieces_more, std::proofs::Common::append_assoc))]
 fn add_unplaced_faults(state: &State, found: &mut Vec<Violation>) -> Result<(), AllocError>
     ensures { OnOk result (found.new.items ≡ found.old.items ++ unplaced_faults state.now.problem state.now.present) }
@@ -35,8 +37,8 @@ fn add_unplaced_faults(state: &State, found: &mut Vec<Violation>) -> Result<(), 
     Ok(())
 }
 
-/// Adds a student whose list is no valid enrolment: no other list of a state than an empty one can be
-/// that, so it isn't looked into.
+// Adds a student whose list is no valid enrolment: no other list of a state than an empty one can be
+// that, so it isn't looked into.
 #[tactic(auto, using(crate::proofs::WrongLemmas::fault_of_sound))]
 fn add_enrolment_fault(
     state: &State,
@@ -53,7 +55,7 @@ fn add_enrolment_fault(
     Ok(())
 }
 
-/// Adds each student whose list is no valid enrolment.
+// Adds each student whose list is no valid enrolment.
 #[tactic(auto, using(tt_verify::proofs::WalkLemmas::pieces_more, std::proofs::Common::append_assoc))]
 fn add_enrolment_faults(state: &State, found: &mut Vec<Violation>) -> Result<(), AllocError>
     ensures { OnOk result (found.new.items ≡ found.old.items ++ enrolment_faults state.now.problem state.now.present) }
@@ -64,7 +66,7 @@ fn add_enrolment_faults(state: &State, found: &mut Vec<Violation>) -> Result<(),
     Ok(())
 }
 
-/// All that is wrong in the present snapshot.
+// All that is wrong in the present snapshot.
 #[tactic(auto, using(std::proofs::Common::append_assoc), unfolding(crate::specs::Violations::present_violations))]
 fn present_violations(alloc: Global, state: &State) -> Result<Vec<Violation>, AllocError>
     ensures { IfOk result (λ found. found.items ≡ present_violations state.now.problem state.now.present) }

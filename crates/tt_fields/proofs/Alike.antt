@@ -6,7 +6,7 @@ use Rattle.serde_json.specs.Find.{as_object}
 use Rattle.tt_fields.specs.declared.faults.Wrong.TheVariants.{NotOfKind, UnknownId}
 use Rattle.tt_fields.specs.Path.{at}
 use Rattle.tt_base.specs.Chain.{◌>>=◌}
-use Rattle.tt_fields.specs.Answer.{Part, Fault, fault}
+use Rattle.tt_fields.specs.Answer.{Field, Fault, fault}
 use Rattle.tt_fields.specs.Kinds.{a_number, or_fault, value_at, required, optional, or_else, placed_in, place_of, a_reference, each, pushed, each_as}
 
 -- where the first reads a value, the second reads one too, and P holds of the two
@@ -56,14 +56,14 @@ same_alike Q r other f g same next = subst (λ (q : Result _ Fault). Alike Q (r 
 
 -- ---- presences
 
-pub required_alike : {A B : Type 0} (P : A → B → Type 0) (read : Part → Result A Fault) (other : Part → Result B Fault)
-    → ((p : Part) → Alike P (read p) (other p)) → (key : List ℕ) (o : Part) → Alike P (required read key o) (required other key o)
+pub required_alike : {A B : Type 0} (P : A → B → Type 0) (read : Field → Result A Fault) (other : Field → Result B Fault)
+    → ((p : Field) → Alike P (read p) (other p)) → (key : List ℕ) (o : Field) → Alike P (required read key o) (required other key o)
 unfolding required
 required_alike P read other h key o =
     elim (value_at key o) as (λ v. Alike P (option_map_or read v (fault NotOfKind (at o.path key))) (option_map_or other v (fault NotOfKind (at o.path key)))) [ None ↦ tt | Some p ↦ h p ]
 
-pub optional_alike : {A B : Type 0} (read : Part → Result A Fault) (other : Part → Result B Fault)
-    → ((p : Part) → Alike Any (read p) (other p)) → (key : List ℕ) (o : Part) → Alike Any (optional read key o) (optional other key o)
+pub optional_alike : {A B : Type 0} (read : Field → Result A Fault) (other : Field → Result B Fault)
+    → ((p : Field) → Alike Any (read p) (other p)) → (key : List ℕ) (o : Field) → Alike Any (optional read key o) (optional other key o)
 unfolding optional or_else
 optional_alike read other h key o =
     elim (value_at key o) as (λ v. Alike Any (option_map_or (λ p. read p >>= λ x. Ok (Some x)) v (Ok None)) (option_map_or (λ p. other p >>= λ x. Ok (Some x)) v (Ok None)))
@@ -71,12 +71,12 @@ optional_alike read other h key o =
 
 -- ---- references
 
-pub place_alike : (ids : Option (List ℕ)) (p : Part) → Alike Any (place_of ids p) (place_of None p)
+pub place_alike : (ids : Option (List ℕ)) (p : Field) → Alike Any (place_of ids p) (place_of None p)
 place_alike ids p =
     after_alike Any (a_number 0 4294967295 p) _ _ (λ id.
     elim (placed_in ids id) as (λ place. Alike {B = ℕ} Any (or_fault UnknownId p place) (or_fault UnknownId p (Some 0))) [ None ↦ tt | Some place ↦ tt ])
 
-pub reference_alike : (ids : Option (List ℕ)) (p : Part) → Alike Any (a_reference ids p) (a_reference None p)
+pub reference_alike : (ids : Option (List ℕ)) (p : Field) → Alike Any (a_reference ids p) (a_reference None p)
 unfolding a_reference
 reference_alike ids p =
     elim (as_object p.value) as (λ ms. Alike Any (option_map_or (λ members. required (place_of ids) (codes "id") p) ms (place_of ids p))
@@ -85,14 +85,14 @@ reference_alike ids p =
 
 -- ---- lists
 
-pub each_alike : {S T : Type 0} (P : S → T → Type 0) (read : Part → S → Result S Fault) (other : Part → T → Result T Fault)
-    → ((p : Part) (s : S) (t : T) → P s t → Alike P (read p s) (other p t)) → (ps : List Part) (s : S) (t : T) → P s t → Alike P (each read ps s) (each other ps t)
+pub each_alike : {S T : Type 0} (P : S → T → Type 0) (read : Field → S → Result S Fault) (other : Field → T → Result T Fault)
+    → ((p : Field) (s : S) (t : T) → P s t → Alike P (read p s) (other p t)) → (ps : List Field) (s : S) (t : T) → P s t → Alike P (each read ps s) (each other ps t)
 each_alike P read other step [] s t h = h
 each_alike P read other step (p ∷ ps) s t h =
     then_alike P P (read p s) (other p t) (each read ps) (each other ps) (step p s t h) (λ x y k. each_alike P read other step ps x y k)
 
-pub each_as_alike : {A B : Type 0} (read : Part → Result A Fault) (other : Part → Result B Fault)
-    → ((p : Part) → Alike Any (read p) (other p)) → (ps : List Part) → Alike Any (each_as read ps) (each_as other ps)
+pub each_as_alike : {A B : Type 0} (read : Field → Result A Fault) (other : Field → Result B Fault)
+    → ((p : Field) → Alike Any (read p) (other p)) → (ps : List Field) → Alike Any (each_as read ps) (each_as other ps)
 each_as_alike read other h ps =
     each_alike Any (pushed read) (pushed other) (λ p s t any. then_alike Any Any (read p) (other p) _ _ (h p) (λ x y k. tt)) ps [] [] tt
 

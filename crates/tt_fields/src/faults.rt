@@ -6,7 +6,7 @@ ghost use Rattle.tt_fields.specs.Faults.{fault_number};
 ghost use Rattle.tt_fields.specs.Path.{at, shown, steps_of};
 ghost use Rattle.tt_fields.specs.declared.faults.Wrong.TheVariants.{NoJson};
 
-use crate::part::{Fault, Part};
+use crate::field::{Fault, Field};
 use crate::trail::Trail;
 use std::alloc::Global;
 
@@ -56,7 +56,7 @@ impl Wrong {
 }
 
 /// The fault that a part has.
-pub fn fault<'a>(wrong: Wrong, part: &Part<'a>) -> Fault<'a>
+pub fn fault<'a>(wrong: Wrong, part: &Field<'a>) -> Fault<'a>
     ensures { fault_of result ≡ record { wrong = wrong; path = shown (steps_of part.now.trail) } }
 {
     Fault {
@@ -67,7 +67,7 @@ pub fn fault<'a>(wrong: Wrong, part: &Part<'a>) -> Fault<'a>
 }
 
 /// The fault at a key of an object, whether or not it has the key.
-pub fn fault_at<'a>(wrong: Wrong, object: &'a Part<'a>, key: &'static str) -> Fault<'a>
+pub fn fault_at<'a>(wrong: Wrong, object: &'a Field<'a>, key: &'static str) -> Fault<'a>
     ensures { fault_of result ≡ record { wrong = wrong; path = shown (at (steps_of object.now.trail) key.now) } }
 {
     Fault {

@@ -9,14 +9,14 @@ ghost use Rattle.tt_fields.specs.Path.{at, steps_of};
 
 use crate::answer::FileFault;
 use crate::faults::{Wrong, fault, fault_at};
-use crate::part::{Fault, Part};
+use crate::field::{Fault, Field};
 use crate::values::{as_number, found, required, value};
 use indexmap::IndexSet;
 
 /// Adds the id of an object to those of the objects of its kind before it. An id that stands twice,
 /// at the key `id`, where it is one of them. After an error the ids are as before.
 #[tactic(auto, unfolding(crate::specs::Kinds::new_id))]
-pub fn add_id(object: &Part<'_>, id: u32, ids: &mut IndexSet<u32>) -> Result<(), FileFault>
+pub fn add_id(object: &Field<'_>, id: u32, ids: &mut IndexSet<u32>) -> Result<(), FileFault>
     ensures reads { Gives (λ _. ids.new.keys) result (new_id id ids.old.keys (part_of object.now)) }
     ensures last { OnOk result (ids.new.keys ≡ ids.old.keys ++ id ∷ []) }
     ensures one { OnOk result (length ids.new.keys ≡ length ids.old.keys + 1) }
@@ -55,7 +55,7 @@ impl<'a> Known<'a> {
     }
 }
 
-/// The place of an id among those that are known, and 0 where it is not looked up.
+// The place of an id among those that are known, and 0 where it is not looked up.
 fn place_in(known: &Known<'_>, id: u32) -> Option<u32>
     requires { IsFew known.now }
     ensures place { result ≡ placed_in (known_of known.now) id }
@@ -67,8 +67,8 @@ fn place_in(known: &Known<'_>, id: u32) -> Option<u32>
     }
 }
 
-/// The place of the id that a number is, or an unknown id.
-fn as_place<'a>(known: &Known<'_>, part: &Part<'a>) -> Result<u32, Fault<'a>>
+// The place of the id that a number is, or an unknown id.
+fn as_place<'a>(known: &Known<'_>, part: &Field<'a>) -> Result<u32, Fault<'a>>
     requires { IsFew known.now }
     ensures place { Reads (λ n. n) result (place_of (known_of known.now) (part_of part.now)) }
     ensures below { IfOk result (λ n. IsAmong known.now n) }
@@ -82,7 +82,7 @@ fn as_place<'a>(known: &Known<'_>, part: &Part<'a>) -> Result<u32, Fault<'a>>
 /// The place that a reference in a list names: a number, or an object whose id is a number. An
 /// unknown id is at the path of the id where it is an object's.
 #[tactic(auto, unfolding(crate::specs::Kinds::a_reference, crate::specs::Kinds::required))]
-pub fn item_reference<'a>(known: &Known<'_>, item: &'a Part<'a>) -> Result<u32, Fault<'a>>
+pub fn item_reference<'a>(known: &Known<'_>, item: &'a Field<'a>) -> Result<u32, Fault<'a>>
     requires { IsFew known.now }
     ensures place { Reads (λ n. n) result (a_reference (known_of known.now) (part_of item.now)) }
     ensures below { IfOk result (λ n. IsAmong known.now n) }
@@ -93,13 +93,13 @@ pub fn item_reference<'a>(known: &Known<'_>, item: &'a Part<'a>) -> Result<u32, 
     }
 }
 
-/// The id of the object that stands at a key of another, which is not kept while the id is read.
+// The id of the object that stands at a key of another, which is not kept while the id is read.
 #[tactic(auto, unfolding(crate::specs::Kinds::value_at, crate::specs::Kinds::required))]
 fn id_at<'a>(
-    object: &'a Part<'a>,
+    object: &'a Field<'a>,
     key: &'static str,
-    part: &Part<'a>,
-) -> Result<Part<'a>, Fault<'a>>
+    part: &Field<'a>,
+) -> Result<Field<'a>, Fault<'a>>
     requires { steps_of part.now.trail ≡ at (steps_of object.now.trail) key.now }
     ensures { Reads (λ p. part_of p) result (required Ok (codes "id") (part_of part.now)) }
 {
@@ -110,7 +110,7 @@ fn id_at<'a>(
             wrong: Wrong::NotOfKind,
             trail,
         }),
-        Some(value) => Ok(Part {
+        Some(value) => Ok(Field {
             alloc: object.alloc,
             trail,
             value,
@@ -118,13 +118,13 @@ fn id_at<'a>(
     }
 }
 
-/// The place that a reference at a key names.
+// The place that a reference at a key names.
 #[tactic(auto, unfolding(crate::specs::Kinds::a_reference, crate::specs::Kinds::required))]
 fn as_reference<'a>(
     known: &Known<'_>,
-    object: &'a Part<'a>,
+    object: &'a Field<'a>,
     key: &'static str,
-    part: &Part<'a>,
+    part: &Field<'a>,
 ) -> Result<u32, Fault<'a>>
     requires few { IsFew known.now }
     requires there { steps_of part.now.trail ≡ at (steps_of object.now.trail) key.now }
@@ -142,7 +142,7 @@ fn as_reference<'a>(
 #[tactic(auto, unfolding(crate::specs::Kinds::optional, crate::specs::Kinds::or_else))]
 pub fn optional_reference<'a>(
     known: &Known<'_>,
-    object: &'a Part<'a>,
+    object: &'a Field<'a>,
     key: &'static str,
 ) -> Result<Option<u32>, Fault<'a>>
     requires { IsFew known.now }
@@ -159,7 +159,7 @@ pub fn optional_reference<'a>(
 #[tactic(auto, unfolding(crate::specs::Kinds::required))]
 pub fn reference<'a>(
     known: &Known<'_>,
-    object: &'a Part<'a>,
+    object: &'a Field<'a>,
     key: &'static str,
 ) -> Result<u32, Fault<'a>>
     requires { IsFew known.now }
@@ -176,7 +176,7 @@ pub fn reference<'a>(
 #[tactic(auto, unfolding(crate::specs::Kinds::required))]
 pub fn known_id<'a>(
     known: &Known<'_>,
-    object: &'a Part<'a>,
+    object: &'a Field<'a>,
     key: &'static str,
 ) -> Result<u32, Fault<'a>>
     requires { IsFew known.now }

@@ -7,8 +7,8 @@ ghost use Rattle.tt_fields.specs.List.{items_of};
 ghost use Rattle.tt_fields.specs.Table.{Reading, ReadingOnto};
 
 use crate::answer::FileFault;
+use crate::field::Field;
 use crate::lists::PartList;
-use crate::part::Part;
 use std::alloc::Global;
 
 /// A table by which an item of a list is read by itself.
@@ -23,7 +23,7 @@ pub trait ItemTable<X> {
     ghost ready: { Self → Type 0 };
 
     /// Reads an item.
-    fn read_item(&self, alloc: Global, item: &Part<'_>) -> Result<X, FileFault>
+    fn read_item(&self, alloc: Global, item: &Field<'_>) -> Result<X, FileFault>
         requires { ready self.now }
         ensures reads { Gives (λ x. x) result (reads self.now (part_of item.now)) }
         ensures valid { IfOk result (λ x. valid self.now x) };
@@ -72,7 +72,7 @@ pub trait NextTable<S> {
         &self,
         alloc: Global,
         place: usize,
-        item: &Part<'_>,
+        item: &Field<'_>,
         before: &mut S,
     ) -> Result<(), FileFault>
         requires few { place < most self.now }

@@ -9,13 +9,13 @@ ghost use Rattle.tt_fields.specs.Kinds.{json_number, a_number, truth_of, a_truth
 ghost use Rattle.tt_fields.specs.Path.{at, steps_of};
 
 use crate::faults::{Wrong, fault, fault_at};
-use crate::part::{Fault, Part};
+use crate::field::{Fault, Field};
 use serde_json::Value;
 use tt_bits::{Days, Weeks};
 use tt_text::decimal_number;
 
-/// The number that a value is: a JSON number that is no less than 0 and has no fraction, or a text of 1
-/// to 20 decimal digits, which may be above what 64 bits hold.
+// The number that a value is: a JSON number that is no less than 0 and has no fraction, or a text of 1
+// to 20 decimal digits, which may be above what 64 bits hold.
 fn json_number(value: &Value) -> Option<u128>
     ensures { result ≡ json_number (view value.now) }
 {
@@ -31,7 +31,7 @@ fn json_number(value: &Value) -> Option<u128>
 /// The number that a part is, from `least` to `most`. Not of its kind where it is no number, and
 /// otherwise outside its range.
 #[tactic(auto, unfolding(crate::specs::Kinds::a_number))]
-pub fn as_number<'a>(part: &Part<'a>, least: u32, most: u32) -> Result<u32, Fault<'a>>
+pub fn as_number<'a>(part: &Field<'a>, least: u32, most: u32) -> Result<u32, Fault<'a>>
     ensures reads { Reads (λ n. n) result (a_number least most (part_of part.now)) }
     ensures within { IfOk result (λ n. (least ≤ n) × (n ≤ most)) }
 {
@@ -49,7 +49,7 @@ pub fn as_number<'a>(part: &Part<'a>, least: u32, most: u32) -> Result<u32, Faul
 
 /// That a part is an object, and not of its kind where it isn't.
 #[tactic(auto, unfolding(crate::specs::Kinds::an_object))]
-pub fn as_object<'a>(part: &Part<'a>) -> Result<(), Fault<'a>>
+pub fn as_object<'a>(part: &Field<'a>) -> Result<(), Fault<'a>>
     ensures { Reads (λ _. part_of part.now) result (an_object (part_of part.now)) }
 {
     match part.value.as_object() {
@@ -71,13 +71,13 @@ pub fn found<'v>(object: &'v Value, key: &str) -> Option<&'v Value>
 
 /// The value at a key, and where it stands.
 #[tactic(auto, unfolding(crate::specs::Kinds::value_at))]
-pub fn value<'a>(object: &'a Part<'a>, key: &'static str) -> Option<Part<'a>>
+pub fn value<'a>(object: &'a Field<'a>, key: &'static str) -> Option<Field<'a>>
     ensures value { option_map (λ p. part_of p) result ≡ value_at key.now (part_of object.now) }
     ensures there { IfSome result (λ p. steps_of p.trail ≡ at (steps_of object.now.trail) key.now) }
 {
     match found(object.value, key) {
         None => None,
-        Some(value) => Some(Part {
+        Some(value) => Some(Field {
             alloc: object.alloc,
             trail: object.trail.key(key),
             value,
@@ -87,7 +87,7 @@ pub fn value<'a>(object: &'a Part<'a>, key: &'static str) -> Option<Part<'a>>
 
 /// The part at a required key, of any kind. Not of its kind where it is absent.
 #[tactic(auto, unfolding(crate::specs::Kinds::required))]
-pub fn required<'a>(object: &'a Part<'a>, key: &'static str) -> Result<Part<'a>, Fault<'a>>
+pub fn required<'a>(object: &'a Field<'a>, key: &'static str) -> Result<Field<'a>, Fault<'a>>
     ensures { Reads (λ p. part_of p) result (required Ok key.now (part_of object.now)) }
 {
     match value(object, key) {
@@ -99,7 +99,7 @@ pub fn required<'a>(object: &'a Part<'a>, key: &'static str) -> Result<Part<'a>,
 /// The number at a required key, from `least` to `most`.
 #[tactic(auto, unfolding(crate::specs::Kinds::required))]
 pub fn number<'a>(
-    object: &'a Part<'a>,
+    object: &'a Field<'a>,
     key: &'static str,
     least: u32,
     most: u32,
@@ -113,7 +113,7 @@ pub fn number<'a>(
 /// The number at a key, from `least` to `most`, and `None` where the key is absent.
 #[tactic(auto, unfolding(crate::specs::Kinds::optional, crate::specs::Kinds::or_else))]
 pub fn optional_number<'a>(
-    object: &'a Part<'a>,
+    object: &'a Field<'a>,
     key: &'static str,
     least: u32,
     most: u32,
@@ -130,7 +130,7 @@ pub fn optional_number<'a>(
 #[tactic(auto, unfolding(crate::specs::Kinds::or_else))]
 pub fn number_or<'a>(
     other: u32,
-    object: &'a Part<'a>,
+    object: &'a Field<'a>,
     key: &'static str,
     least: u32,
     most: u32,
@@ -145,7 +145,7 @@ pub fn number_or<'a>(
     }
 }
 
-/// The truth value that a value is: `true` or `false`, as such or as text.
+// The truth value that a value is: `true` or `false`, as such or as text.
 fn truth_of(value: &Value) -> Option<bool>
     ensures { result ≡ truth_of (view value.now) }
 {
@@ -166,9 +166,9 @@ fn truth_of(value: &Value) -> Option<bool>
     }
 }
 
-/// The truth value that a part is, and not of its kind where it is none.
+// The truth value that a part is, and not of its kind where it is none.
 #[tactic(auto, unfolding(crate::specs::Kinds::a_truth))]
-fn as_truth<'a>(part: &Part<'a>) -> Result<bool, Fault<'a>>
+fn as_truth<'a>(part: &Field<'a>) -> Result<bool, Fault<'a>>
     ensures { Reads (λ b. b) result (a_truth (part_of part.now)) }
 {
     match truth_of(part.value) {
@@ -179,7 +179,11 @@ fn as_truth<'a>(part: &Part<'a>) -> Result<bool, Fault<'a>>
 
 /// The truth value at a key, and `other` where the key is absent.
 #[tactic(auto, unfolding(crate::specs::Kinds::or_else))]
-pub fn truth_or<'a>(other: bool, object: &'a Part<'a>, key: &'static str) -> Result<bool, Fault<'a>>
+pub fn truth_or<'a>(
+    other: bool,
+    object: &'a Field<'a>,
+    key: &'static str,
+) -> Result<bool, Fault<'a>>
     ensures { Reads (λ b. b) result (or_else other a_truth key.now (part_of object.now)) }
 {
     match value(object, key) {
@@ -190,7 +194,7 @@ pub fn truth_or<'a>(other: bool, object: &'a Part<'a>, key: &'static str) -> Res
 
 /// The object at a required key.
 #[tactic(auto, unfolding(crate::specs::Kinds::required))]
-pub fn object<'a>(object: &'a Part<'a>, key: &'static str) -> Result<Part<'a>, Fault<'a>>
+pub fn object<'a>(object: &'a Field<'a>, key: &'static str) -> Result<Field<'a>, Fault<'a>>
     ensures { Reads (λ p. part_of p) result (required an_object key.now (part_of object.now)) }
 {
     let part = required(object, key)?;
@@ -200,7 +204,7 @@ pub fn object<'a>(object: &'a Part<'a>, key: &'static str) -> Result<Part<'a>, F
 
 /// The text that a part is, and not of its kind where it is none.
 #[tactic(auto, unfolding(crate::specs::Kinds::a_text))]
-pub fn as_text<'a>(part: &Part<'a>) -> Result<&'a str, Fault<'a>>
+pub fn as_text<'a>(part: &Field<'a>) -> Result<&'a str, Fault<'a>>
     ensures { Reads (λ t. t.now) result (a_text (part_of part.now)) }
 {
     match part.value.as_str() {
@@ -212,7 +216,7 @@ pub fn as_text<'a>(part: &Part<'a>) -> Result<&'a str, Fault<'a>>
 /// The days that the text at a required key writes, `n` characters 0 and 1 with at least one 1, the
 /// leftmost the first day. No set where the text is none such.
 #[tactic(auto, unfolding(crate::specs::Kinds::a_set, crate::specs::Kinds::required))]
-pub fn days<'a>(object: &'a Part<'a>, key: &'static str, n: u8) -> Result<Days, Fault<'a>>
+pub fn days<'a>(object: &'a Field<'a>, key: &'static str, n: u8) -> Result<Days, Fault<'a>>
     requires { n ≤ 7 }
     ensures reads { Reads (λ d. d) result (required (a_set days_text n) key.now (part_of object.now)) }
     ensures below { IfOk result (λ d. day_set d < 2 ^ n) }
@@ -227,7 +231,7 @@ pub fn days<'a>(object: &'a Part<'a>, key: &'static str, n: u8) -> Result<Days, 
 /// The weeks that the text at a required key writes, `n` characters 0 and 1 with at least one 1, the
 /// leftmost the first week. No set where the text is none such.
 #[tactic(auto, unfolding(crate::specs::Kinds::a_set, crate::specs::Kinds::required))]
-pub fn weeks<'a>(object: &'a Part<'a>, key: &'static str, n: u8) -> Result<Weeks, Fault<'a>>
+pub fn weeks<'a>(object: &'a Field<'a>, key: &'static str, n: u8) -> Result<Weeks, Fault<'a>>
     requires { n ≤ 128 }
     ensures reads { Reads (λ w. w) result (required (a_set weeks_text n) key.now (part_of object.now)) }
     ensures below { IfOk result (λ w. week_set w < 2 ^ n) }

@@ -26,7 +26,7 @@ use Rattle.tt_improve.specs.Classes.{is_free, total_of, least_value, at_lower, m
 use Rattle.tt_improve.specs.Standing.{IsLower, IsMovable, IsNoWorse}
 use Rattle.tt_improve.proofs.BelowLemmas.{least_below}
 use Rattle.tt_improve.proofs.FallLemmas.{spot_of_value, hard-falls}
-use Rattle.tt_improve.proofs.ObjectLemmas.{moved-class_objects}
+use Rattle.tt_improve.proofs.TargetLemmas.{moved-class_targets}
 
 -- what is known of the best so far: its total is no higher than the bound, and what was found is below it
 pub record IsBestBelow (Of : Value → Type 0) (free : Value → Bool) (total : Value → ℕ) (bound : ℕ) (best : Best) : Type 0 where
@@ -109,18 +109,18 @@ others_stay s class v free d locked = (get_or-set_other s.plan class d (Some v) 
 -- a lower value makes the snapshot no worse
 pub lower_no_worse : (p : Parts) (s : Snapshot) (class : ℕ) (v : Value) → IsValid p → length s.plan ≡ length p.classes → IsMovable p s class → IsLower p s class v → IsNoWorse p s (with_value s class (Some v))
 unfolding blocked_of conflicts_of total_with
-lower_no_worse p s class v valid whole object lower =
+lower_no_worse p s class v valid whole target lower =
     let spot = spot_of_value p class v lower.domain in
     let free = and_parts (is_none (blocked_of p s.closures class v)) (length (conflicts_of p s class v) == 0) lower.free in
     let open_value : blocked_by p s.closures class spot.0 ≡ None = rw spot.1 at (none_is (blocked_of p s.closures class v) free.0) in
     let empty : conflict_set (rule_amounts p) (among p s.plan class spot.0) ≡ [] = rw spot.1 at (empty_is (conflicts_of p s class v) (eqb-true (length (conflicts_of p s class v)) 0 free.1)) in
     record {
       total = omega (arith, lower.lower);
-      hard = hard-falls p s.closures s.plan s.lists class v spot.0 valid (omega (arith, whole, object.within)) spot.1 open_value empty;
+      hard = hard-falls p s.closures s.plan s.lists class v spot.0 valid (omega (arith, whole, target.within)) spot.1 open_value empty;
       statistics = refl;
       closures = refl;
-      objects = moved-class_objects p s class v object.free;
-      locked = others_stay s class v object.free;
+      targets = moved-class_targets p s class v target.free;
+      locked = others_stay s class v target.free;
     }
 
 -- what is found is lower

@@ -28,7 +28,7 @@ use Rattle.tt_roster.specs.Lists.{Ascends, list_of}
 use Rattle.tt_roster.proofs.TimeLemmas.{in_conflict-sym, in_conflict-none}
 use Rattle.tt_score.proofs.PlanLemmas.{spot_in}
 use Rattle.tt_state.specs.Seats.{count_with, has_seat, limit_of, may_have, others_with}
-use Rattle.tt_state.specs.Snapshots.{Snapshot, in_order, list_in, with_list}
+use Rattle.tt_state.specs.Snapshots.{Snapshot, classes_in_order, list_in, with_list}
 use Rattle.tt_state.specs.Sound.{IsSound}
 use Rattle.tt_state.proofs.SeatLemmas.{length-ordered, few_ascending}
 use Rattle.tt_choice.specs.Choices.{choices_at}
@@ -41,9 +41,9 @@ use Rattle.tt_choice.proofs.SeatingLemmas.{all_seats}
 use Rattle.tt_choice.proofs.ValidLemmas.{IsChoice, are_choices, takes_at}
 use Rattle.tt_improve.specs.Classes.{total_of}
 use Rattle.tt_improve.specs.Courses.{at_fewer, beside, is_of_course, least_replacement, may_replace, moved_student, own_of, replaced_by, rest_of}
-use Rattle.tt_improve.specs.Objects.{seated_courses}
+use Rattle.tt_improve.specs.Targets.{seated_courses}
 use Rattle.tt_improve.specs.Standing.{IsNoWorse, IsSeatedIn}
-use Rattle.tt_improve.proofs.ObjectLemmas.{moved-student_courses, moved-student_objects}
+use Rattle.tt_improve.proofs.TargetLemmas.{moved-student_courses, moved-student_targets}
 use Rattle.tt_improve.proofs.PairOrder.{count-with, pairs-with, pairs-joined, pairs-parted}
 use Rattle.tt_improve.proofs.ReplaceLemmas.{IsEnrolled, all_kept, below_kept, choice_some, enrolled_is, may_is}
 
@@ -82,17 +82,17 @@ conflict_turned : (p : Parts) (plan : List (Option Value)) → IsValid p → (a 
 conflict_turned p plan valid a b = turned_by p.travel (spot_at (spots_of p plan) a) (spot_at (spots_of p plan) b) valid.travel (rooms_are p plan valid a) (rooms_are p plan valid b)
 
 -- the order of a list does not tell
-count_ordered : (g : ℕ → Bool) (list : List ℕ) → count_by g (in_order list) ≡ count_by g list
+count_ordered : (g : ℕ → Bool) (list : List ℕ) → count_by g (classes_in_order list) ≡ count_by g list
 count_ordered g [] = refl
-count_ordered g (c ∷ list) = omega (arith, count-with g c (in_order list), count_ordered g list, sum_by-cons (λ (d : ℕ). cond (g d) 1 0) c list)
+count_ordered g (c ∷ list) = omega (arith, count-with g c (classes_in_order list), count_ordered g list, sum_by-cons (λ (d : ℕ). cond (g d) 1 0) c list)
 
-pairs_ordered : (f : ℕ → ℕ → Bool) → ((a b : ℕ) → f a b ≡ f b a) → (list : List ℕ) → pairs_among f (in_order list) ≡ pairs_among f list
+pairs_ordered : (f : ℕ → ℕ → Bool) → ((a b : ℕ) → f a b ≡ f b a) → (list : List ℕ) → pairs_among f (classes_in_order list) ≡ pairs_among f list
 pairs_ordered f turned [] = refl
-pairs_ordered f turned (c ∷ list) = omega (arith, pairs-with f turned c (in_order list), count_ordered (f c) list, pairs_ordered f turned list)
+pairs_ordered f turned (c ∷ list) = omega (arith, pairs-with f turned c (classes_in_order list), count_ordered (f c) list, pairs_ordered f turned list)
 
 -- the pairs of the list, once a choice stands in the place of the own classes
 pairs_replaced : (f : ℕ → ℕ → Bool) (turned : (a b : ℕ) → f a b ≡ f b a) (test : ℕ → Bool) (list choice : List ℕ)
-    → pairs_among f (in_order (filter (λ d. not (test d)) list ++ choice)) + (sum_by (λ c. count_by (f c) (filter (λ d. not (test d)) list)) (filter test list) + pairs_among f (filter test list))
+    → pairs_among f (classes_in_order (filter (λ d. not (test d)) list ++ choice)) + (sum_by (λ c. count_by (f c) (filter (λ d. not (test d)) list)) (filter test list) + pairs_among f (filter test list))
     ≡ pairs_among f list + (sum_by (λ c. count_by (f c) (filter (λ d. not (test d)) list)) choice + pairs_among f choice)
 pairs_replaced f turned test list choice =
     omega (arith, pairs_ordered f turned (filter (λ d. not (test d)) list ++ choice), pairs-joined f turned (filter (λ d. not (test d)) list) choice, pairs-parted f turned test list)
@@ -100,7 +100,7 @@ pairs_replaced f turned test list choice =
 -- where a choice adds fewer pairs than the own classes, the list has fewer
 fewer_in : (f : ℕ → ℕ → Bool) (turned : (a b : ℕ) → f a b ≡ f b a) (test : ℕ → Bool) (list choice : List ℕ)
     → sum_by (λ c. count_by (f c) (filter (λ d. not (test d)) list)) choice + pairs_among f choice < sum_by (λ c. count_by (f c) (filter (λ d. not (test d)) list)) (filter test list) + pairs_among f (filter test list)
-    → pairs_among f (in_order (filter (λ d. not (test d)) list ++ choice)) < pairs_among f list
+    → pairs_among f (classes_in_order (filter (λ d. not (test d)) list ++ choice)) < pairs_among f list
 fewer_in f turned test list choice less = omega (arith, less, pairs_replaced f turned test list choice)
 
 -- an equation, with a weight
@@ -183,7 +183,7 @@ seat_kept p lists student class within limits listed = by (limit_of p class) lim
         let mine : has (list_of lists student) ≡ 1 = ap {B = ℕ} (λ (b : Bool). cond b 1 0) listed in
         fewer (others_with lists student class) limit (omega (arith, less, mine, h))
 
-module _ (p : Parts) (s : Snapshot) (student course : ℕ) (valid : IsValid p) (sound : IsSound p s) (object : IsSeatedIn p s student course) where
+module _ (p : Parts) (s : Snapshot) (student course : ℕ) (valid : IsValid p) (sound : IsSound p s) (target : IsSeatedIn p s student course) where
   abbrev list : List ℕ
   list = list_in s student
 
@@ -200,26 +200,26 @@ module _ (p : Parts) (s : Snapshot) (student course : ℕ) (valid : IsValid p) (
   part = get_or p.students student no_student
 
   part_is : slice_get p.students student ≡ Some (get_or p.students student no_student)
-  part_is = slice_get-get_or p.students student no_student object.within
+  part_is = slice_get-get_or p.students student no_student target.within
 
   courses_below : AllByRecursion (λ k. k < length p.courses) (get_or p.students student no_student).courses
-  courses_below = recursion_from_All (λ k. k < length p.courses) (get_or p.students student no_student).courses (valid.students student no_student object.within).courses
+  courses_below = recursion_from_All (λ k. k < length p.courses) (get_or p.students student no_student).courses (valid.students student no_student target.within).courses
 
   mine : is_listed course (get_or p.students student no_student).courses ≡ true
-  mine = rw part_is at object.listed
+  mine = rw part_is at target.listed
 
   pub within_courses : course < length p.courses
   within_courses = of_listed (λ k. k < length p.courses) course (get_or p.students student no_student).courses courses_below mine
 
   within_lists : student < length s.lists
-  within_lists = omega (arith, object.within, sound.lists.whole)
+  within_lists = omega (arith, target.within, sound.lists.whole)
 
   list_below : AllByRecursion (λ c. c < length p.classes) (list_in s student)
   list_below = ascends_below 0 (length p.classes) (list_in s student) (sound.lists.ordered student [] within_lists)
 
   enrolled : IsEnrolled p (get_or p.students student no_student) (list_in s student)
   enrolled =
-      let is = may_some p student (list_in s student) object.some (sound.lists.enrolled student) in
+      let is = may_some p student (list_in s student) target.some (sound.lists.enrolled student) in
       enrolled_is p (get_or p.students student no_student) (list_in s student) (rw part_is at is)
 
   -- a choice may replace the own classes exactly where it is allowed beside the rest
@@ -258,21 +258,21 @@ module _ (p : Parts) (s : Snapshot) (student course : ℕ) (valid : IsValid p) (
   enrolled_some (c ∷ xs) is = omega arith
 
   -- the total, once a choice stands in the place of the own classes: the pairs that it adds, in place of those that they add
-  pub replaced_total : (choice : List ℕ) → total_of p (with_list s student (in_order (rest_of p course (list_in s student) ++ choice))) + p.weights.student * pairs_added sit own ≡ total_of p s + p.weights.student * pairs_added sit choice
+  pub replaced_total : (choice : List ℕ) → total_of p (with_list s student (classes_in_order (rest_of p course (list_in s student) ++ choice))) + p.weights.student * pairs_added sit own ≡ total_of p s + p.weights.student * pairs_added sit choice
   replaced_total choice =
       let spots = spots_of p s.plan in
-      let new = in_order (rest ++ choice) in
+      let new = classes_in_order (rest ++ choice) in
       let pairs = pairs_replaced (in_conflict p spots) (conflict_turned p s.plan valid) (is_of_course p course) (list_in s student) choice in
       let change = sum_by-set (conflicts_in p.travel spots) s.lists student new [] within_lists in
       let all : student_conflicts p.travel spots (slice_set s.lists student new) + pairs_added sit own ≡ student_conflicts p.travel spots s.lists + pairs_added sit choice = omega (arith, change, pairs) in
       omega (arith, weighed p.weights.student (student_conflicts p.travel spots (slice_set s.lists student new)) (student_conflicts p.travel spots s.lists) (pairs_added sit own) (pairs_added sit choice) all)
 
-  -- and the objects stay
+  -- and the targets stay
   pub replaced_courses : (choice : List ℕ) → is_enrolment p student (rest_of p course (list_in s student) ++ choice) ≡ true
-      → seated_courses p (with_list s student (in_order (rest_of p course (list_in s student) ++ choice))) ≡ seated_courses p s
+      → seated_courses p (with_list s student (classes_in_order (rest_of p course (list_in s student) ++ choice))) ≡ seated_courses p s
   replaced_courses choice is =
       let some = enrolled_some (rest ++ choice) is in
-      moved-student_courses p s student (in_order (rest ++ choice)) within_lists object.some (omega (arith, some, length-ordered (rest ++ choice)))
+      moved-student_courses p s student (classes_in_order (rest ++ choice)) within_lists target.some (omega (arith, some, length-ordered (rest ++ choice)))
 
   -- the student may get the rest with the choice
   pub may_get : (choice : List ℕ) → IsAllowed (IsChoice p course) sit choice → MayGet p s.lists student (rest_of p course (list_in s student) ++ choice)
@@ -289,10 +289,10 @@ module _ (p : Parts) (s : Snapshot) (student course : ℕ) (valid : IsValid p) (
       both x y h k = rw (h, k) refl
 
   -- and the snapshot is then no worse, where the choice adds fewer pairs
-  pub fewer_no_worse : (choice : List ℕ) → IsAllowed (IsChoice p course) sit choice → pairs_added sit choice < pairs_added sit own → IsNoWorse p s (with_list s student (in_order (rest_of p course (list_in s student) ++ choice)))
+  pub fewer_no_worse : (choice : List ℕ) → IsAllowed (IsChoice p course) sit choice → pairs_added sit choice < pairs_added sit own → IsNoWorse p s (with_list s student (classes_in_order (rest_of p course (list_in s student) ++ choice)))
   fewer_no_worse choice one less =
       let spots = spots_of p s.plan in
-      let new = in_order (rest ++ choice) in
+      let new = classes_in_order (rest ++ choice) in
       let some : 0 < length choice = choice_some p course choice valid one.is in
       let long : 0 < length new = omega (arith, length-ordered (rest ++ choice), length-append rest choice) in
       let fewer : conflicts_in p.travel spots new < conflicts_in p.travel spots (list_in s student) =
@@ -305,7 +305,7 @@ module _ (p : Parts) (s : Snapshot) (student course : ℕ) (valid : IsValid p) (
         hard = omega arith;
         statistics = refl;
         closures = refl;
-        objects = moved-student_objects p s student new within_lists object.some long;
+        targets = moved-student_targets p s student new within_lists target.some long;
         locked = λ class is. (refl, is);
       }
 
@@ -324,12 +324,12 @@ pub no_replacement : (p : Parts) (s : Snapshot) (student course : ℕ) (rest own
 no_replacement p s student course rest own none = rw none refl
 
 pub replacement : (p : Parts) (s : Snapshot) (student course : ℕ) (rest own choice : List ℕ) (b : Bool) → least_replacement p s student course rest ≡ Some choice
-    → nat_lt (pairs_added (beside p s student rest) choice) (pairs_added (beside p s student rest) own) ≡ b → replaced_by p s student course rest own ≡ cond b (Some (with_list s student (in_order (rest ++ choice)))) None
+    → nat_lt (pairs_added (beside p s student rest) choice) (pairs_added (beside p s student rest) own) ≡ b → replaced_by p s student course rest own ≡ cond b (Some (with_list s student (classes_in_order (rest ++ choice)))) None
 replacement p s student course rest own choice b is fewer = rw (is, fewer) refl
 
 -- the choice that is found at the front of a buffer, and what it leads to
 pub found_less : (p : Parts) (s : Snapshot) (student course : ℕ) (rest own best : List ℕ) (size : ℕ) → least_replacement p s student course rest ≡ Some (take size best)
-    → pairs_added (beside p s student rest) (take size best) < pairs_added (beside p s student rest) own → replaced_by p s student course rest own ≡ Some (with_list s student (in_order (rest ++ take size best)))
+    → pairs_added (beside p s student rest) (take size best) < pairs_added (beside p s student rest) own → replaced_by p s student course rest own ≡ Some (with_list s student (classes_in_order (rest ++ take size best)))
 found_less p s student course rest own best size is less =
     let fewer : nat_lt (pairs_added (beside p s student rest) (take size best)) (pairs_added (beside p s student rest) own) ≡ true = grind (arith, nat_tests) in
     replacement p s student course rest own (take size best) true is fewer
@@ -341,23 +341,23 @@ found_more p s student course rest own best size is more =
     replacement p s student course rest own (take size best) false is fewer
 
 -- the same facts, where the rest of the list and the own classes are named
-module _ (p : Parts) (s : Snapshot) (student course : ℕ) (valid : IsValid p) (sound : IsSound p s) (object : IsSeatedIn p s student course) (rest own : List ℕ) (r : rest ≡ rest_of p course (list_in s student)) (o : own ≡ own_of p course (list_in s student)) where
+module _ (p : Parts) (s : Snapshot) (student course : ℕ) (valid : IsValid p) (sound : IsSound p s) (target : IsSeatedIn p s student course) (rest own : List ℕ) (r : rest ≡ rest_of p course (list_in s student)) (o : own ≡ own_of p course (list_in s student)) where
   pub replaces : (found : Option (List ℕ)) → least_choice (beside p s student rest) (choices_at p course) ≡ found → least_replacement p s student course rest ≡ found
   replaces found at =
-      subst (λ (l : List ℕ). least_replacement p s student course l ≡ least_choice (beside p s student l) (choices_at p course)) (sym r) (replacement_is p s student course valid sound object) ∙ at
+      subst (λ (l : List ℕ). least_replacement p s student course l ≡ least_choice (beside p s student l) (choices_at p course)) (sym r) (replacement_is p s student course valid sound target) ∙ at
 
   pub may_get_at : (choice : List ℕ) → least_choice (beside p s student rest) (choices_at p course) ≡ Some choice → MayGet p s.lists student (rest ++ choice)
   may_get_at choice at =
       subst (λ (l : List ℕ). least_choice (beside p s student l) (choices_at p course) ≡ Some choice → MayGet p s.lists student (l ++ choice)) (sym r)
-      (λ here. may_get p s student course valid sound object choice (chosen_is p s student course valid sound object choice here)) at
+      (λ here. may_get p s student course valid sound target choice (chosen_is p s student course valid sound target choice here)) at
 
   pub no_worse_at : (choice : List ℕ) → least_choice (beside p s student rest) (choices_at p course) ≡ Some choice → pairs_added (beside p s student rest) choice < pairs_added (beside p s student rest) own
-      → IsNoWorse p s (with_list s student (in_order (rest ++ choice)))
+      → IsNoWorse p s (with_list s student (classes_in_order (rest ++ choice)))
   no_worse_at choice at less =
       let mine : pairs_added (beside p s student rest) choice < pairs_added (beside p s student rest) (own_of p course (list_in s student)) = subst (λ (l : List ℕ). pairs_added (beside p s student rest) choice < pairs_added (beside p s student rest) l) o less in
       subst (λ (l : List ℕ). least_choice (beside p s student l) (choices_at p course) ≡ Some choice → pairs_added (beside p s student l) choice < pairs_added (beside p s student l) (own_of p course (list_in s student))
-      → IsNoWorse p s (with_list s student (in_order (l ++ choice)))) (sym r)
-      (λ here fewer. fewer_no_worse p s student course valid sound object choice (chosen_is p s student course valid sound object choice here) fewer) at mine
+      → IsNoWorse p s (with_list s student (classes_in_order (l ++ choice)))) (sym r)
+      (λ here fewer. fewer_no_worse p s student course valid sound target choice (chosen_is p s student course valid sound target choice here) fewer) at mine
 
 -- a round on a course, where the rest and the own classes are named
 pub moved_of : (p : Parts) (s : Snapshot) (student course : ℕ) (others had : List ℕ) (found : Option Snapshot) → others ≡ rest_of p course (list_in s student) → had ≡ own_of p course (list_in s student) → replaced_by p s student course others had ≡ found

@@ -1,30 +1,30 @@
--- Proof. What is known of the objects on which a round was made: where nothing changed since, one changes nothing.
+-- Proof. What is known of the targets on which a round was made: where nothing changed since, one changes nothing.
 use Rattle.std.specs.Prelude.{◌≡◌, ℕ, ◌≤◌, List, Option, None, map, slice_get, slice_index}
 use Rattle.std.specs.Option.{option_and_then}
 use Rattle.tt_problem.specs.declared.parts.Parts.{Parts}
 use Rattle.tt_state.specs.Snapshots.{Snapshot}
-use Rattle.tt_improve.specs.declared.objects.Object.{Object}
-use Rattle.tt_improve.specs.declared.objects.Looked.{Looked}
-use Rattle.tt_improve.specs.declared.objects.Objects.{Objects}
+use Rattle.tt_improve.specs.declared.targets.Target.{Target}
+use Rattle.tt_improve.specs.declared.targets.Looked.{Looked}
+use Rattle.tt_improve.specs.declared.targets.Targets.{Targets}
 use Rattle.tt_improve.specs.Rounds.{moved_by}
 
--- the snapshot after a round on the object at a place, none where it changes nothing
-abbrev pub moved_at : Parts → Snapshot → List Object → (place : ℕ) → Option Snapshot
-moved_at p s objects place = option_and_then (moved_by p s) (slice_get objects place)
+-- the snapshot after a round on the target at a place, none where it changes nothing
+abbrev pub moved_at : Parts → Snapshot → List Target → (place : ℕ) → Option Snapshot
+moved_at p s targets place = option_and_then (moved_by p s) (slice_get targets place)
 
--- an object on which no round was made
-abbrev pub unlooked : Object → Looked
-unlooked object = record { object = object; stage = 0 }
+-- a target on which no round was made
+abbrev pub unlooked : Target → Looked
+unlooked target = record { target = target; stage = 0 }
 
--- the objects of a table, in order
-unfoldable pub objects_in : Objects → List Object
-objects_in objects = map (λ looked. looked.object) objects.table.items
+-- the targets of a table, in order
+unfoldable pub targets_in : Targets → List Target
+targets_in targets = map (λ looked. looked.target) targets.table.items
 
 -- the stage in which a round was last made on each of them
-unfoldable pub stages_in : Objects → List ℕ
-stages_in objects = map (λ looked. looked.stage) objects.table.items
+unfoldable pub stages_in : Targets → List ℕ
+stages_in targets = map (λ looked. looked.stage) targets.table.items
 
--- no object has a later stage than this one, and a round on an object that has it changes nothing
-pub record KnowsIdle (p : Parts) (s : Snapshot) (objects : Objects) (stage : ℕ) : Type 0 where
-  pub no_later : (place : ℕ) → slice_index (stages_in objects) place ≤ stage
-  pub idle : (place : ℕ) → slice_index (stages_in objects) place ≡ stage → moved_at p s (objects_in objects) place ≡ None
+-- no target has a later stage than this one, and a round on a target that has it changes nothing
+pub record KnowsIdle (p : Parts) (s : Snapshot) (targets : Targets) (stage : ℕ) : Type 0 where
+  pub no_later : (place : ℕ) → slice_index (stages_in targets) place ≤ stage
+  pub idle : (place : ℕ) → slice_index (stages_in targets) place ≡ stage → moved_at p s (targets_in targets) place ≡ None

@@ -1,3 +1,5 @@
+//! Rounds on classes: a class gets the best of its free values.
+
 ghost use Rattle.std.specs.Prelude.{◌≡◌, ◌↔◌, ◌<◌, ◌≤◌, [], IsTrue, None, Some, IfOk, IfSome, OnOk, cond, false, length};
 ghost use Rattle.std.specs.Option.{option_map};
 ghost use Rattle.tt_plan.specs.Domain.{IsOfDomain};
@@ -13,23 +15,23 @@ use tt_bits::Value;
 use tt_plan::{domain_size, value_at};
 use tt_state::State;
 
-/// The best value so far, if there is one, and its total. Only a total below this is better.
+// The best value so far, if there is one, and its total. Only a total below this is better.
 #[derive(Clone, Copy, Debug, PartialEq, Eq)]
 struct Best {
     total: u128,
     value: Option<Value>,
 }
 
-/// Whether a class has this value.
+// Whether a class has this value.
 fn has_value(state: &State, class: u32, value: Value) -> bool
     ensures { IsTrue result ↔ (value_in state.now.present class ≡ Some value) }
 {
     state.score().value(class) == Some(value)
 }
 
-/// The best once a value was looked at. `others` are the student conflicts without the class. With the
-/// value that the class has the total is the present one, so this is left out. Whether the value is
-/// blocked, and then its conflict set, is asked for only where the total is lower.
+// The best once a value was looked at. `others` are the student conflicts without the class. With the
+// value that the class has the total is the present one, so this is left out. Whether the value is
+// blocked, and then its conflict set, is asked for only where the total is lower.
 #[tactic(auto, using(crate::proofs::ClassLemmas::none_within))]
 fn look_at(state: &mut State, class: u32, value: Value, others: u64, best: Best) -> Best
     requires value { IsOfDomain state.old.problem class value }
@@ -59,7 +61,7 @@ fn look_at(state: &mut State, class: u32, value: Value, others: u64, best: Best)
     }
 }
 
-/// The first of a class's free values with the least total, where that is below the present total.
+// The first of a class's free values with the least total, where that is below the present total.
 fn lower_value(state: &mut State, class: u32) -> Option<Value>
     requires { class < length state.old.problem.classes }
     ensures problem { state.new.problem ≡ state.old.problem }
@@ -80,8 +82,8 @@ fn lower_value(state: &mut State, class: u32) -> Option<Value>
     best.value
 }
 
-/// A round on a class, in the last step: it gets the best of its free values, where the total falls.
-/// Whether it does.
+// A round on a class, in the last step: it gets the best of its free values, where the total falls.
+// Whether it does.
 pub(crate) fn move_class(state: &mut State, class: u32) -> Result<bool, AllocError>
     requires class { IsMovable state.old.problem state.old.present class }
     requires step { 0 < length (earlier state.old) }

@@ -1,7 +1,9 @@
+//! Rounds on students: the least choice of a course replaces a student's own.
+
 ghost use Rattle.std.specs.Prelude.{◌≡◌, ◌<◌, ◌≤◌, ◌++◌, [], None, Some, IfOk, IfSome, OnOk, cond, false, length, take};
 ghost use Rattle.std.specs.Option.{option_map};
 ghost use Rattle.tt_state.specs.History.{IsWithinStep, earlier};
-ghost use Rattle.tt_state.specs.Snapshots.{in_order, list_in, with_list};
+ghost use Rattle.tt_state.specs.Snapshots.{classes_in_order, list_in, with_list};
 ghost use Rattle.tt_choice.specs.Ready.{HasRoom};
 ghost use Rattle.tt_choice.specs.Seating.{MayGet};
 ghost use Rattle.tt_improve.specs.Courses.{moved_student, own_of, replaced_by, rest_of};
@@ -12,7 +14,7 @@ use std::alloc::{AllocError, Global};
 use tt_choice::{ChoiceBuffers, least_of_course, pairs_of, seat};
 use tt_state::State;
 
-/// The list of a student: the student's own classes of a course, and the rest.
+// The list of a student: the student's own classes of a course, and the rest.
 #[derive(Drop)]
 struct StudentList {
     own: Vec<u32>,
@@ -20,7 +22,7 @@ struct StudentList {
 }
 
 impl StudentList {
-    /// The list of a student, parted by a course.
+    // The list of a student, parted by a course.
     fn by_course(
         alloc: Global,
         state: &State,
@@ -45,9 +47,9 @@ impl StudentList {
     }
 }
 
-/// The least choice of a course that may replace a student's own classes of it beside the rest of the
-/// list, where it adds fewer pairs than these: how many classes it has, which then stand at the front
-/// of the buffer of the best.
+// The least choice of a course that may replace a student's own classes of it beside the rest of the
+// list, where it adds fewer pairs than these: how many classes it has, which then stand at the front
+// of the buffer of the best.
 fn fewer_pairs(
     state: &State,
     student: u32,
@@ -56,16 +58,16 @@ fn fewer_pairs(
     own: &[u32],
     buffers: &mut ChoiceBuffers,
 ) -> Option<usize>
-    requires object { IsSeatedIn state.now.problem state.now.present student course }
+    requires target { IsSeatedIn state.now.problem state.now.present student course }
     requires rest { rest.now ≡ rest_of state.now.problem course (list_in state.now.present student) }
     requires own { own.now ≡ own_of state.now.problem course (list_in state.now.present student) }
     requires room { HasRoom state.now.problem buffers.old }
     ensures room { HasRoom state.now.problem buffers.new }
     ensures within { IfSome result (λ size. size ≤ length buffers.new.best.items) }
     ensures choice { replaced_by state.now.problem state.now.present student course rest.now own.now
-        ≡ option_map (λ size. with_list state.now.present student (in_order (rest.now ++ take size buffers.new.best.items))) result }
+        ≡ option_map (λ size. with_list state.now.present student (classes_in_order (rest.now ++ take size buffers.new.best.items))) result }
     ensures may { IfSome result (λ size. MayGet state.now.problem state.now.present.lists student (rest.now ++ take size buffers.new.best.items)) }
-    ensures no_worse { IfSome result (λ size. IsNoWorse state.now.problem state.now.present (with_list state.now.present student (in_order (rest.now ++ take size buffers.new.best.items)))) }
+    ensures no_worse { IfSome result (λ size. IsNoWorse state.now.problem state.now.present (with_list state.now.present student (classes_in_order (rest.now ++ take size buffers.new.best.items)))) }
 {
     state.soundness();
     state.problem().validity();
@@ -80,9 +82,9 @@ fn fewer_pairs(
     }
 }
 
-/// A round on a course of a student, in the last step: the least choice of the course that may replace
-/// the student's own classes of it does so, where it adds fewer conflicting pairs. Whether it does.
-/// Most students have no pair with a course, and nothing is fewer: this is found out without memory.
+// A round on a course of a student, in the last step: the least choice of the course that may replace
+// the student's own classes of it does so, where it adds fewer conflicting pairs. Whether it does.
+// Most students have no pair with a course, and nothing is fewer: this is found out without memory.
 pub(crate) fn move_student(
     alloc: Global,
     state: &mut State,
@@ -90,7 +92,7 @@ pub(crate) fn move_student(
     course: u32,
     buffers: &mut ChoiceBuffers,
 ) -> Result<bool, AllocError>
-    requires object { IsSeatedIn state.old.problem state.old.present student course }
+    requires target { IsSeatedIn state.old.problem state.old.present student course }
     requires step { 0 < length (earlier state.old) }
     requires room { HasRoom state.old.problem buffers.old }
     ensures room { HasRoom state.old.problem buffers.new }

@@ -1,17 +1,19 @@
+//! The descent: its rounds, and `improve`.
+
 ghost use Rattle.std.specs.Prelude.{◌≡◌, ℕ, ◌+◌, ◌<◌, ◌≤◌, ◌^◌, ◌∷◌, [], None, Some, IfOk, OnOk, OnErr, cond, false, length};
 ghost use Rattle.tt_state.specs.History.{IsWithinStep, desk_of, earlier, stepped, with_taken};
 ghost use Rattle.tt_state.specs.Snapshots.{StaysLocked};
 ghost use Rattle.tt_choice.specs.Ready.{HasRoom};
 ghost use Rattle.tt_improve.specs.Classes.{totals_in};
-ghost use Rattle.tt_improve.specs.Idle.{KnowsIdle, moved_at, objects_in};
-ghost use Rattle.tt_improve.specs.Objects.{objects_of};
+ghost use Rattle.tt_improve.specs.Idle.{KnowsIdle, moved_at, targets_in};
+ghost use Rattle.tt_improve.specs.Targets.{targets_of};
 ghost use Rattle.tt_improve.specs.Rounds.{improved, moved_by};
-ghost use Rattle.tt_improve.specs.Standing.{IsNoWorse, IsObjectOf};
+ghost use Rattle.tt_improve.specs.Standing.{IsNoWorse, IsTargetOf};
 ghost use Rattle.tt_improve.specs.UnderWay.{so_far};
 
 use crate::classes::move_class;
 use crate::courses::move_student;
-use crate::objects::{Object, Objects};
+use crate::targets::{Target, Targets};
 use rand_core::Rng;
 use rand_pcg::Lcg64Xsh32;
 use std::alloc::{AllocError, Global};
@@ -26,52 +28,52 @@ pub struct Improved {
     pub changed: u32,
 }
 
-/// What a descent works with: the objects, and room for the walks over the choices of a course.
+// What a descent works with: the targets, and room for the walks over the choices of a course.
 #[derive(Drop)]
 struct Descent {
-    objects: Objects,
+    targets: Targets,
     buffers: ChoiceBuffers,
 }
 
 impl Descent {
-    /// Before the first round.
+    // Before the first round.
     fn new(alloc: Global, state: &State) -> Result<Descent, AllocError>
-        ensures objects { IfOk result (λ descent. objects_in descent.objects ≡ objects_of state.now.problem state.now.present) }
-        ensures few { IfOk result (λ descent. length (objects_in descent.objects) ≤ 2 ^ 32) }
-        ensures idle { IfOk result (λ descent. KnowsIdle state.now.problem state.now.present descent.objects 1) }
+        ensures targets { IfOk result (λ descent. targets_in descent.targets ≡ targets_of state.now.problem state.now.present) }
+        ensures few { IfOk result (λ descent. length (targets_in descent.targets) ≤ 2 ^ 32) }
+        ensures idle { IfOk result (λ descent. KnowsIdle state.now.problem state.now.present descent.targets 1) }
         ensures room { IfOk result (λ descent. HasRoom state.now.problem descent.buffers) }
     {
-        let objects = Objects::new(alloc, state)?;
+        let targets = Targets::new(alloc, state)?;
         let buffers = ChoiceBuffers::new(alloc, state.problem())?;
-        Ok(Descent { objects, buffers })
+        Ok(Descent { targets, buffers })
     }
 }
 
-/// A round on an object, in the last step. Whether it changes something.
+// A round on a target, in the last step. Whether it changes something.
 #[tactic(auto, unfolding(crate::specs::Rounds::moved_by))]
 fn make_round(
     alloc: Global,
     state: &mut State,
-    object: Object,
+    target: Target,
     buffers: &mut ChoiceBuffers,
 ) -> Result<bool, AllocError>
-    requires object { IsObjectOf state.old.problem state.old.present object }
+    requires target { IsTargetOf state.old.problem state.old.present target }
     requires step { 0 < length (earlier state.old) }
     requires room { HasRoom state.old.problem buffers.old }
     ensures room { HasRoom state.old.problem buffers.new }
     ensures step { IsWithinStep (with_taken state.old []) (with_taken state.new []) }
-    ensures moved { IfOk result (λ moved. moved_by state.old.problem state.old.present object ≡ cond moved (Some state.new.present) None) }
+    ensures moved { IfOk result (λ moved. moved_by state.old.problem state.old.present target ≡ cond moved (Some state.new.present) None) }
     ensures same { IfOk result (λ moved. moved ≡ false → state.new.present ≡ state.old.present) }
     ensures no_worse { OnOk result (IsNoWorse state.old.problem state.old.present state.new.present) }
 {
-    match object {
-        Object::Class { class } => move_class(state, class),
-        Object::Course { student, course } => move_student(alloc, state, student, course, buffers),
+    match target {
+        Target::Class { class } => move_class(state, class),
+        Target::Course { student, course } => move_student(alloc, state, student, course, buffers),
     }
 }
 
-/// A round in a stage on the object at a place, in the last step. One that is known to change nothing
-/// is left out. Whether it changes something.
+// A round in a stage on the target at a place, in the last step. One that is known to change nothing
+// is left out. Whether it changes something.
 fn make_round_at(
     alloc: Global,
     state: &mut State,
@@ -79,29 +81,29 @@ fn make_round_at(
     place: usize,
     stage: u32,
 ) -> Result<bool, AllocError>
-    requires objects { objects_in descent.old.objects ≡ objects_of state.old.problem state.old.present }
-    requires place { place < length (objects_in descent.old.objects) }
-    requires idle { KnowsIdle state.old.problem state.old.present descent.old.objects stage }
+    requires targets { targets_in descent.old.targets ≡ targets_of state.old.problem state.old.present }
+    requires place { place < length (targets_in descent.old.targets) }
+    requires idle { KnowsIdle state.old.problem state.old.present descent.old.targets stage }
     requires step { 0 < length (earlier state.old) }
     requires room { HasRoom state.old.problem descent.old.buffers }
     ensures room { HasRoom state.old.problem descent.new.buffers }
     ensures step { IsWithinStep (with_taken state.old []) (with_taken state.new []) }
-    ensures objects { objects_in descent.new.objects ≡ objects_in descent.old.objects }
-    ensures moved { IfOk result (λ moved. moved_at state.old.problem state.old.present (objects_in descent.old.objects) place ≡ cond moved (Some state.new.present) None) }
+    ensures targets { targets_in descent.new.targets ≡ targets_in descent.old.targets }
+    ensures moved { IfOk result (λ moved. moved_at state.old.problem state.old.present (targets_in descent.old.targets) place ≡ cond moved (Some state.new.present) None) }
     ensures same { IfOk result (λ moved. moved ≡ false → state.new.present ≡ state.old.present) }
-    ensures idle { IfOk result (λ moved. KnowsIdle state.old.problem state.new.present descent.new.objects (stage + cond moved 1 0)) }
+    ensures idle { IfOk result (λ moved. KnowsIdle state.old.problem state.new.present descent.new.targets (stage + cond moved 1 0)) }
     ensures no_worse { OnOk result (IsNoWorse state.old.problem state.old.present state.new.present) }
 {
-    let Some(object) = descent.objects.due(place, stage) else {
+    let Some(target) = descent.targets.due(place, stage) else {
         return Ok(false);
     };
-    let moved = make_round(alloc, state, object, &mut descent.buffers)?;
-    descent.objects.note(place, stage);
+    let moved = make_round(alloc, state, target, &mut descent.buffers)?;
+    descent.targets.note(place, stage);
     Ok(moved)
 }
 
-/// Makes rounds in the last step, until so many are made or there is no object. The watcher is told of
-/// each.
+// Makes rounds in the last step, until so many are made or there is no target. The watcher is told of
+// each.
 fn descend<W: Watcher>(
     alloc: Global,
     state: &mut State,
@@ -110,9 +112,9 @@ fn descend<W: Watcher>(
     seed: u64,
     watcher: &mut W,
 ) -> Result<Improved, AllocError>
-    requires objects { objects_in descent.old.objects ≡ objects_of state.old.problem state.old.present }
-    requires few { length (objects_in descent.old.objects) ≤ 2 ^ 32 }
-    requires idle { KnowsIdle state.old.problem state.old.present descent.old.objects 1 }
+    requires targets { targets_in descent.old.targets ≡ targets_of state.old.problem state.old.present }
+    requires few { length (targets_in descent.old.targets) ≤ 2 ^ 32 }
+    requires idle { KnowsIdle state.old.problem state.old.present descent.old.targets 1 }
     requires room { HasRoom state.old.problem descent.old.buffers }
     requires step { 0 < length (earlier state.old) }
     ensures step { IsWithinStep (with_taken state.old []) (with_taken state.new []) }
@@ -122,7 +124,7 @@ fn descend<W: Watcher>(
     let mut words = Lcg64Xsh32::new(seed, 1);
     let mut changed = 0;
     for made in 0..rounds {
-        let Some(place) = descent.objects.draw(words.next_u32()) else {
+        let Some(place) = descent.targets.draw(words.next_u32()) else {
             return Ok(Improved {
                 rounds: made,
                 changed,
@@ -138,7 +140,7 @@ fn descend<W: Watcher>(
     Ok(Improved { rounds, changed })
 }
 
-/// Makes rounds, as one step. Where memory runs out, the step is undone.
+// Makes rounds, as one step. Where memory runs out, the step is undone.
 fn improve_in_step<W: Watcher>(
     alloc: Global,
     state: &mut State,
@@ -164,7 +166,7 @@ fn improve_in_step<W: Watcher>(
     }
 }
 
-/// Improves the present snapshot by so many rounds, or until there is no object, as one step. In a
+/// Improves the present snapshot by so many rounds, or until there is no target, as one step. In a
 /// round a random word draws a placed class that isn't locked, or a course of a student who has
 /// classes. A class gets that of its values with which the total is least, among those that aren't
 /// blocked and push no class out, where the total falls. A student's classes of a course are replaced

@@ -1,3 +1,5 @@
+//! Whether a student's classes of a course conflict with other classes of the list.
+
 ghost use Rattle.std.specs.Prelude.{◌≡◌, ℕ, ◌<◌, IfSome, Some, false, length};
 ghost use Rattle.tt_travel.specs.Table.{IsRoomOf};
 ghost use Rattle.tt_bits.specs.Spots.{spot_at};
@@ -13,7 +15,7 @@ use tt_roster::conflict;
 use tt_state::State;
 use tt_travel::Travel;
 
-/// Whether a class is of a course.
+// Whether a class is of a course.
 pub(crate) fn is_of_course(problem: &Problem, course: u32, class: u32) -> bool
     requires { class < length problem.now.classes }
     ensures { result ≡ is_of_course problem.now course class }
@@ -21,7 +23,7 @@ pub(crate) fn is_of_course(problem: &Problem, course: u32, class: u32) -> bool
     course == problem.course_of(class)
 }
 
-/// Whether a class is placed and conflicts with a spot.
+// Whether a class is placed and conflicts with a spot.
 fn conflicts_at(travel: &Travel, spots: &[Option<Spot>], spot: &Spot, class: u32) -> bool
     requires rooms { (c : ℕ) → IfSome (spot_at spots.now c) (λ x. IsRoomOf travel.now x.room) }
     requires room { IsRoomOf travel.now spot.now.room }
@@ -34,7 +36,7 @@ fn conflicts_at(travel: &Travel, spots: &[Option<Spot>], spot: &Spot, class: u32
     }
 }
 
-/// Whether a class conflicts with another class of a student's list.
+// Whether a class conflicts with another class of a student's list.
 fn meets_another(state: &State, student: u32, class: u32) -> bool
     requires student { student < length state.now.problem.students }
     requires class { class < length state.now.problem.classes }
@@ -55,8 +57,8 @@ fn meets_another(state: &State, student: u32, class: u32) -> bool
     false
 }
 
-/// Whether a class of a course in a student's list conflicts with another class of the list. Where
-/// none does, the student's own classes of the course add no pair to the rest of the list.
+// Whether a class of a course in a student's list conflicts with another class of the list. Where
+// none does, the student's own classes of the course add no pair to the rest of the list.
 pub(crate) fn has_pair(state: &State, student: u32, course: u32) -> bool
     requires { student < length state.now.problem.students }
     ensures pair { result ≡ has_pair state.now.problem state.now.present course (list_in state.now.present student) }

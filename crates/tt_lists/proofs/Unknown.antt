@@ -3,19 +3,19 @@ use Rattle.std.proofs.Common.{◌≡◌, ℕ, List, [], false, Option, None, ref
 use Rattle.tt_base.specs.Limits.{most_members}
 use Rattle.tt_problem.specs.declared.parts.StudentPart.{StudentPart}
 use Rattle.tt_problem.specs.Valid.{student_ids}
-use Rattle.tt_fields.specs.Answer.{Part}
+use Rattle.tt_fields.specs.Answer.{Field}
 use Rattle.tt_fields.specs.Kinds.{a_number, a_truth, an_object, a_list, a_reference, required, or_else, new_id}
 use Rattle.tt_fields.proofs.Alike.{Alike, Any, any_alike, then_alike, after_alike, same_alike, reference_alike, each_alike, each_as_alike, ids_push}
 use Rattle.tt_lists.specs.Tables.{a_type, penalty_unless, a_place, places_in, a_rule, rules_in, a_student, students_in}
 
-member_alike : (ids : Option (List ℕ)) (p : Part) (s t : List ℕ) → Alike Any (a_place ids p s) (a_place None p t)
+member_alike : (ids : Option (List ℕ)) (p : Field) (s t : List ℕ) → Alike Any (a_place ids p s) (a_place None p t)
 unfolding a_place
 member_alike ids p s t = then_alike Any Any (a_reference ids p) (a_reference None p) _ _ (reference_alike ids p) (λ x y k. tt)
 
-places_alike : (ids : Option (List ℕ)) (items : List Part) → Alike Any (places_in ids items) (places_in None items)
+places_alike : (ids : Option (List ℕ)) (items : List Field) → Alike Any (places_in ids items) (places_in None items)
 places_alike ids items = each_alike Any (a_place ids) (a_place None) (λ p s t k. member_alike ids p s t) items [] [] tt
 
-rule_alike : (version : ℕ) (ids : Option (List ℕ)) (p : Part) → Alike Any (a_rule version ids p) (a_rule version None p)
+rule_alike : (version : ℕ) (ids : Option (List ℕ)) (p : Field) → Alike Any (a_rule version ids p) (a_rule version None p)
 unfolding a_rule
 rule_alike version ids p =
     after_alike Any (an_object p) _ _ (λ o.
@@ -25,14 +25,14 @@ rule_alike version ids p =
     after_alike Any (required (a_list 0 most_members) (codes "classes") o) _ _ (λ items.
     then_alike Any Any (places_in ids items) (places_in None items) _ _ (places_alike ids items) (λ x y k. tt))))))
 
-pub rules_alike : (version : ℕ) (ids : Option (List ℕ)) (items : List Part) → Alike Any (rules_in version ids items) (rules_in version None items)
+pub rules_alike : (version : ℕ) (ids : Option (List ℕ)) (items : List Field) → Alike Any (rules_in version ids items) (rules_in version None items)
 rules_alike version ids items = each_as_alike (a_rule version ids) (a_rule version None) (rule_alike version ids) items
 
 -- the students have the same ids
 abbrev SameStudents : List StudentPart → List StudentPart → Type 0
 SameStudents s t = student_ids s ≡ student_ids t
 
-student_alike : (ids : Option (List ℕ)) (p : Part) (s t : List StudentPart) → SameStudents s t → Alike SameStudents (a_student ids p s) (a_student None p t)
+student_alike : (ids : Option (List ℕ)) (p : Field) (s t : List StudentPart) → SameStudents s t → Alike SameStudents (a_student ids p s) (a_student None p t)
 unfolding a_student
 student_alike ids p s t same =
     after_alike SameStudents (an_object p) _ _ (λ o.
@@ -42,6 +42,6 @@ student_alike ids p s t same =
     then_alike Any SameStudents (places_in ids items) (places_in None items) _ _ (places_alike ids items) (λ x y k.
     ids_push (λ (z : StudentPart). z.id) s t (record { id = id; courses = x }) (record { id = id; courses = y }) same refl)))))
 
-pub students_alike : (ids : Option (List ℕ)) (items : List Part) → Alike Any (students_in ids items) (students_in None items)
+pub students_alike : (ids : Option (List ℕ)) (items : List Field) → Alike Any (students_in ids items) (students_in None items)
 students_alike ids items =
     any_alike SameStudents (students_in ids items) (students_in None items) (each_alike SameStudents (a_student ids) (a_student None) (student_alike ids) items [] [] refl)

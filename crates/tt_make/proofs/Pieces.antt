@@ -11,7 +11,7 @@ use Rattle.serde_json.proofs.OnLiterals.{serde_json_on_literals}
 use Rattle.tt_make.specs.Values.{num, list, word_at}
 use Rattle.tt_make.specs.Pieces.{parent_text, rooms_text, travel_text, closed_text, strength_text}
 use Rattle.tt_make.specs.Draws.{Draws, draw_each}
-use Rattle.tt_make.specs.Classes.{day_words, week_words, time, time_data, choice_data, choices, class, class_data}
+use Rattle.tt_make.specs.Classes.{day_words, week_words, time, time_data, choice_data, choices, class, made_class}
 use Rattle.tt_make.specs.Courses.{course_data, config_data, whole_data, whole_course, last_course, subpart_data}
 use Rattle.tt_make.specs.Rooms.{room, room_data, travel, unavailable, travel_entry, friday_afternoon}
 use Rattle.tt_make.specs.Students.{student, request}
@@ -59,9 +59,9 @@ pub choice_text : (id penalty : ℕ) → compact_text (choice_data id penalty) �
 unfolding serde_json_on_literals digits
 choice_text id penalty = refl
 
-pub class_text : (id : ℕ) (parent : Option ℕ) (rooms : Option (List Data)) (times : List Data) → compact_text (class_data id parent rooms times)
+pub class_text : (id : ℕ) (parent : Option ℕ) (rooms : Option (List Data)) (times : List Data) → compact_text (made_class id parent rooms times)
     ≡ (codes "{\"id\":" ++ decimal id) ++ (codes ",\"limit\":50" ++ (parent_text parent ++ (rooms_text rooms ++ (codes ",\"times\":" ++ (compact_text (list times) ++ codes "}")))))
-unfolding class_data serde_json_on_literals digits
+unfolding made_class serde_json_on_literals digits
 class_text id None None times = refl
 class_text id (Some p) None times = refl
 class_text id None (Some rooms) times = refl

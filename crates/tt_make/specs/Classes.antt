@@ -2,7 +2,7 @@
 use Rattle.std.specs.Prelude.{option_map, ℕ, ◌+◌, ◌*◌, ◌%◌, ◌==◌, List, [], ◌∷◌, false, Option, Some, None, if◌then◌else◌, codes}
 use Rattle.serde_json.specs.Data.{Data, boolean, string, object, Members, member, no_members}
 use Rattle.tt_make.specs.Draws.{Draws, ◌>>=◌, give, draw, draw_each}
-use Rattle.tt_make.specs.Values.{num, list, word_at, optional}
+use Rattle.tt_make.specs.Values.{num, list, word_at, key_if_some}
 
 -- the days that a class may meet on, Monday first
 abbrev pub day_words : List (List ℕ)
@@ -54,14 +54,14 @@ rooms_key None rest = member (codes "room") (boolean false) rest
 rooms_key (Some rooms) rest = member (codes "rooms") (list rooms) rest
 
 -- a class, from its parts
-unfoldable pub class_data : ℕ → Option ℕ → Option (List Data) → List Data → Data
-class_data id parent rooms times =
+unfoldable pub made_class : ℕ → Option ℕ → Option (List Data) → List Data → Data
+made_class id parent rooms times =
     object (member (codes "id") (num id) (member (codes "limit") (num 50)
-    (optional (codes "parent") (option_map num parent) (rooms_key rooms (member (codes "times") (list times) no_members)))))
+    (key_if_some (codes "parent") (option_map num parent) (rooms_key rooms (member (codes "times") (list times) no_members)))))
 
 -- the class with this id, of a problem with so many rooms
 unfoldable pub class : ℕ → Option ℕ → ℕ → Draws Data
 class rooms parent id = do
   times ← draw_each 0 6 (λ i. time)
   chosen ← choices rooms id
-  give (class_data id parent chosen times)
+  give (made_class id parent chosen times)

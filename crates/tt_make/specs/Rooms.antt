@@ -2,7 +2,7 @@
 use Rattle.std.specs.Prelude.{ℕ, ◌+◌, ◌-◌, ◌%◌, ◌==◌, [], ◌∷◌, Option, Some, None, if◌then◌else◌, codes}
 use Rattle.serde_json.specs.Data.{Data, string, object, member, no_members}
 use Rattle.tt_make.specs.Draws.{Draws, ◌>>=◌, give, draw}
-use Rattle.tt_make.specs.Values.{num, list, optional}
+use Rattle.tt_make.specs.Values.{num, list, key_if_some}
 
 -- an entry of travel, to this room
 abbrev pub travel_entry : ℕ → ℕ → Data
@@ -28,7 +28,7 @@ unavailable id = if id % 5 == 0 then Some (list (friday_afternoon ∷ [])) else 
 abbrev pub room_data : ℕ → Option Data → Data
 room_data id to_previous =
     object (member (codes "capacity") (num 60) (member (codes "id") (num id)
-    (optional (codes "travel") to_previous (optional (codes "unavailable") (unavailable id) no_members))))
+    (key_if_some (codes "travel") to_previous (key_if_some (codes "unavailable") (unavailable id) no_members))))
 
 -- the room with this id
 unfoldable pub room : ℕ → Draws Data

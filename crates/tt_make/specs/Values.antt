@@ -16,6 +16,6 @@ abbrev pub word_at : List (List ℕ) → ℕ → List ℕ
 word_at words k = unwrap_or (slice_get words k) []
 
 -- a key with its value, where there is one, before the other keys
-abbrev pub optional : List ℕ → Option Data → Members → Members
-optional key None rest = rest
-optional key (Some value) rest = member key value rest
+abbrev pub key_if_some : List ℕ → Option Data → Members → Members
+key_if_some key None rest = rest
+key_if_some key (Some value) rest = member key value rest

@@ -6,7 +6,7 @@ ghost use Rattle.tt_make.specs.Classes.{choice as choice_of, choice_data};
 
 use crate::append::{push_field, push_text};
 use crate::draws::draw;
-use crate::parts::Part;
+use crate::parts::Made;
 use rand_pcg::Lcg64Xsh32;
 use std::alloc::{AllocError, Global};
 
@@ -18,7 +18,7 @@ pub struct Choices {
     pub ghost few: { rooms ≤ 2002 },
 }
 
-impl Part for Choices {
+impl Made for Choices {
     ghost made = { λ choices i. choice_of choices.rooms };
 
     ghost covers = { λ choices i. ⊤ };
@@ -37,6 +37,7 @@ impl Part for Choices {
     }
 }
 
+// Appends a choice of a room: its id and its penalty.
 fn push_choice(out: &mut Vec<u8>, id: u32, penalty: u32) -> Result<(), AllocError>
     ensures { OnOk result (out.new.items ≡ out.old.items ++ compact_text (choice_data id penalty)) }
 {

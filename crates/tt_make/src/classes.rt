@@ -7,7 +7,7 @@ ghost use Rattle.tt_make.specs.Pieces.{parent_text, rooms_text};
 
 use crate::append::{push_field, push_text};
 use crate::choices::Choices;
-use crate::parts::{Part, push_list};
+use crate::parts::{Made, push_list};
 use crate::times::Times;
 use rand_pcg::Lcg64Xsh32;
 use std::alloc::{AllocError, Global};
@@ -28,7 +28,7 @@ pub struct Children {
     pub ghost few: { rooms ≤ 2002 },
 }
 
-impl Part for Parents {
+impl Made for Parents {
     ghost made = { λ classes id. class_of classes.rooms None id };
 
     ghost covers = { λ classes id. ⊤ };
@@ -44,7 +44,7 @@ impl Part for Parents {
     }
 }
 
-impl Part for Children {
+impl Made for Children {
     ghost made = { λ classes id. class_of classes.rooms (Some (id - 2)) id };
 
     ghost covers = { λ classes id. 3 ≤ id };
@@ -60,7 +60,7 @@ impl Part for Children {
     }
 }
 
-/// Draws a class and appends its text. The times are drawn before the rooms, and stand behind them.
+// Draws a class and appends its text. The times are drawn before the rooms, and stand behind them.
 fn push_class(
     alloc: Global,
     out: &mut Vec<u8>,
@@ -86,6 +86,7 @@ fn push_class(
     Ok(())
 }
 
+// Appends the parent of a class, where it has one.
 fn push_parent(out: &mut Vec<u8>, parent: Option<u32>) -> Result<(), AllocError>
     ensures { OnOk result (out.new.items ≡ out.old.items ++ parent_text parent) }
 {
@@ -95,6 +96,7 @@ fn push_parent(out: &mut Vec<u8>, parent: Option<u32>) -> Result<(), AllocError>
     }
 }
 
+// Appends the rooms of a class, which are drawn, or that it needs none.
 #[tactic(auto, unfolding(crate::specs::Classes::choices), using(std::proofs::Common::append_assoc))]
 fn push_rooms(
     alloc: Global,

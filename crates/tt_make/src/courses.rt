@@ -8,7 +8,7 @@ ghost use Rattle.tt_make.specs.Courses.{course as course_of, course_count as cou
 
 use crate::append::{push_field, push_text};
 use crate::classes::{Children, Parents};
-use crate::parts::{Part, push_list};
+use crate::parts::{Made, push_list};
 use rand_pcg::Lcg64Xsh32;
 use std::alloc::{AllocError, Global};
 
@@ -21,7 +21,7 @@ pub struct Courses {
     pub ghost few: { rooms ≤ 2002 },
 }
 
-impl Part for Courses {
+impl Made for Courses {
     ghost made = { λ courses k. course_of courses.rooms courses.classes k };
 
     ghost covers = { λ courses k. (1 ≤ k) × (k ≤ 5000) };
@@ -54,6 +54,7 @@ pub fn course_count(classes: u32) -> u32
     }
 }
 
+// Appends a course of four classes, two and a child of each.
 fn push_whole(
     alloc: Global,
     out: &mut Vec<u8>,
@@ -86,6 +87,7 @@ fn push_whole(
     Ok(())
 }
 
+// Appends the last course, which has a subpart of so many classes alone.
 fn push_last(
     alloc: Global,
     out: &mut Vec<u8>,
@@ -118,8 +120,8 @@ fn push_last(
     Ok(())
 }
 
-/// Draws a subpart with so many classes, from the id `from` on, and appends its text.
-fn push_subpart<P: Part>(
+// Draws a subpart with so many classes, from the id `from` on, and appends its text.
+fn push_subpart<P: Made>(
     alloc: Global,
     out: &mut Vec<u8>,
     words: &mut Lcg64Xsh32,

@@ -1,3 +1,5 @@
+//! The draw of a number by the next random word.
+
 ghost use Rattle.std.specs.Prelude.{◌≡◌, ◌<◌};
 ghost use Rattle.tt_make.specs.Draws.{draw as draw_of};
 

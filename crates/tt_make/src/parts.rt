@@ -11,7 +11,7 @@ use rand_pcg::Lcg64Xsh32;
 use std::alloc::{AllocError, Global};
 
 /// What is made by drawing, one for each number of a range.
-pub trait Part {
+pub trait Made {
     /// What is made for a number.
     ghost made: { Self → ℕ → Draws Data };
 
@@ -32,7 +32,7 @@ pub trait Part {
 }
 
 /// Appends the text of the list of the parts for `from` and the numbers after it, `count` in all.
-pub fn push_list<P: Part>(
+pub fn push_list<P: Made>(
     alloc: Global,
     out: &mut Vec<u8>,
     words: &mut Lcg64Xsh32,

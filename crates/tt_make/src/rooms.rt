@@ -8,7 +8,7 @@ ghost use Rattle.tt_make.specs.Pieces.{closed_text, travel_text};
 
 use crate::append::{push_field, push_text};
 use crate::draws::draw;
-use crate::parts::Part;
+use crate::parts::Made;
 use rand_pcg::Lcg64Xsh32;
 use std::alloc::{AllocError, Global};
 
@@ -16,7 +16,7 @@ use std::alloc::{AllocError, Global};
 #[derive(Drop)]
 pub struct Rooms;
 
-impl Part for Rooms {
+impl Made for Rooms {
     ghost made = { λ rooms id. room_of id };
 
     ghost covers = { λ rooms id. 1 ≤ id };
@@ -36,6 +36,7 @@ impl Part for Rooms {
     }
 }
 
+// The travel to the room before this one, a drawn number of slots; none for the first room.
 #[tactic(auto, unfolding(crate::specs::Rooms::travel))]
 fn push_travel(out: &mut Vec<u8>, words: &mut Lcg64Xsh32, id: u32) -> Result<(), AllocError>
     requires { 1 ≤ id }
@@ -49,6 +50,7 @@ fn push_travel(out: &mut Vec<u8>, words: &mut Lcg64Xsh32, id: u32) -> Result<(),
     push_entry(out, id - 1, 1 + steps)
 }
 
+// Appends the one entry of the travel.
 fn push_entry(out: &mut Vec<u8>, room: u32, value: u32) -> Result<(), AllocError>
     ensures { OnOk result (out.new.items ≡ out.old.items ++ travel_text (Some (list (travel_entry room value ∷ [])))) }
 {
@@ -58,6 +60,7 @@ fn push_entry(out: &mut Vec<u8>, room: u32, value: u32) -> Result<(), AllocError
     Ok(())
 }
 
+// Appends that a room is closed on Friday afternoons, where it is.
 fn push_unavailable(out: &mut Vec<u8>, id: u32) -> Result<(), AllocError>
     ensures { OnOk result (out.new.items ≡ out.old.items ++ closed_text id) }
 {

@@ -9,7 +9,7 @@ ghost use Rattle.tt_make.specs.Pieces.{strength_text};
 
 use crate::append::{push_field, push_text, push_word};
 use crate::draws::draw;
-use crate::parts::Part;
+use crate::parts::Made;
 use rand_pcg::Lcg64Xsh32;
 use std::alloc::{AllocError, Global};
 
@@ -17,7 +17,7 @@ use std::alloc::{AllocError, Global};
 #[derive(Drop)]
 pub struct Rules;
 
-impl Part for Rules {
+impl Made for Rules {
     ghost made = { λ rules j. rule_of j };
 
     ghost covers = { λ rules j. j < 10000 };
@@ -40,6 +40,7 @@ impl Part for Rules {
     }
 }
 
+// The types that come in turn, as a problem file writes them.
 const TYPES: [&str; 19] = [
     "SameStart",
     "SameTime",
@@ -62,6 +63,7 @@ const TYPES: [&str; 19] = [
     "MaxBlock(48,6)",
 ];
 
+// The type at a place, counted from 0.
 fn type_word(k: u32) -> &'static str
     requires { k < 19 }
     ensures { result.now ≡ word_at type_words k }
@@ -69,6 +71,7 @@ fn type_word(k: u32) -> &'static str
     TYPES[k as usize]
 }
 
+// Appends a rule over the classes of a course, of the type that comes in turn.
 fn push_turn(out: &mut Vec<u8>, k: u32, penalty: u32) -> Result<(), AllocError>
     requires first { 1 ≤ k }
     requires last { k ≤ 5000 }
@@ -82,7 +85,7 @@ fn push_turn(out: &mut Vec<u8>, k: u32, penalty: u32) -> Result<(), AllocError>
     Ok(())
 }
 
-/// Appends the list of the four classes of course k.
+// Appends the list of the four classes of course k.
 fn push_four(out: &mut Vec<u8>, k: u32) -> Result<(), AllocError>
     requires first { 1 ≤ k }
     requires last { k ≤ 5000 }
@@ -96,7 +99,7 @@ fn push_four(out: &mut Vec<u8>, k: u32) -> Result<(), AllocError>
     Ok(())
 }
 
-/// Appends that the rule on course k is required, or its penalty.
+// Appends that the rule on course k is required, or its penalty.
 fn push_strength(out: &mut Vec<u8>, k: u32, penalty: u32) -> Result<(), AllocError>
     requires { 1 ≤ k }
     ensures { OnOk result (out.new.items ≡ out.old.items ++ strength_text k penalty) }
@@ -108,6 +111,7 @@ fn push_strength(out: &mut Vec<u8>, k: u32, penalty: u32) -> Result<(), AllocErr
     }
 }
 
+// Appends the rule of SameAttendees over a class of a course and its child.
 fn push_attendees(out: &mut Vec<u8>, k: u32) -> Result<(), AllocError>
     requires first { 1 ≤ k }
     requires last { k ≤ 5000 }

@@ -6,7 +6,7 @@ ghost use Rattle.tt_make.specs.Students.{student as student_of, request as reque
 
 use crate::append::{push_field, push_text};
 use crate::draws::draw;
-use crate::parts::{Part, push_list};
+use crate::parts::{Made, push_list};
 use rand_pcg::Lcg64Xsh32;
 use std::alloc::{AllocError, Global};
 
@@ -18,7 +18,7 @@ pub struct Students {
     pub ghost few: { courses ≤ 5000 },
 }
 
-/// The courses that a student asks for.
+// The courses that a student asks for.
 #[derive(Drop)]
 struct Requests {
     courses: u32,
@@ -26,7 +26,7 @@ struct Requests {
     ghost few: { courses ≤ 5000 },
 }
 
-impl Part for Students {
+impl Made for Students {
     ghost made = { λ students id. student_of students.courses id };
 
     ghost covers = { λ students id. ⊤ };
@@ -49,7 +49,7 @@ impl Part for Students {
     }
 }
 
-impl Part for Requests {
+impl Made for Requests {
     ghost made = { λ requests i. request_of requests.courses };
 
     ghost covers = { λ requests i. ⊤ };

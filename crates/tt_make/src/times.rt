@@ -7,7 +7,7 @@ ghost use Rattle.tt_make.specs.Classes.{day_words, week_words, time as time_of, 
 
 use crate::append::{push_field, push_text, push_word};
 use crate::draws::draw;
-use crate::parts::Part;
+use crate::parts::Made;
 use rand_pcg::Lcg64Xsh32;
 use std::alloc::{AllocError, Global};
 
@@ -15,7 +15,7 @@ use std::alloc::{AllocError, Global};
 #[derive(Drop)]
 pub struct Times;
 
-impl Part for Times {
+impl Made for Times {
     ghost made = { λ times i. time_of };
 
     ghost covers = { λ times i. ⊤ };
@@ -44,13 +44,16 @@ impl Part for Times {
     }
 }
 
+// The sets of days of which one is drawn.
 const DAYS: [&str; 9] = [
     "1010000", "0101000", "1001000", "0010100", "1000000", "0100000", "0010000", "0001000",
     "0000100",
 ];
 
+// The sets of weeks of which one is drawn: all, or every second one.
 const WEEKS: [&str; 3] = ["1111111111111", "1010101010101", "0101010101010"];
 
+// The set of days at a place, counted from 0.
 fn day_word(k: u32) -> &'static str
     requires { k < 9 }
     ensures { result.now ≡ word_at day_words k }
@@ -58,6 +61,7 @@ fn day_word(k: u32) -> &'static str
     DAYS[k as usize]
 }
 
+// The set of weeks at a place, counted from 0.
 fn week_word(k: u32) -> &'static str
     requires { k < 3 }
     ensures { result.now ≡ word_at week_words k }
@@ -65,7 +69,7 @@ fn week_word(k: u32) -> &'static str
     WEEKS[k as usize]
 }
 
-/// The numbers that are drawn for a time, each counted from 0.
+// The numbers that are drawn for a time, each counted from 0.
 #[derive(Clone, Copy)]
 struct DrawnTime {
     days: u32,
@@ -75,6 +79,7 @@ struct DrawnTime {
     penalty: u32,
 }
 
+// Appends a time that was drawn.
 fn push_time(out: &mut Vec<u8>, drawn: DrawnTime) -> Result<(), AllocError>
     requires days { drawn.days < 9 }
     requires start { drawn.start < 10 }

@@ -21,7 +21,7 @@ use tt_pool::{Items, Pool};
 #[derive(Drop)]
 pub struct Occupancy {
     spots: Vec<Option<Spot>>,
-    /// The placed classes of each room, in order.
+    // The placed classes of each room, in order.
     by_room: Pool,
     rooms: u32,
     clashes: u64,
@@ -145,7 +145,7 @@ pub fn clashes_in_room(spots: &[Option<Spot>], except: u32, spot: &Spot, class: 
         }
 }
 
-/// Gives a class that has no spot this one, and puts it into the list of its room.
+// Gives a class that has no spot this one, and puts it into the list of its room.
 fn enter(spots: &mut [Option<Spot>], by_room: &mut Pool, class: u32, spot: Spot)
     requires listed { AreListed spots.old by_room.old }
     requires place { IsEmptyAt spots.old class }
@@ -161,7 +161,7 @@ fn enter(spots: &mut [Option<Spot>], by_room: &mut Pool, class: u32, spot: Spot)
     }
 }
 
-/// Takes its spot from a class, and the class out of the list of its room.
+// Takes its spot from a class, and the class out of the list of its room.
 fn leave(spots: &mut [Option<Spot>], by_room: &mut Pool, class: u32, spot: Spot)
     requires listed { AreListed spots.old by_room.old }
     requires place { spot_at spots.old class ≡ Some spot }

@@ -1,10 +1,12 @@
+//! Tests of where classes stand and clash.
+
 ghost use Rattle.std.specs.Prelude.{◌≡◌, IfSome};
 
 use crate::{Occupancy, clashes_in_room};
 use std::test::Fail;
 use tt_bits::{Days, Spot, Time, Weeks};
 
-/// A spot of 5 slots on both of two days.
+// A spot of 5 slots on both of two days.
 fn spot(weeks: &str, start: u16, room: Option<u32>) -> Option<Spot>
     ensures { IfSome result (λ x. x.room ≡ room) }
 {

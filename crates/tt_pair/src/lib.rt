@@ -56,7 +56,7 @@ impl PairGroup {
         })
     }
 
-    /// How many placed members, but for the one at the place, break the rule with the spot there.
+    // How many placed members, but for the one at the place, break the rule with the spot there.
     fn violated_with(&self, travel: &Travel, place: usize, spot: &Spot) -> u64
         requires rooms { AreRoomsOf travel.now self.now.held.items }
         requires room { IsRoomOf travel.now spot.now.room }
@@ -134,8 +134,8 @@ pub enum Listed {
     After,
 }
 
-/// How many of the other members, all listed before or all after, are placed and break the rule
-/// with the spot.
+// How many of the other members, all listed before or all after, are placed and break the rule
+// with the spot.
 fn violated_by(
     kind: PairKind,
     travel: &Travel,
@@ -179,7 +179,7 @@ pub fn is_violated_by(
     }
 }
 
-/// Whether two spots break the rule, the first that of the member listed earlier.
+// Whether two spots break the rule, the first that of the member listed earlier.
 #[tactic(auto, unfolding(crate::specs::ViolatedPairs::is_violated))]
 fn is_violated(kind: PairKind, travel: &Travel, a: &Spot, b: &Spot) -> bool
     requires first { IsRoomOf travel.now a.now.room }

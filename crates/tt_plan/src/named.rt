@@ -1,3 +1,5 @@
+//! The value that a time and a room name, or why they name none.
+
 ghost use Rattle.std.specs.Prelude.{◌≡◌, ◌<◌, ◌≤◌, ◌==◌, IfOk, IfSome, length, position, option_and_then};
 ghost use Rattle.tt_problem.specs.Valid.{IsValidClass};
 ghost use Rattle.tt_plan.specs.Domain.{IsOfDomain, values_per_time};
@@ -16,7 +18,7 @@ pub enum NoValue {
     Room,
 }
 
-/// The first place of a room in the rooms of a class.
+// The first place of a room in the rooms of a class.
 fn first_index(rooms: &[RoomChoice], room: u32) -> Option<usize>
     ensures place { result ≡ position (λ r. r.room == room) rooms.now }
     ensures within { IfSome result (λ place. place < length rooms.now) }
@@ -24,7 +26,7 @@ fn first_index(rooms: &[RoomChoice], room: u32) -> Option<usize>
     rooms.iter().position(|choice| choice.room == room)
 }
 
-/// The same, as a value names it; `None` also where there is no room.
+// The same, as a value names it; `None` also where there is no room.
 fn first_place(rooms: &[RoomChoice], room: Option<u32>) -> Option<u16>
     requires { length rooms.now ≤ 1000 }
     ensures place { result ≡ option_and_then (λ room. position (λ r. r.room == room) rooms.now) room }
@@ -36,7 +38,7 @@ fn first_place(rooms: &[RoomChoice], room: Option<u32>) -> Option<u16>
     }
 }
 
-/// The place in the rooms of a class that the id of a room names, or that no id names.
+// The place in the rooms of a class that the id of a room names, or that no id names.
 fn room_place(problem: &Problem, part: &ClassPart, room: Option<u32>) -> Option<u16>
     requires { IsValidClass problem.now part.now }
     ensures place { result ≡ room_place problem.now part.now room }

@@ -1,11 +1,13 @@
+//! The domain of a class, and what each value stands for.
+
 ghost use Rattle.std.specs.Prelude.{◌≡◌, ◌<◌, ◌≤◌, Some, IfSome, length, max, slice_get};
 ghost use Rattle.tt_plan.specs.Domain.{IsOfDomain, IsSpotOf, domain_of, values_per_time, spot_at_value, time_penalty, room_penalty};
 
 use tt_bits::{Spot, Value};
 use tt_problem::{ClassPart, Problem};
 
-/// How many values a class has at each of its times: one for each of its rooms, and one where it
-/// needs none.
+// How many values a class has at each of its times: one for each of its rooms, and one where it
+// needs none.
 fn values_per_time(part: &ClassPart) -> u32
     requires { length part.now.rooms ≤ 1000 }
     ensures count { result ≡ values_per_time part.now }

@@ -37,7 +37,7 @@ pub fn walk(nodes: &[Node], first: Link, steps: u32) -> Link
     node
 }
 
-/// Puts a node into a chain.
+// Puts a node into a chain.
 fn attach(nodes: &mut [Node], chain: Chain, place: Place, node: Link) -> Chain
     requires chain { IsChain nodes.old (chain_of nodes.old chain) }
     requires node { node.0 < length nodes.old }
@@ -64,7 +64,7 @@ fn attach(nodes: &mut [Node], chain: Chain, place: Place, node: Link) -> Chain
     }
 }
 
-/// Takes the node at a place out of a chain.
+// Takes the node at a place out of a chain.
 fn detach(nodes: &mut [Node], chain: Chain, place: Place) -> (Chain, Link)
     requires chain { IsChain nodes.old (chain_of nodes.old chain) }
     requires place { IsPlace nodes.old chain place }
@@ -93,7 +93,7 @@ fn detach(nodes: &mut [Node], chain: Chain, place: Place) -> (Chain, Link)
     }
 }
 
-/// What two chains are after a node went from one into the other.
+// What two chains are after a node went from one into the other.
 #[derive(Clone, Copy)]
 struct Moved {
     from: Chain,
@@ -101,7 +101,7 @@ struct Moved {
     node: Link,
 }
 
-/// Moves the node at a place in one chain to a place in another.
+// Moves the node at a place in one chain to a place in another.
 fn transfer(nodes: &mut [Node], from: Chain, place: Place, to: Chain, to_place: Place) -> Moved
     requires chains { ArePair nodes.old (chain_of nodes.old from) (chain_of nodes.old to) }
     requires from { IsPlace nodes.old from place }
@@ -121,7 +121,7 @@ fn transfer(nodes: &mut [Node], from: Chain, place: Place, to: Chain, to_place: 
     Moved { from, to, node }
 }
 
-/// Puts an item into a list, in the first free node. Answers the other free nodes.
+// Puts an item into a list, in the first free node. Answers the other free nodes.
 fn put_in(
     nodes: &mut [Node],
     lists: &mut [Chain],
@@ -149,7 +149,7 @@ fn put_in(
     moved.from
 }
 
-/// Takes an item out of a list. Answers the free nodes, now with its node, and the item.
+// Takes an item out of a list. Answers the free nodes, now with its node, and the item.
 fn take_out(
     nodes: &mut [Node],
     lists: &mut [Chain],

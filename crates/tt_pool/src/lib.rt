@@ -27,10 +27,10 @@ use std::marker::Model;
 pub struct Pool {
     nodes: Vec<Node>,
     lists: Vec<Chain>,
-    /// The node before each node of a list, and behind these the last node of each list. 0 where none is.
+    // The node before each node of a list, and behind these the last node of each list. 0 where none is.
     backs: Vec<Link>,
     free: Chain,
-    /// Whether each list is in order, as it is while no item was put at a place that a caller named.
+    // Whether each list is in order, as it is while no item was put at a place that a caller named.
     ordered: bool,
 }
 

@@ -1,3 +1,5 @@
+//! The place of an item in a list that is in order.
+
 ghost use Rattle.std.specs.Prelude.{◌≡◌, ◌≤◌, length, nat_lt};
 ghost use Rattle.std.specs.List.{position_or_len};
 

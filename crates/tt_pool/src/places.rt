@@ -31,7 +31,7 @@ pub fn place_at(nodes: &[Node], chain: Chain, at: u32) -> Place
     Place { at, before }
 }
 
-/// The place of the first node in a chain that has this item, and the end where none has it.
+// The place of the first node in a chain that has this item, and the end where none has it.
 fn place_of(nodes: &[Node], chain: Chain, item: u32) -> Place
     requires { IsChain nodes.now (chain_of nodes.now chain) }
     ensures place { IsPlace nodes.now chain result }
@@ -53,7 +53,7 @@ fn place_of(nodes: &[Node], chain: Chain, item: u32) -> Place
     }
 }
 
-/// The place of the first node in a chain whose item is above this one, and the end where none is.
+// The place of the first node in a chain whose item is above this one, and the end where none is.
 fn place_above(nodes: &[Node], chain: Chain, item: u32) -> Place
     requires { IsChain nodes.now (chain_of nodes.now chain) }
     ensures place { IsPlace nodes.now chain result }

@@ -29,7 +29,7 @@ pub struct Naming {
 }
 
 impl Naming {
-    /// A line of the table of types.
+    // A line of the table of types.
     fn new(name: &'static str, since: u8, parameters: Parameters) -> Naming
         ensures name { result.name.now ≡ name.now }
         ensures since { result.since ≡ since }
@@ -42,7 +42,7 @@ impl Naming {
         }
     }
 
-    /// The lines of the pair types.
+    // The lines of the pair types.
     #[tactic(auto, unfolding(crate::specs::Kinds::naming_of))]
     fn of_pair(kind: PairKind) -> Naming
         ensures name { result.name.now ≡ (naming_of (Pair kind)).name }
@@ -69,7 +69,7 @@ impl Naming {
     }
 }
 
-/// The type that has a name, of these types.
+// The type that has a name, of these types.
 fn first_named(kinds: &[DistKind], name: &[u8]) -> Option<DistKind>
     ensures { result ≡ find (λ kind. bytes_eq name.now (naming_of kind).name) kinds.now }
 {
@@ -118,7 +118,7 @@ static PLAIN_TYPES: [DistKind; 13] = [
     },
 ];
 
-/// The type without parameters that has a name.
+// The type without parameters that has a name.
 #[tactic(auto, unfolding(crate::specs::Kinds::named, crate::specs::Kinds::kinds_with))]
 fn plain_named(name: &[u8]) -> Option<DistKind>
     ensures { result ≡ named name.now Plain }
@@ -126,7 +126,7 @@ fn plain_named(name: &[u8]) -> Option<DistKind>
     first_named(&PLAIN_TYPES, name)
 }
 
-/// The type with this parameter that has a name.
+// The type with this parameter that has a name.
 #[tactic(auto, unfolding(crate::specs::Kinds::named, crate::specs::Kinds::kinds_with))]
 fn named_with_one(name: &[u8], n: u16) -> Option<DistKind>
     ensures { result ≡ named name.now (One n) }
@@ -145,7 +145,7 @@ fn named_with_one(name: &[u8], n: u16) -> Option<DistKind>
     first_named(&kinds, name)
 }
 
-/// The type with these two parameters that has a name.
+// The type with these two parameters that has a name.
 #[tactic(auto, unfolding(crate::specs::Kinds::named, crate::specs::Kinds::kinds_with))]
 fn named_with_two(name: &[u8], m: u16, n: u16) -> Option<DistKind>
     ensures { result ≡ named name.now (Two m n) }
@@ -235,7 +235,7 @@ impl DistKind {
         }
     }
 
-    /// Whether this is its name.
+    // Whether this is its name.
     fn has_name(self, name: &[u8]) -> bool
         ensures { result ≡ bytes_eq name.now (naming_of self).name }
     {

@@ -1,3 +1,5 @@
+//! The problem, and what it tells of its parts.
+
 ghost use Rattle.std.specs.Prelude.{◌≡◌, ◌<◌, ◌≤◌, length, map, slice_get, slice_index, Some, IfOk, IfSome};
 ghost use Rattle.tt_travel.specs.Table.{most_rooms};
 ghost use Rattle.tt_problem.specs.Spans.{IsSpanWithin};
@@ -304,7 +306,7 @@ impl Problem {
     }
 }
 
-/// Where an id stands, and `None` where it is unknown.
+// Where an id stands, and `None` where it is unknown.
 fn place_of_id(ids: &IndexSet<u32>, id: u32) -> Option<u32>
     requires { length ids.now.keys ≤ 100000 }
     ensures place { result ≡ place_of_id ids.now.keys id }

@@ -12,7 +12,7 @@ use crate::parts::{ClassPart, CoursePart, Parts, Rule, Span, StudentPart, TimeCh
 use std::alloc::{AllocError, Global};
 use tt_base::Row;
 
-/// How many cells of the term a time takes, a cell being one day of one week.
+// How many cells of the term a time takes, a cell being one day of one week.
 fn time_cells(choice: &TimeChoice) -> u32
     ensures cells { result ≡ time_cells choice.now }
     ensures few { result ≤ 896 }
@@ -68,7 +68,7 @@ pub fn cell_table(alloc: Global, parts: &Parts) -> Result<Row<u16>, AllocError>
     Ok(Row::from_vec(cells))
 }
 
-/// The most cells that the members of a rule take together, by the most of each class.
+// The most cells that the members of a rule take together, by the most of each class.
 fn links_of_rule(cells: &[u16], rule: &Rule) -> u32
     requires few { All (λ most. most ≤ 896) cells.now }
     requires short { length rule.now.members ≤ most_members }
@@ -100,7 +100,7 @@ pub fn links_of(parts: &Parts, cells: &[u16]) -> u64
     sum
 }
 
-/// The greatest number of subparts of a configuration of a course.
+// The greatest number of subparts of a configuration of a course.
 #[tactic(auto, using(crate::proofs::SumLemmas::span_in), unfolding(crate::specs::Seats::most_of_course))]
 fn most_of_course(parts: &Parts, course: &CoursePart) -> u32
     requires within { IsSpanWithin (length parts.now.configs) course.now.configs }

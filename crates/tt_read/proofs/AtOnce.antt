@@ -8,7 +8,7 @@ use Rattle.tt_problem.specs.declared.parts.StudentPart.{StudentPart}
 use Rattle.tt_problem.specs.declared.parts.Parts.{Parts}
 use Rattle.tt_problem.specs.Valid.{room_ids, course_ids, class_ids}
 use Rattle.tt_base.specs.Chain.{◌>>=◌}
-use Rattle.tt_fields.specs.Answer.{Part, Fault}
+use Rattle.tt_fields.specs.Answer.{Field, Fault}
 use Rattle.tt_fields.specs.Kinds.{an_object, a_list, required, or_else}
 use Rattle.tt_fields.specs.List.{items_of}
 use Rattle.tt_fields.proofs.Alike.{Alike, Any, read_too}
@@ -53,14 +53,14 @@ links s p is = IfOk-at_ok (Links s) is
 
 -- ---- the first pass finds the same
 
-rooms_found : (term : Term) (o : Part) (items : List Part) (ids : List ℕ) (rooms : Campus) → or_else [] (a_list 0 most_rooms) (codes "rooms") o ≡ Ok items
+rooms_found : (term : Term) (o : Field) (items : List Field) (ids : List ℕ) (rooms : Campus) → or_else [] (a_list 0 most_rooms) (codes "rooms") o ≡ Ok items
     → rooms_in (term_context term) items ≡ Ok rooms → room_ids rooms.rooms ≡ ids → room_list_of term o ≡ Ok (record { items = items; ids = ids })
 unfolding room_list_of
 rooms_found term o items ids rooms found read same =
     then (or_else [] (a_list 0 most_rooms) (codes "rooms") o) items _ _ found
     (then (rooms_in (term_context term) items) rooms _ _ read (ap (λ (l : List ℕ). Ok (record { items = items; ids = l })) same))
 
-courses_found : (term : Term) (o : Part) (items : List Part) (ids classes : List ℕ) (tree : Tree) → required (a_list 0 20000) (codes "courses") o ≡ Ok items
+courses_found : (term : Term) (o : Field) (items : List Field) (ids classes : List ℕ) (tree : Tree) → required (a_list 0 20000) (codes "courses") o ≡ Ok items
     → courses_in (term_context term) items ≡ Ok tree → course_ids tree.courses ≡ ids → class_ids tree.configs.subparts.classes ≡ classes
     → course_list_of term o ≡ Ok (record { items = items; ids = ids; class_ids = classes })
 unfolding course_list_of
@@ -70,22 +70,22 @@ courses_found term o items ids classes tree found read same also_same =
     (ap (λ (l : List ℕ). Ok (record { items = items; ids = l; class_ids = class_ids tree.configs.subparts.classes })) same
     ∙ ap (λ (l : List ℕ). Ok (record { items = items; ids = ids; class_ids = l })) also_same))
 
-list_found : {A : Type 0} (most : ℕ) (read : List Part → Result A Fault) (key : List ℕ) (o : Part) (items : List Part) (x : A) → or_else [] (a_list 0 most) key o ≡ Ok items
+list_found : {A : Type 0} (most : ℕ) (read : List Field → Result A Fault) (key : List ℕ) (o : Field) (items : List Field) (x : A) → or_else [] (a_list 0 most) key o ≡ Ok items
     → read items ≡ Ok x → checked_list most read key o ≡ Ok items
 unfolding checked_list
 list_found most read key o items x found is =
     then (or_else [] (a_list 0 most) key o) items _ _ found (then (read items) x _ _ is refl)
 
 -- what the whole value has before its lists
-weights_found : {A : Type 0} (o : Part) (weights : Weights) (f : Weights → Result A Fault) (out : Result A Fault) → (required an_object (codes "optimization") o >>= weights_of) ≡ Ok weights
+weights_found : {A : Type 0} (o : Field) (weights : Weights) (f : Weights → Result A Fault) (out : Result A Fault) → (required an_object (codes "optimization") o >>= weights_of) ≡ Ok weights
     → f weights ≡ out → (required an_object (codes "optimization") o >>= λ optimization. weights_of optimization >>= f) ≡ out
 weights_found o weights f out is rest = by_case (required an_object (codes "optimization") o) is
   where
-    by_case : (r : Result Part Fault) → (r >>= weights_of) ≡ Ok weights → (r >>= λ optimization. weights_of optimization >>= f) ≡ out
+    by_case : (r : Result Field Fault) → (r >>= weights_of) ≡ Ok weights → (r >>= λ optimization. weights_of optimization >>= f) ≡ out
     by_case (Ok x) e = then (weights_of x) weights f out e rest
     by_case (Err x) e = absurd (cc)
 
-pub shape_found : (o : Part) (s : Shape) (p : Parts) → HasLists o s → linked_of s ≡ Ok p → HasIdsOf s p → file_shape o ≡ Ok s
+pub shape_found : (o : Field) (s : Shape) (p : Parts) → HasLists o s → linked_of s ≡ Ok p → HasIdsOf s p → file_shape o ≡ Ok s
 unfolding file_shape
 shape_found o s p lists linked ids =
     let l : Links s p = links s p linked in
@@ -116,7 +116,7 @@ all_classes s p linked ids =
     classes_whole (shape_context (shape_read s)) (items_of s.courses.items) l.tree s.courses.class_ids.keys l.tree_is (sym ids.classes ∙ ap (λ (q : Parts). class_ids q.classes) l.parts)
 
 -- the parts are those of the whole value
-pub parts_are : (o : Part) (s : Shape) (p : Parts) → HasLists o s → linked_of s ≡ Ok p → HasIdsOf s p → summed o p ≡ Ok p → parts_of o ≡ Ok p
+pub parts_are : (o : Field) (s : Shape) (p : Parts) → HasLists o s → linked_of s ≡ Ok p → HasIdsOf s p → summed o p ≡ Ok p → parts_of o ≡ Ok p
 unfolding parts_of
 parts_are o s p lists linked ids sums =
     then (file_shape o) s _ _ (shape_found o s p lists linked ids) (then (linked_of s) p _ _ linked sums)

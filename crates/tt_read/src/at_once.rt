@@ -12,12 +12,12 @@ use crate::sums::third_pass;
 use indexmap::IndexSet;
 use std::alloc::{AllocError, Global};
 use tt_fields::{
-    FileFault, Part, PartList, as_object, list, list_or_none, number, object as required_object,
+    Field, FileFault, PartList, as_object, list, list_or_none, number, object as required_object,
 };
 use tt_problem::{ClassPart, CoursePart, Parts, RoomPart};
 
-/// Adds the ids of the objects that a list leads to by these keys of lists. What is gathered is
-/// compared with the ids of the parts that are read with it.
+// Adds the ids of the objects that a list leads to by these keys of lists. What is gathered is
+// compared with the ids of the parts that are read with it.
 fn gather_ids(
     items: &PartList<'_>,
     keys: &[&'static str],
@@ -38,7 +38,7 @@ fn gather_ids(
     Ok(())
 }
 
-/// The ids that a list leads to by these keys.
+// The ids that a list leads to by these keys.
 fn ids_below(
     alloc: Global,
     items: &PartList<'_>,
@@ -49,9 +49,9 @@ fn ids_below(
     Ok(ids)
 }
 
-/// The shape that the first pass finds if it finds no fault, and `None` where some id is missing or
-/// stands twice, or there are too many.
-fn likely_shape<'a>(alloc: Global, object: &'a Part<'a>) -> Result<Option<Shape<'a>>, FileFault>
+// The shape that the first pass finds if it finds no fault, and `None` where some id is missing or
+// stands twice, or there are too many.
+fn likely_shape<'a>(alloc: Global, object: &'a Field<'a>) -> Result<Option<Shape<'a>>, FileFault>
     ensures lists { IfOk result (λ found. IfSome found (λ shape. HasLists (part_of object.now) (shape_read shape))) }
     ensures valid { IfOk result (λ found. IfSome found IsShape) }
 {
@@ -92,35 +92,35 @@ fn likely_shape<'a>(alloc: Global, object: &'a Part<'a>) -> Result<Option<Shape<
     }))
 }
 
-/// The ids of the rooms, in order.
+// The ids of the rooms, in order.
 fn ids_of_rooms(alloc: Global, rooms: &[RoomPart]) -> Result<Vec<u32>, AllocError>
     ensures { IfOk result (λ ids. ids.items ≡ room_ids rooms.now) }
 {
     rooms.iter().map(|room| room.id).collect(alloc)
 }
 
-/// The ids of the courses, in order.
+// The ids of the courses, in order.
 fn ids_of_courses(alloc: Global, courses: &[CoursePart]) -> Result<Vec<u32>, AllocError>
     ensures { IfOk result (λ ids. ids.items ≡ course_ids courses.now) }
 {
     courses.iter().map(|course| course.id).collect(alloc)
 }
 
-/// The ids of the classes, in order.
+// The ids of the classes, in order.
 fn ids_of_classes(alloc: Global, classes: &[ClassPart]) -> Result<Vec<u32>, AllocError>
     ensures { IfOk result (λ ids. ids.items ≡ class_ids classes.now) }
 {
     classes.iter().map(|class| class.id).collect(alloc)
 }
 
-/// Whether these are the ids of a set, in its order.
+// Whether these are the ids of a set, in its order.
 fn are_keys(ids: &[u32], keys: &IndexSet<u32>) -> bool
     ensures { IsTrue result → ids.now ≡ keys.now.keys }
 {
     ids == keys.as_slice()
 }
 
-/// Whether the ids of the parts are those of the shape.
+// Whether the ids of the parts are those of the shape.
 fn has_ids(alloc: Global, shape: &Shape<'_>, parts: &Parts) -> Result<bool, AllocError>
     ensures { IfOk result (λ same. IsTrue same → HasIdsOf (shape_read shape.now) parts.now) }
 {
@@ -137,7 +137,7 @@ fn has_ids(alloc: Global, shape: &Shape<'_>, parts: &Parts) -> Result<bool, Allo
 /// The parts that a file has in which no fault is found so; `None` or a fault where the passes must
 /// tell.
 #[tactic(auto, using(crate::proofs::AtOnce::all_classes, crate::proofs::AtOnce::parts_are))]
-pub fn read_at_once(alloc: Global, object: &Part<'_>) -> Result<Option<Parts>, FileFault>
+pub fn read_at_once(alloc: Global, object: &Field<'_>) -> Result<Option<Parts>, FileFault>
     ensures reads { IfOk result (λ found. IfSome found (λ parts. parts_of (part_of object.now) ≡ Ok parts)) }
     ensures valid { IfOk result (λ found. IfSome found IsValid) }
 {

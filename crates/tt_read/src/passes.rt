@@ -1,3 +1,5 @@
+//! The first and the second pass: the shape of all values, then the references.
+
 ghost use Rattle.std.specs.Prelude.{◌≡◌, ◌≤◌, length, None, IfOk, codes};
 ghost use Rattle.tt_travel.specs.Table.{most_rooms};
 ghost use Rattle.tt_problem.specs.Valid.{AreValidWeights, IsValidTerm};
@@ -15,14 +17,14 @@ use indexmap::IndexSet;
 use std::alloc::Global;
 use tt_base::Row;
 use tt_fields::{
-    Fault, FileFault, Known, Part, PartList, as_object, list, list_or_none, number, number_or,
+    Fault, Field, FileFault, Known, PartList, as_object, list, list_or_none, number, number_or,
     object as required_object,
 };
 use tt_lists::{read_rules, read_students};
 use tt_problem::{Parts, Rule, StudentPart, Weights};
 use tt_tree::{Campus, Classes, Configs, Context, Subparts, Tree, read_courses, read_rooms};
 
-/// The most weeks of a term, by the version of the file's form.
+// The most weeks of a term, by the version of the file's form.
 fn most_weeks(version: u8) -> u32
     ensures most { result ≡ most_weeks_of version }
     ensures few { result ≤ 128 }
@@ -32,7 +34,7 @@ fn most_weeks(version: u8) -> u32
 
 /// The version of the form, the days of a week, and the weeks of the term.
 #[tactic(auto, unfolding(crate::specs::Tables::term_of))]
-pub fn read_term<'a>(object: &'a Part<'a>) -> Result<Term, Fault<'a>>
+pub fn read_term<'a>(object: &'a Field<'a>) -> Result<Term, Fault<'a>>
     ensures reads { Reads (λ term. term) result (term_of (part_of object.now)) }
     ensures valid { IfOk result (λ term. IsValidTerm term.nr_days term.nr_weeks) }
 {
@@ -49,7 +51,7 @@ pub fn read_term<'a>(object: &'a Part<'a>) -> Result<Term, Fault<'a>>
 
 /// The optimization weights.
 #[tactic(auto, unfolding(crate::specs::Tables::weights_of))]
-pub fn read_weights<'a>(object: &'a Part<'a>) -> Result<Weights, Fault<'a>>
+pub fn read_weights<'a>(object: &'a Field<'a>) -> Result<Weights, Fault<'a>>
     ensures reads { Reads (λ weights. weights) result (weights_of (part_of object.now)) }
     ensures valid { IfOk result AreValidWeights }
 {
@@ -65,7 +67,7 @@ pub fn read_weights<'a>(object: &'a Part<'a>) -> Result<Weights, Fault<'a>>
     })
 }
 
-/// What the first pass reads with: no reference is looked up.
+// What the first pass reads with: no reference is looked up.
 fn term_context(term: Term) -> Context<'static>
     requires { IsValidTerm term.nr_days term.nr_weeks }
     ensures context { context_of result ≡ term_context term }
@@ -86,12 +88,12 @@ pub struct RoomList<'a> {
     pub ids: IndexSet<u32>,
 }
 
-/// The rooms, with no reference looked up.
+// The rooms, with no reference looked up.
 #[tactic(auto, using(crate::proofs::Linked::ids_count), unfolding(crate::specs::Tables::room_list_of))]
 fn read_room_list<'a>(
     alloc: Global,
     term: Term,
-    object: &'a Part<'a>,
+    object: &'a Field<'a>,
 ) -> Result<RoomList<'a>, FileFault>
     requires { IsValidTerm term.nr_days term.nr_weeks }
     ensures reads { Gives room_list_read result (room_list_of term (part_of object.now)) }
@@ -112,12 +114,12 @@ pub struct CourseList<'a> {
     pub class_ids: IndexSet<u32>,
 }
 
-/// The courses, with no reference looked up.
+// The courses, with no reference looked up.
 #[tactic(auto, using(crate::proofs::Linked::ids_count), unfolding(crate::specs::Tables::course_list_of))]
 fn read_course_list<'a>(
     alloc: Global,
     term: Term,
-    object: &'a Part<'a>,
+    object: &'a Field<'a>,
 ) -> Result<CourseList<'a>, FileFault>
     requires { IsValidTerm term.nr_days term.nr_weeks }
     ensures reads { Gives course_list_read result (course_list_of term (part_of object.now)) }
@@ -139,12 +141,12 @@ fn read_course_list<'a>(
     })
 }
 
-/// The list of distributions, read with no reference looked up.
+// The list of distributions, read with no reference looked up.
 #[tactic(auto, unfolding(crate::specs::Tables::checked_list))]
 fn read_rule_list<'a>(
     alloc: Global,
     version: u8,
-    object: &'a Part<'a>,
+    object: &'a Field<'a>,
 ) -> Result<PartList<'a>, FileFault>
     ensures reads { Gives items_of result (checked_list 20000 (rules_in version None) (codes "distributions") (part_of object.now)) }
     ensures few { IfOk result (λ items. length items.values.now ≤ 20000) }
@@ -154,9 +156,9 @@ fn read_rule_list<'a>(
     Ok(items)
 }
 
-/// The list of students, read with no reference looked up.
+// The list of students, read with no reference looked up.
 #[tactic(auto, unfolding(crate::specs::Tables::checked_list))]
-fn read_student_list<'a>(alloc: Global, object: &'a Part<'a>) -> Result<PartList<'a>, FileFault>
+fn read_student_list<'a>(alloc: Global, object: &'a Field<'a>) -> Result<PartList<'a>, FileFault>
     ensures reads { Gives items_of result (checked_list 100000 (students_in None) (codes "students") (part_of object.now)) }
     ensures few { IfOk result (λ items. length items.values.now ≤ 100000) }
 {
@@ -178,7 +180,7 @@ pub struct Shape<'a> {
 
 /// The first pass: the whole value, with no reference looked up.
 #[tactic(auto, unfolding(crate::specs::Tables::file_shape))]
-pub fn first_pass<'a>(alloc: Global, object: &'a Part<'a>) -> Result<Shape<'a>, FileFault>
+pub fn first_pass<'a>(alloc: Global, object: &'a Field<'a>) -> Result<Shape<'a>, FileFault>
     ensures reads { Gives shape_read result (file_shape (part_of object.now)) }
     ensures valid { IfOk result IsShape }
     ensures classes { IfOk result HasAllClasses }
@@ -201,7 +203,7 @@ pub fn first_pass<'a>(alloc: Global, object: &'a Part<'a>) -> Result<Shape<'a>, 
     })
 }
 
-/// What the second pass reads with: the ids of the first.
+// What the second pass reads with: the ids of the first.
 fn shape_context<'a>(shape: &'a Shape<'_>) -> Context<'a>
     requires { IsShape shape.now }
     ensures context { context_of result ≡ shape_context (shape_read shape.now) }
@@ -215,7 +217,7 @@ fn shape_context<'a>(shape: &'a Shape<'_>) -> Context<'a>
     }
 }
 
-/// The parts of a problem.
+// The parts of a problem.
 fn parts_with(
     shape: &Shape<'_>,
     rooms: Campus,

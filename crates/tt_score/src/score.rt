@@ -1,3 +1,5 @@
+//! The score of a plan, kept by change.
+
 ghost use Rattle.tt_score.specs.Small.{AreSmall};
 
 use crate::classes::{ClassSums, paid_with};
@@ -398,7 +400,7 @@ impl Score {
         if total < bound { Some(total) } else { None }
     }
 
-    /// The costs of the soft rules of which a class is no member.
+    // The costs of the soft rules of which a class is no member.
     fn costs_without(&self, problem: &Problem, class: u32) -> u128
         requires fits { Fits problem.now self.now }
         requires class { class < length problem.now.classes }
@@ -414,7 +416,7 @@ impl Score {
         )
     }
 
-    /// The costs of the soft rules with a class at another spot.
+    // The costs of the soft rules with a class at another spot.
     fn costs_at(&self, problem: &Problem, class: u32, spot: Spot) -> u128
         requires fits { Fits problem.now self.now }
         requires class { class < length problem.now.classes }

@@ -91,9 +91,9 @@ section_of [] = None
 section_of (student ∷ classes) = option_map (λ s. Section s.0 s.1) (option_zip (id_of student) (ids_of classes))
 
 -- nothing
-abbrev pub alone : Command → List (List ℕ) → Option Command
-alone command [] = Some command
-alone command (word ∷ words) = None
+abbrev pub no_more_words : Command → List (List ℕ) → Option Command
+no_more_words command [] = Some command
+no_more_words command (word ∷ words) = None
 
 -- ---- the table of commands
 
@@ -114,13 +114,13 @@ abbrev pub other_command : List ℕ → List (List ℕ) → Option Command
 other_command word words =
     if bytes_eq word (codes "lock") then option_map (for_chosen LockAll Lock) (chosen_of words)
     else if bytes_eq word (codes "unlock") then option_map (for_chosen UnlockAll Unlock) (chosen_of words)
-    else if bytes_eq word (codes "undo") then alone Undo words
-    else if bytes_eq word (codes "publish") then alone Publish words
-    else if bytes_eq word (codes "draft") then alone Draft words
-    else if bytes_eq word (codes "totals") then alone Totals words
-    else if bytes_eq word (codes "violations") then alone Violations words
-    else if bytes_eq word (codes "costs") then alone Costs words
-    else if bytes_eq word (codes "quit") then alone Quit words
+    else if bytes_eq word (codes "undo") then no_more_words Undo words
+    else if bytes_eq word (codes "publish") then no_more_words Publish words
+    else if bytes_eq word (codes "draft") then no_more_words Draft words
+    else if bytes_eq word (codes "totals") then no_more_words Totals words
+    else if bytes_eq word (codes "violations") then no_more_words Violations words
+    else if bytes_eq word (codes "costs") then no_more_words Costs words
+    else if bytes_eq word (codes "quit") then no_more_words Quit words
     else question_of word words
 
 -- the command that the words of a line are, if they are in one of these forms
@@ -138,7 +138,7 @@ command_of (word ∷ words) =
     else if bytes_eq word (codes "place") then option_map (λ t. Place t.count t.seed) (turns_of words)
     else if bytes_eq word (codes "improve") then option_map (λ t. Improve t.count t.seed) (turns_of words)
     else if bytes_eq word (codes "deluge") then option_map (λ t. Deluge t.count t.seed) (turns_of words)
-    else if bytes_eq word (codes "recall") then alone Recall words
+    else if bytes_eq word (codes "recall") then no_more_words Recall words
     else if bytes_eq word (codes "close") then option_map (λ c. Close c.room c.days c.start c.length c.weeks) (closing_of words)
     else if bytes_eq word (codes "reopen") then option_map Reopen (lone_id words)
     else other_command word words

@@ -1,3 +1,5 @@
+//! The commands, and why a line gives none.
+
 use thiserror::Error;
 use tt_base::Row;
 use tt_bits::BitWord;
@@ -79,7 +81,7 @@ pub enum Command {
     Reopen {
         room: u32,
     },
-    /// Keep the class where it is, so that nothing but a command on the class itself moves it.
+    /// Keep the class where it is: a command on the class itself, `recall` and `undo` alone move it.
     Lock {
         class: u32,
     },

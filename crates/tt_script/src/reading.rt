@@ -1,5 +1,7 @@
+//! The command that the words of a line ask for.
+
 ghost use Rattle.std.specs.Prelude.{◌≡◌, ◌↔◌, ◌∷◌, [], Some, None, IfOk, IfSome, IsSome, is_some, codes, bytes_eq, false, option_map};
-ghost use Rattle.tt_script.specs.Forms.{HasDepth, IsDepth, IsSectionLine, id_of, ids_of, room_or_none, count_of, seed_of, slot_of, choice_of, turns_of, closing_of, lone_id, depth_of, suggest_of, chosen_of, for_chosen, section_of, alone, question_of, other_command, command_of};
+ghost use Rattle.tt_script.specs.Forms.{HasDepth, IsDepth, IsSectionLine, id_of, ids_of, room_or_none, count_of, seed_of, slot_of, choice_of, turns_of, closing_of, lone_id, depth_of, suggest_of, chosen_of, for_chosen, section_of, no_more_words, question_of, other_command, command_of};
 ghost use Rattle.tt_text.specs.Line.{words_of};
 
 use crate::command::{Command, Ids, LineFault};
@@ -221,7 +223,7 @@ fn only_chosen(mut words: Words<'_>) -> Option<Chosen>
 
 // The command, if no word is still to come.
 fn only_word(command: Command, mut words: Words<'_>) -> Option<Command>
-    ensures { result ≡ alone command words.entry }
+    ensures { result ≡ no_more_words command words.entry }
 {
     match words.next() {
         None => Some(command),
@@ -413,8 +415,8 @@ fn read_section(alloc: Global, mut words: Words<'_>) -> Result<Command, LineFaul
     Ok(Command::Section { student, classes })
 }
 
-/// The command that the words of a line ask for. Only that of a `section` line in its form takes
-/// memory.
+// The command that the words of a line ask for. Only that of a `section` line in its form takes
+// memory.
 pub(crate) fn read_command(alloc: Global, line: &[u8]) -> Result<Command, LineFault>
     ensures ok { IfOk result (λ command. command_of (words_of line.now) ≡ Some command) }
     ensures depth { IfOk result HasDepth }

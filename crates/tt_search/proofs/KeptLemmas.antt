@@ -22,7 +22,7 @@ use Rattle.tt_state.specs.Forced.{forced}
 use Rattle.tt_state.proofs.FitsLemmas.{forced_locks, forced_stays}
 use Rattle.tt_search.specs.Turns.{after_turn, available_values, candidates, chosen_value, forced_if, has_open_value, is_available, is_candidate, is_unplaced, price_of, turn_of}
 use Rattle.tt_search.specs.Searched.{after_turns, onward, rank_of, search_end, then_on}
-use Rattle.tt_search.specs.PlaceTurns.{Moment, TurnWords, after_forcing, after_places, all_least, burden_of, least_values, place_end, place_turn, places_after, two_words}
+use Rattle.tt_search.specs.PlaceTurns.{PlaceMoment, TurnWords, after_forcing, after_places, all_least, burden_of, least_values, place_end, place_turn, places_after, two_words}
 use Rattle.tt_search.specs.Least.{IsFirstLeast}
 use Rattle.tt_search.specs.Numbers.{IsAvailable}
 use Rattle.tt_search.proofs.ChoiceLemmas.{free_of}
@@ -131,22 +131,22 @@ pub drawn_available : (p : Parts) (s : Snapshot) (class word : ℕ) (values : Li
 drawn_available p s class word values None all from = tt
 drawn_available p s class word values (Some v) all from = each_at (IsAvailable p s class) values _ v all from
 
-drawn_free : (p : Parts) (m : Moment) (class word : ℕ) (o : Option Value) → drawn word (least_values p m class) ≡ o → IfSome o (λ v. obstacle_of p m.snapshot class v ≡ None)
+drawn_free : (p : Parts) (m : PlaceMoment) (class word : ℕ) (o : Option Value) → drawn word (least_values p m class) ≡ o → IfSome o (λ v. obstacle_of p m.snapshot class v ≡ None)
 unfolding least_values
 drawn_free p m class word None from = tt
 drawn_free p m class word (Some v) from = (drawn_available p m.snapshot class word (all_least (burden_of p m class) (available_values p m.snapshot class)) (Some v) (least_available p m.snapshot class (burden_of p m class)) from).free
 
 -- the snapshot after a class is forced, if there is a value
-snapshot_after : (p : Parts) (m : Moment) (class : ℕ) (o : Option Value) → (after_forcing p m class o).snapshot ≡ forced_if p m.snapshot class o
+snapshot_after : (p : Parts) (m : PlaceMoment) (class : ℕ) (o : Option Value) → (after_forcing p m class o).snapshot ≡ forced_if p m.snapshot class o
 snapshot_after p m class None = refl
 snapshot_after p m class (Some v) = refl
 
 -- a turn that learns leaves the classes that are locked
-place_turn_has : (p : Parts) (start : Snapshot) (words : TurnWords) (m n : Moment) → HasLocksOf start m.snapshot → place_turn p words m ≡ Some n → HasLocksOf start n.snapshot
+place_turn_has : (p : Parts) (start : Snapshot) (words : TurnWords) (m n : PlaceMoment) → HasLocksOf start m.snapshot → place_turn p words m ≡ Some n → HasLocksOf start n.snapshot
 unfolding place_turn
 place_turn_has p start words m n has is = by (drawn words.class (candidates p m.snapshot)) refl is
   where
-    forces : (class : ℕ) → Option Value → Moment
+    forces : (class : ℕ) → Option Value → PlaceMoment
     forces class o = after_forcing p m class o
 
     by : (o : Option ℕ) → drawn words.class (candidates p m.snapshot) ≡ o → option_map (λ class. after_forcing p m class (drawn words.value (least_values p m class))) o ≡ Some n → HasLocksOf start n.snapshot

@@ -16,7 +16,7 @@ use Rattle.tt_search.specs.declared.turn.Move.{Move}
 use Rattle.tt_search.specs.declared.way.Best.{Best}
 use Rattle.tt_search.specs.declared.weights.ClassWeights.{ClassWeights}
 use Rattle.tt_search.specs.Numbers.{after_move, rank_numbers}
-use Rattle.tt_search.specs.PlaceTurns.{Moment, TurnWords, after_forcing, all_least, burden_of, class_weight, least_values, place_end, place_turn, places_after, two_words}
+use Rattle.tt_search.specs.PlaceTurns.{PlaceMoment, TurnWords, after_forcing, all_least, burden_of, class_weight, least_values, place_end, place_turn, places_after, two_words}
 use Rattle.tt_search.specs.PlacingNow.{CountsOuts, burden_by, moment_after, taken_by, weight_by}
 use Rattle.tt_search.specs.Searched.{onward, rank_of}
 use Rattle.tt_search.specs.Turns.{available_values, candidates, forced_if}
@@ -77,11 +77,11 @@ unfolding then_words all_words
 two_drawn class value words middle left first second = ap (then_words class) second ∙ ap all_words first
 
 -- the turn where no word draws a class, and where one does
-pub no_class : (p : Parts) (words : TurnWords) (m : Moment) → drawn words.class (candidates p m.snapshot) ≡ None → place_turn p words m ≡ None
+pub no_class : (p : Parts) (words : TurnWords) (m : PlaceMoment) → drawn words.class (candidates p m.snapshot) ≡ None → place_turn p words m ≡ None
 unfolding place_turn
 no_class p words m none = rw none refl
 
-pub one_class : (p : Parts) (words : TurnWords) (m : Moment) (class : ℕ) (value : Option Value) → drawn words.class (candidates p m.snapshot) ≡ Some class → drawn words.value (least_values p m class) ≡ value
+pub one_class : (p : Parts) (words : TurnWords) (m : PlaceMoment) (class : ℕ) (value : Option Value) → drawn words.class (candidates p m.snapshot) ≡ Some class → drawn words.value (least_values p m class) ≡ value
     → place_turn p words m ≡ Some (after_forcing p m class value)
 unfolding place_turn
 one_class p words m class value is chosen = rw is (rw chosen refl)
@@ -100,7 +100,7 @@ pub record IsPlacing (p : Parts) (turns seed : ℕ) (start : Snapshot) (made : �
   pub outs : List ℕ
   pub counts : CountsOuts p outs w
   pub few : length outs ≤ made * 20000
-  pub way : IsUnderWay (rank_of p None) trail (map (λ (m : Moment). m.snapshot) (onward two_words (place_turn p) (turns - made) words (record { snapshot = now; outs = outs }))) best made (place_end p turns seed start) (length (places_after p turns seed start))
+  pub way : IsUnderWay (rank_of p None) trail (map (λ (m : PlaceMoment). m.snapshot) (onward two_words (place_turn p) (turns - made) words (record { snapshot = now; outs = outs }))) best made (place_end p turns seed start) (length (places_after p turns seed start))
 
 -- so no count is near its end
 pub far_off : (p : Parts) (turns seed : ℕ) (start : Snapshot) (made : ℕ) (words : Stream) (now : Snapshot) (trail : List Snapshot) (w : ClassWeights) (best : Best) → IsPlacing p turns seed start made words now trail w best
@@ -129,14 +129,14 @@ pub next_placing : (p : Parts) (turns seed : ℕ) (start : Snapshot) (made : ℕ
     → IsPlacing p turns seed start (made + 1) left next after v new
 next_placing p turns seed start made words left pair now next before after w v old new m taken on below is turn moved found leads whole more few =
     let outs = taken_by m taken ++ on.outs in
-    let moment : Moment = record { snapshot = next; outs = outs } in
+    let moment : PlaceMoment = record { snapshot = next; outs = outs } in
     let made_now = turn on.outs on.counts ∙ ap Some (after_same p now next on.outs taken m moved found) in
     let onward_is = made_turn two_words (place_turn p) turns made words left pair (record { snapshot = now; outs = on.outs }) moment below is made_now in
     record {
       outs = outs;
       counts = counts_more p on.outs (taken_by m taken) w v on.counts whole more;
       few = omega (arith, on.few, few, length-append (taken_by m taken) on.outs);
-      way = leads (map (λ (m : Moment). m.snapshot) (onward two_words (place_turn p) (turns - (made + 1)) left moment)) made _ _ (rw onward_is at on.way);
+      way = leads (map (λ (m : PlaceMoment). m.snapshot) (onward two_words (place_turn p) (turns - (made + 1)) left moment)) made _ _ (rw onward_is at on.way);
     }
 
 -- without a candidate the way is at its end
@@ -160,17 +160,17 @@ pub turn_made : (p : Parts) (turns seed : ℕ) (start : Snapshot) (made : ℕ) (
     → made < turns → (pair, left) ≡ two_words words → ((outs : List ℕ) → CountsOuts p outs w → IsSome (place_turn p pair (record { snapshot = now; outs = outs }))) → 0 < length (places_after p turns seed start)
 turn_made p turns seed start made words left pair now trail w best on below is turn = by (place_turn p pair m) refl (turn on.outs on.counts)
   where
-    m : Moment
+    m : PlaceMoment
     m = record { snapshot = now; outs = on.outs }
 
-    by : (o : Option Moment) → place_turn p pair m ≡ o → IsSome o → 0 < length (places_after p turns seed start)
+    by : (o : Option PlaceMoment) → place_turn p pair m ≡ o → IsSome o → 0 < length (places_after p turns seed start)
     by None e some = absurd (cc some)
     by (Some next) e some =
         let way = rw (made_turn two_words (place_turn p) turns made words left pair m next below is e) at on.way in
         omega (arith, way.counts)
 
 -- one leads on where a word draws a class
-pub some_turn : (p : Parts) (words : TurnWords) (m : Moment) → IsSome (drawn words.class (candidates p m.snapshot)) → IsSome (place_turn p words m)
+pub some_turn : (p : Parts) (words : TurnWords) (m : PlaceMoment) → IsSome (drawn words.class (candidates p m.snapshot)) → IsSome (place_turn p words m)
 unfolding place_turn
 some_turn p words m some = by (drawn words.class (candidates p m.snapshot)) some
   where

@@ -14,7 +14,7 @@ use Rattle.tt_search.specs.Searched.{onward, rank_of}
 use Rattle.tt_search.specs.Turns.{available_values, candidates}
 
 -- a moment on the way: a snapshot, and the classes that the turns so far took out, as often as they did
-pub record Moment : Type 0 where
+pub record PlaceMoment : Type 0 where
   pub snapshot : Snapshot
   pub outs : List ℕ
 
@@ -23,11 +23,11 @@ abbrev pub class_weight : (outs : List ℕ) → (class : ℕ) → ℕ
 class_weight outs class = 1 + count_by (nat_eq class) outs
 
 -- what the conflict set of a value weighs
-abbrev pub set_weight : Parts → Moment → (class : ℕ) → Value → ℕ
+abbrev pub set_weight : Parts → PlaceMoment → (class : ℕ) → Value → ℕ
 set_weight p m class v = sum_by (class_weight m.outs) (conflicts_of p m.snapshot class v)
 
 -- the numbers by which a value is chosen: what its conflict set weighs, and the total with the class there
-unfoldable pub burden_of : Parts → Moment → (class : ℕ) → Value → List ℕ
+unfoldable pub burden_of : Parts → PlaceMoment → (class : ℕ) → Value → List ℕ
 burden_of p m class v = set_weight p m class v ∷ total_with p m.snapshot class v ∷ []
 
 -- the items of a list that are least by their numbers: none of the list comes before them
@@ -35,11 +35,11 @@ abbrev pub all_least : {A : Type 0} → (A → List ℕ) → List A → List A
 all_least numbers xs = filter (λ x. not (list_any (λ y. is_less numbers y x) xs)) xs
 
 -- the available values of a class that are least, in the order of its domain
-unfoldable pub least_values : Parts → Moment → (class : ℕ) → List Value
+unfoldable pub least_values : Parts → PlaceMoment → (class : ℕ) → List Value
 least_values p m class = all_least (burden_of p m class) (available_values p m.snapshot class)
 
 -- the moment after a class is forced to a value, if there is one: its conflict set is taken out
-abbrev pub after_forcing : Parts → Moment → (class : ℕ) → Option Value → Moment
+abbrev pub after_forcing : Parts → PlaceMoment → (class : ℕ) → Option Value → PlaceMoment
 after_forcing p m class None = m
 after_forcing p m class (Some v) = record { snapshot = forced p m.snapshot class v; outs = conflicts_of p m.snapshot class v ++ m.outs }
 
@@ -53,12 +53,12 @@ abbrev pub two_words : Stream → TurnWords × Stream
 two_words words = let next = next_u32 words in (record { class = next.0; value = (next_u32 next.1).0 }, (next_u32 next.1).1)
 
 -- the moment after a turn, none where there is no candidate
-unfoldable pub place_turn : Parts → TurnWords → Moment → Option Moment
+unfoldable pub place_turn : Parts → TurnWords → PlaceMoment → Option PlaceMoment
 place_turn p words m =
     option_map (λ class. after_forcing p m class (drawn words.value (least_values p m class))) (drawn words.class (candidates p m.snapshot))
 
 -- the moments after each of at most so many turns, two words a turn
-abbrev pub after_places : Parts → (turns seed : ℕ) → Snapshot → List Moment
+abbrev pub after_places : Parts → (turns seed : ℕ) → Snapshot → List PlaceMoment
 after_places p turns seed s = onward two_words (place_turn p) turns (random_words seed) (record { snapshot = s; outs = [] })
 
 -- the snapshots of these

@@ -11,7 +11,7 @@ use Rattle.tt_search.specs.declared.least.Burden.{Burden}
 use Rattle.tt_search.specs.declared.least.LeastValues.{LeastValues}
 use Rattle.tt_search.specs.declared.turn.Move.{Move}
 use Rattle.tt_search.specs.declared.weights.ClassWeights.{ClassWeights}
-use Rattle.tt_search.specs.PlaceTurns.{Moment, after_forcing, all_least}
+use Rattle.tt_search.specs.PlaceTurns.{PlaceMoment, after_forcing, all_least}
 use Rattle.tt_search.specs.Turns.{is_available}
 
 -- what a class weighs, by how often each was taken out
@@ -32,7 +32,7 @@ abbrev pub taken_by : Move → (taken : List ℕ) → List ℕ
 taken_by m taken = option_map_or (λ v. taken) m.value []
 
 -- the moment after a move
-abbrev pub moment_after : Parts → Snapshot → (outs : List ℕ) → Move → Moment
+abbrev pub moment_after : Parts → Snapshot → (outs : List ℕ) → Move → PlaceMoment
 moment_after p s outs m = after_forcing p (record { snapshot = s; outs = outs }) m.class m.value
 
 -- the numbers of a burden

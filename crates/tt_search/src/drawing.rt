@@ -1,3 +1,5 @@
+//! The candidates of a turn.
+
 ghost use Rattle.std.specs.Prelude.{◌≡◌, ◌<◌, ◌∷◌, [], List, ℕ, IfOk, IsTrue, OnErr, None, false, length, slice_index_or};
 ghost use Rattle.tt_plan.specs.Domain.{IsOfDomain};
 ghost use Rattle.tt_problem.specs.declared.parts.Parts.{Parts};
@@ -14,16 +16,16 @@ use tt_flags::Flags;
 use tt_plan::{domain_size, value_at};
 use tt_state::State;
 
-/// The candidates of a turn, kept while classes are forced to values.
+// The candidates of a turn, kept while classes are forced to values.
 #[derive(Drop)]
 pub(crate) struct Candidates {
-    /// By class, whether it has an open value.
+    // By class, whether it has an open value.
     hopeful: Vec<bool>,
-    /// By class, whether it is unplaced too, and so a candidate.
+    // By class, whether it is unplaced too, and so a candidate.
     free: Flags,
 }
 
-/// Whether a value isn't blocked.
+// Whether a value isn't blocked.
 pub(crate) fn is_open(state: &State, class: u32, value: Value) -> bool
     requires { IsOfDomain state.now.problem class value }
     ensures value { result ≡ is_open state.now.problem state.now.present.closures class value }
@@ -32,7 +34,7 @@ pub(crate) fn is_open(state: &State, class: u32, value: Value) -> bool
     state.blocked(class, value).is_none()
 }
 
-/// Whether a class has a value that isn't blocked.
+// Whether a class has a value that isn't blocked.
 #[tactic(auto, using(tt_base::proofs::ListLemmas::drop_at))]
 fn has_open_value(state: &State, class: u32) -> bool
     requires { class < length state.now.problem.classes }
@@ -47,7 +49,7 @@ fn has_open_value(state: &State, class: u32) -> bool
     false
 }
 
-/// Whether each class has an open value. Want of memory comes only where there is a class.
+// Whether each class has an open value. Want of memory comes only where there is a class.
 fn hopeful_classes(alloc: Global, state: &State) -> Result<Vec<bool>, AllocError>
     ensures whole { IfOk result (λ flags. length flags.items ≡ length state.now.problem.classes) }
     ensures hopeful { IfOk result (λ flags. (class : ℕ) → class < length state.now.problem.classes → slice_index_or flags.items class false ≡ has_open_value state.now.problem state.now.present.closures class) }
@@ -61,7 +63,7 @@ fn hopeful_classes(alloc: Global, state: &State) -> Result<Vec<bool>, AllocError
 }
 
 impl Candidates {
-    /// The candidates of the present snapshot.
+    // The candidates of the present snapshot.
     pub(crate) fn new(alloc: Global, state: &State) -> Result<Candidates, AllocError>
         ensures { IfOk result (λ c. AreCandidates state.now.problem state.now.present c []) }
     {
@@ -73,7 +75,7 @@ impl Candidates {
         Ok(candidates)
     }
 
-    /// Looks at each class.
+    // Looks at each class.
     fn look_at_all(&mut self, state: &State)
         requires kept { AreHopeful state.now.problem state.now.present.closures self.old }
         ensures { AreCandidates state.now.problem state.now.present self.new [] }
@@ -83,7 +85,7 @@ impl Candidates {
         }
     }
 
-    /// Looks at a class again. One that isn't of the problem is passed over.
+    // Looks at a class again. One that isn't of the problem is passed over.
     fn look_at(&mut self, state: &State, class: u32)
         requires kept { AreHopeful state.now.problem state.now.present.closures self.old }
         ensures kept { AreHopeful state.now.problem state.now.present.closures self.new }
@@ -98,7 +100,7 @@ impl Candidates {
             .set(class, unplaced && self.hopeful[class as usize]);
     }
 
-    /// Looks again at a class that was forced to a value, and at those that were taken out for it.
+    // Looks again at a class that was forced to a value, and at those that were taken out for it.
     pub(crate) fn follow(&mut self, state: &State, class: u32)
         requires late { AreCandidates state.now.problem state.now.present self.old (class ∷ state.now.taken) }
         ensures { AreCandidates state.now.problem state.now.present self.new [] }
@@ -109,7 +111,7 @@ impl Candidates {
         }
     }
 
-    /// The candidate that a random word draws.
+    // The candidate that a random word draws.
     pub(crate) fn drawn(&self, word: u32) -> Option<u32>
         ensures { (p : Parts) → (s : Snapshot) → AreCandidates p s self.now [] → result ≡ drawn word (candidates p s) }
     {

@@ -1,3 +1,5 @@
+//! The values of a class with the least burden.
+
 ghost use Rattle.std.specs.Prelude.{◌≡◌, ◌≢◌, ◌<◌, ◌≤◌, ◌^◌, ◌∷◌, ◌++◌, [], ℕ, List, true, false, None, IfNone, IfSome, IsTrue, OnOk, OnErr, length};
 ghost use Rattle.std.specs.List.{filter};
 ghost use Rattle.tt_draw.specs.Words.{drawn};
@@ -17,15 +19,15 @@ use tt_draw::draw;
 use tt_plan::{domain_size, value_at};
 use tt_state::State;
 
-/// What a value is chosen by, compared field by field: what its conflict set weighs, and the total with
-/// the class there.
+// What a value is chosen by, compared field by field: what its conflict set weighs, and the total with
+// the class there.
 #[derive(Clone, Copy, Debug, PartialEq, Eq, PartialOrd, Ord)]
 pub(crate) struct Burden {
     pub weight: u128,
     pub total: u128,
 }
 
-/// The values of a class that are least so far, in the order of its domain, and their burden.
+// The values of a class that are least so far, in the order of its domain, and their burden.
 #[derive(Drop)]
 pub(crate) struct LeastValues {
     least: Option<Burden>,
@@ -40,8 +42,8 @@ impl Burden {
     }
 }
 
-/// The total with a class at a value, and none where it is above a bound. `others` are the student
-/// conflicts without the class.
+// The total with a class at a value, and none where it is above a bound. `others` are the student
+// conflicts without the class.
 fn total_up_to(state: &mut State, class: u32, value: Value, others: u64, most: u128) -> Option<u128>
     requires value { IsOfDomain state.old.problem class value }
     requires others { others ≡ conflicts_without state.old.problem state.old.present class }
@@ -55,8 +57,8 @@ fn total_up_to(state: &mut State, class: u32, value: Value, others: u64, most: u
     }
 }
 
-/// The total with a class at a value whose weight is this, and none where its burden is then above the
-/// least so far.
+// The total with a class at a value whose weight is this, and none where its burden is then above the
+// least so far.
 fn total_within(
     state: &mut State,
     class: u32,
@@ -83,8 +85,8 @@ fn total_within(
     Some(state.trial(class, value))
 }
 
-/// Finds the conflict set of a class at a value that isn't blocked, unless it has more classes than the
-/// least so far weighs. Whether it was found.
+// Finds the conflict set of a class at a value that isn't blocked, unless it has more classes than the
+// least so far weighs. Whether it was found.
 #[tactic(auto, using(crate::proofs::LeastLemmas::lies_heavier))]
 fn find_within(state: &mut State, class: u32, value: Value, least: Option<Burden>) -> bool
     requires value { IsOfDomain state.old.problem class value }
@@ -102,9 +104,9 @@ fn find_within(state: &mut State, class: u32, value: Value, least: Option<Burden
     find_lighter(state, class, value, least.weight)
 }
 
-/// The burden of a value that isn't blocked, and none where the value is held or its burden is above
-/// the least so far. `others` are the student conflicts without the class. The conflict set is given up
-/// once it weighs more, and the total is asked for only where it may tell.
+// The burden of a value that isn't blocked, and none where the value is held or its burden is above
+// the least so far. `others` are the student conflicts without the class. The conflict set is given up
+// once it weighs more, and the total is asked for only where it may tell.
 fn burden_within(
     state: &mut State,
     weights: &ClassWeights,
@@ -133,7 +135,7 @@ fn burden_within(
 }
 
 impl LeastValues {
-    /// No value.
+    // No value.
     pub(crate) fn new(alloc: Global) -> LeastValues {
         LeastValues {
             least: None,
@@ -141,7 +143,7 @@ impl LeastValues {
         }
     }
 
-    /// Forgets the values.
+    // Forgets the values.
     fn clear(&mut self)
         ensures { (numbers : Value → List ℕ) → AreLeast numbers [] self.new }
     {
@@ -149,7 +151,7 @@ impl LeastValues {
         self.values.clear();
     }
 
-    /// Has this value alone.
+    // Has this value alone.
     fn set(&mut self, burden: Burden, value: Value) -> Result<(), AllocError>
         ensures least { self.new.least ≡ Some burden }
         ensures values { OnOk result (self.new.values.items ≡ value ∷ []) }
@@ -160,8 +162,8 @@ impl LeastValues {
         Ok(())
     }
 
-    /// Takes a value in by its burden: it is passed over where that is above the least so far, and the
-    /// others go where it is below.
+    // Takes a value in by its burden: it is passed over where that is above the least so far, and the
+    // others go where it is below.
     fn take(&mut self, burden: Burden, value: Value) -> Result<(), AllocError>
         ensures { OnOk result ((numbers : Value → List ℕ) (xs : List Value) → burden_numbers burden ≡ numbers value → AreLeast numbers xs self.old
             → AreLeast numbers (xs ++ value ∷ []) self.new) }
@@ -179,8 +181,8 @@ impl LeastValues {
         Ok(())
     }
 
-    /// Looks at a value, which is passed over where something stands in its way, and for which no memory
-    /// is wanted then. `others` are the student conflicts without the class.
+    // Looks at a value, which is passed over where something stands in its way, and for which no memory
+    // is wanted then. `others` are the student conflicts without the class.
     fn look_at(
         &mut self,
         state: &mut State,
@@ -208,8 +210,8 @@ impl LeastValues {
         }
     }
 
-    /// Finds the values of a class that are least among those in whose way nothing stands. Want of memory
-    /// comes only where there is one.
+    // Finds the values of a class that are least among those in whose way nothing stands. Want of memory
+    // comes only where there is one.
     pub(crate) fn find(
         &mut self,
         state: &mut State,
@@ -234,7 +236,7 @@ impl LeastValues {
         Ok(())
     }
 
-    /// The value that a random word draws.
+    // The value that a random word draws.
     pub(crate) fn drawn(&self, word: u32) -> Option<Value>
         requires { length self.now.values.items ≤ 1000000 }
         ensures { result ≡ drawn word self.now.values.items }

@@ -1,3 +1,5 @@
+//! `place`: turns that learn which classes are hard.
+
 ghost use Rattle.std.specs.Prelude.{◌≡◌, ◌<◌, ◌∷◌, [], None, ℕ, List, IfOk, IfSome, IsSome, OnOk, OnErr, length};
 ghost use Rattle.std.specs.Option.{option_map};
 ghost use Rattle.tt_state.specs.History.{IsWithinStep, desk_of, earlier, stepped, trail, with_taken};
@@ -24,7 +26,7 @@ use std::alloc::{AllocError, Global};
 use tt_state::State;
 use tt_watch::Watcher;
 
-/// What moves are chosen by.
+// What moves are chosen by.
 #[derive(Drop)]
 struct Chooser {
     weights: ClassWeights,
@@ -32,7 +34,7 @@ struct Chooser {
 }
 
 impl Chooser {
-    /// Before the first turn.
+    // Before the first turn.
     fn new(alloc: Global, state: &State) -> Result<Chooser, AllocError>
         ensures { IfOk result (λ chooser. CountsOuts state.now.problem [] chooser.weights) }
     {
@@ -41,8 +43,8 @@ impl Chooser {
         Ok(Chooser { weights, least })
     }
 
-    /// The class of the turn with two random words, and the value that it is forced to, if it has an
-    /// available one. None where there is no candidate. Want of memory comes only where there is one.
+    // The class of the turn with two random words, and the value that it is forced to, if it has an
+    // available one. None where there is no candidate. Want of memory comes only where there is one.
     fn next_move(
         &mut self,
         state: &mut State,
@@ -70,8 +72,8 @@ impl Chooser {
     }
 }
 
-/// Makes turns in the last step, until so many are made or there is no candidate. The watcher is told
-/// of each. The answer is the number of turns. Want of memory comes only where a turn is made.
+// Makes turns in the last step, until so many are made or there is no candidate. The watcher is told
+// of each. The answer is the number of turns. Want of memory comes only where a turn is made.
 fn walk<W: Watcher>(
     state: &mut State,
     way: &mut Way,
@@ -102,7 +104,7 @@ fn walk<W: Watcher>(
     Ok(turns)
 }
 
-/// Places as one step. Where memory runs out, the step is undone.
+// Places as one step. Where memory runs out, the step is undone.
 fn place_on<W: Watcher>(
     alloc: Global,
     state: &mut State,

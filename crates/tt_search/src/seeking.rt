@@ -1,3 +1,5 @@
+//! Search and repair: turns from the present snapshot on.
+
 ghost use Rattle.std.specs.Prelude.{◌≡◌, ◌<◌, ◌∷◌, [], Some, IfOk, OnOk, OnErr, length, None, ℕ};
 ghost use Rattle.std.specs.Option.{option_copied, ForSome};
 ghost use Rattle.tt_published.specs.Timetable.{IsTimetableOf};
@@ -17,8 +19,8 @@ use tt_published::Published;
 use tt_state::State;
 use tt_watch::Watcher;
 
-/// Makes turns in the last step, until so many are made or there is no candidate. The watcher is told
-/// of each. The answer is the number of turns. Want of memory comes only where a turn is made.
+// Makes turns in the last step, until so many are made or there is no candidate. The watcher is told
+// of each. The answer is the number of turns. Want of memory comes only where a turn is made.
 fn walk<W: Watcher>(
     state: &mut State,
     published: Option<&Published>,
@@ -46,7 +48,7 @@ fn walk<W: Watcher>(
     Ok(turns)
 }
 
-/// Searches or repairs, as one step. Where memory runs out, the step is undone.
+// Searches or repairs, as one step. Where memory runs out, the step is undone.
 fn seek<W: Watcher>(
     alloc: Global,
     state: &mut State,

@@ -1,3 +1,5 @@
+//! A turn: the class that is drawn, and the value of the least price.
+
 ghost use Rattle.std.specs.Prelude.{◌≡◌, ◌+◌, ◌*◌, ◌/◌, ◌≤◌, ◌<◌, ◌^◌, ◌∷◌, [], false, None, Some, IfNone, IfSome, IsTrue, length, if◌then◌else◌};
 ghost use Rattle.tt_state.specs.History.{with_taken};
 ghost use Rattle.std.specs.List.{filter};
@@ -18,22 +20,22 @@ use tt_plan::{domain_size, value_at};
 use tt_published::Published;
 use tt_state::State;
 
-/// The class of a turn, and the value that it is forced to, if it has an available one.
+// The class of a turn, and the value that it is forced to, if it has an available one.
 #[derive(Clone, Copy, Debug, PartialEq, Eq)]
 pub(crate) struct Move {
     pub class: u32,
     pub value: Option<Value>,
 }
 
-/// A value with its price.
+// A value with its price.
 #[derive(Clone, Copy, Debug, PartialEq, Eq)]
 pub(crate) struct Offer {
     pub price: Price,
     pub value: Value,
 }
 
-/// Finds the conflict set of a class at a value that isn't blocked, unless it has more classes than a
-/// weight, and so weighs more. Whether it was found.
+// Finds the conflict set of a class at a value that isn't blocked, unless it has more classes than a
+// weight, and so weighs more. Whether it was found.
 pub(crate) fn find_lighter(state: &mut State, class: u32, value: Value, weight: u128) -> bool
     requires value { IsOfDomain state.old.problem class value }
     requires open { blocked_of state.old.problem state.old.present.closures class value ≡ None }
@@ -52,8 +54,8 @@ pub(crate) fn find_lighter(state: &mut State, class: u32, value: Value, weight: 
     }
 }
 
-/// The total with a class at a value whose weight and strays are these, or none where its price is then
-/// not below another.
+// The total with a class at a value whose weight and strays are these, or none where its price is then
+// not below another.
 #[tactic(auto, unfolding(crate::specs::Turns::price_of))]
 fn total_within(
     state: &mut State,
@@ -79,7 +81,7 @@ fn total_within(
     Some(state.trial(class, value))
 }
 
-/// The offer of a value that isn't blocked, and none where the value is held.
+// The offer of a value that isn't blocked, and none where the value is held.
 #[tactic(auto, unfolding(crate::specs::Turns::price_of))]
 fn first_offer(
     state: &mut State,
@@ -111,9 +113,9 @@ fn first_offer(
     Some(Offer { price, value })
 }
 
-/// The better one of an offer and that of a value that isn't blocked, which is none where the value is
-/// held. `others` are the student conflicts without the class. The conflict set is given up once it
-/// weighs more, and the total is asked for only where it may tell.
+// The better one of an offer and that of a value that isn't blocked, which is none where the value is
+// held. `others` are the student conflicts without the class. The conflict set is given up once it
+// weighs more, and the total is asked for only where it may tell.
 #[tactic(auto, unfolding(crate::specs::Turns::price_of), using(crate::proofs::ChoiceLemmas::stays))]
 fn better_offer(
     state: &mut State,
@@ -154,8 +156,8 @@ fn better_offer(
     }
 }
 
-/// The best offer once a value was looked at, which is passed over where something stands in its way.
-/// `others` are the student conflicts without the class.
+// The best offer once a value was looked at, which is passed over where something stands in its way.
+// `others` are the student conflicts without the class.
 fn look_at(
     state: &mut State,
     published: Option<&Published>,
@@ -183,7 +185,7 @@ fn look_at(
     }
 }
 
-/// The value chosen for a class, the first of its available values with the least price.
+// The value chosen for a class, the first of its available values with the least price.
 #[tactic(auto, unfolding(crate::specs::Turns::chosen_value))]
 fn choice(state: &mut State, published: Option<&Published>, class: u32) -> Option<Value>
     requires belongs { ForSome (option_copied published) (IsTimetableOf state.old.problem) }
@@ -203,8 +205,8 @@ fn choice(state: &mut State, published: Option<&Published>, class: u32) -> Optio
     best.map(|offer| offer.value)
 }
 
-/// The class of the turn with a random word and the value that it is forced to, if it has an available
-/// one. None where there is no candidate.
+// The class of the turn with a random word and the value that it is forced to, if it has an available
+// one. None where there is no candidate.
 #[tactic(auto, unfolding(crate::specs::Turns::turn_of))]
 pub(crate) fn next_move(
     state: &mut State,

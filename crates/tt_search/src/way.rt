@@ -1,3 +1,5 @@
+//! How far the turns have come, and the best moment so far.
+
 ghost use Rattle.std.specs.Prelude.{◌≡◌, ◌+◌, ◌<◌, ◌∷◌, ◌++◌, [], IfOk, IfSome, OnOk, OnErr, length, Option, slice_get, if◌then◌else◌};
 ghost use Rattle.std.specs.Option.{option_copied, ForSome};
 ghost use Rattle.tt_published.specs.Published.{moved_in};
@@ -20,15 +22,15 @@ use tt_published::Published;
 use tt_state::State;
 use tt_watch::Progress;
 
-/// The best moment so far: its rank, and its place in the trail of the last step.
+// The best moment so far: its rank, and its place in the trail of the last step.
 #[derive(Clone, Copy, Debug, PartialEq, Eq)]
 pub(crate) struct Best {
     pub rank: Rank,
     pub mark: u64,
 }
 
-/// How far turns have come in the last step: what is kept of the present snapshot, and the best moment
-/// so far.
+// How far turns have come in the last step: what is kept of the present snapshot, and the best moment
+// so far.
 #[derive(Drop)]
 pub(crate) struct Way {
     pub candidates: Candidates,
@@ -36,7 +38,7 @@ pub(crate) struct Way {
     pub best: Best,
 }
 
-/// The present moment, where so many published classes are moved.
+// The present moment, where so many published classes are moved.
 fn moment(state: &State, moved: u32) -> Best
     ensures rank { (published : Option Timetable) → moved ≡ moved_in state.now.problem published state.now.present.plan
         → rank_numbers result.rank ≡ rank_of state.now.problem published state.now.present }
@@ -48,7 +50,7 @@ fn moment(state: &State, moved: u32) -> Best
     }
 }
 
-/// The later moment, where its rank is below that of the earlier one, and otherwise the earlier one.
+// The later moment, where its rank is below that of the earlier one, and otherwise the earlier one.
 fn better(best: Best, now: Best) -> Best
     ensures { result ≡ (if comes_before (rank_numbers now.rank) (rank_numbers best.rank) then now else best) }
 {
@@ -59,8 +61,8 @@ fn better(best: Best, now: Best) -> Best
     }
 }
 
-/// Forces the class of a move to its value, in the last step. Where it has none, a moment is added in
-/// which nothing changes.
+// Forces the class of a move to its value, in the last step. Where it has none, a moment is added in
+// which nothing changes.
 fn make(state: &mut State, next: Move) -> Result<(), AllocError>
     requires may { MayMake state.old.problem state.old.present next }
     requires step { 0 < length (earlier state.old) }
@@ -77,7 +79,7 @@ fn make(state: &mut State, next: Move) -> Result<(), AllocError>
 }
 
 impl Way {
-    /// The way from the present snapshot, before the step in which turns are made.
+    // The way from the present snapshot, before the step in which turns are made.
     pub(crate) fn new(
         alloc: Global,
         state: &State,
@@ -97,8 +99,8 @@ impl Way {
         })
     }
 
-    /// Makes a turn in the last step: makes the move, looks again at what changed, and keeps the best
-    /// moment.
+    // Makes a turn in the last step: makes the move, looks again at what changed, and keeps the best
+    // moment.
     pub(crate) fn go(
         &mut self,
         state: &mut State,
@@ -122,7 +124,7 @@ impl Way {
         Ok(())
     }
 
-    /// What a watcher is told after so many turns of so many.
+    // What a watcher is told after so many turns of so many.
     pub(crate) fn progress(&self, made: u32, of: u32) -> Progress {
         Progress::Turns {
             made,
@@ -131,8 +133,8 @@ impl Way {
         }
     }
 
-    /// Ends the last step at the best moment once so many turns were made. Where memory was wanting, the
-    /// step is taken back.
+    // Ends the last step at the best moment once so many turns were made. Where memory was wanting, the
+    // step is taken back.
     pub(crate) fn end(
         &self,
         state: &mut State,

@@ -1,3 +1,5 @@
+//! How hard each class is: what it weighs in `place`.
+
 ghost use Rattle.std.specs.Prelude.{◌≡◌, ◌+◌, ◌≤◌, ◌^◌, [], ℕ, IfOk, count_by, length, nat_eq, slice_index_or};
 ghost use Rattle.std.specs.List.{sum_by};
 ghost use Rattle.tt_search.specs.PlacingNow.{CountsOuts, taken_by, weight_by};
@@ -6,14 +8,14 @@ use crate::turn::Move;
 use std::alloc::{AllocError, Global};
 use tt_state::State;
 
-/// How hard each class is: how often the turns so far took it out. It weighs 1 more than that.
+// How hard each class is: how often the turns so far took it out. It weighs 1 more than that.
 #[derive(Drop)]
 pub(crate) struct ClassWeights {
     outs: Vec<u64>,
 }
 
 impl ClassWeights {
-    /// No class was taken out.
+    // No class was taken out.
     pub(crate) fn new(alloc: Global, state: &State) -> Result<ClassWeights, AllocError>
         ensures { IfOk result (CountsOuts state.now.problem []) }
     {
@@ -22,7 +24,7 @@ impl ClassWeights {
         Ok(ClassWeights { outs })
     }
 
-    /// What the conflict set found last weighs.
+    // What the conflict set found last weighs.
     pub(crate) fn of_taken(&self, state: &State) -> u128
         requires { length self.now.outs.items ≡ length state.now.problem.classes }
         ensures { result ≡ sum_by (weight_by self.now.outs.items) state.now.taken }
@@ -35,7 +37,7 @@ impl ClassWeights {
         weight
     }
 
-    /// Counts the classes of the conflict set found last.
+    // Counts the classes of the conflict set found last.
     fn count_taken(&mut self, state: &State)
         requires whole { length self.old.outs.items ≡ length state.now.problem.classes }
         requires room { (class : ℕ) → slice_index_or self.old.outs.items class 0 ≤ 2 ^ 63 }
@@ -49,8 +51,8 @@ impl ClassWeights {
         }
     }
 
-    /// Counts the classes that a move has taken out, which are those found last. Where it forced
-    /// nothing, there is none.
+    // Counts the classes that a move has taken out, which are those found last. Where it forced
+    // nothing, there is none.
     pub(crate) fn count_out(&mut self, state: &State, made: Move)
         requires whole { length self.old.outs.items ≡ length state.now.problem.classes }
         requires room { (class : ℕ) → slice_index_or self.old.outs.items class 0 ≤ 2 ^ 63 }

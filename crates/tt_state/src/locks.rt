@@ -36,7 +36,7 @@ pub fn lock_fault(present: &Present, class: u32) -> Option<LockFault>
     None
 }
 
-/// Whether a class may get a lock, or has one.
+// Whether a class may get a lock, or has one.
 fn may_turn(present: &Present, class: u32, lock: bool) -> bool
     ensures { result ≡ may_turn lock (snapshot_of present.now) class }
 {

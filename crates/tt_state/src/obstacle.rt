@@ -1,3 +1,5 @@
+//! Why a class can't be forced to a value.
+
 use tt_clash::Block;
 
 /// Why a class can't be forced to a value.

@@ -21,7 +21,7 @@ pub enum Beginning {
 #[derive(Drop)]
 pub struct Past {
     journal: Journal,
-    /// How many points the last step has.
+    // How many points the last step has.
     points: u64,
 }
 

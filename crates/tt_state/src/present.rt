@@ -23,7 +23,7 @@ pub struct Present {
 }
 
 impl Present {
-    /// Takes its value from a class, if it has one.
+    // Takes its value from a class, if it has one.
     fn clear(&mut self, problem: &Problem, class: u32)
         requires fits { Fits problem.now self.old.score }
         requires within { class < length problem.now.classes }
@@ -67,7 +67,7 @@ impl Present {
         self.locks[class as usize] = lock;
     }
 
-    /// Gives a student a class more.
+    // Gives a student a class more.
     fn seat(&mut self, problem: &Problem, student: u32, class: u32)
         requires fits { Fits problem.now self.old.score }
         requires may { MaySeat problem.now (snapshot_of self.old).lists student class }
@@ -77,7 +77,7 @@ impl Present {
         self.score.seat(problem, student, class);
     }
 
-    /// Takes a class from a student.
+    // Takes a class from a student.
     fn leave(&mut self, problem: &Problem, student: u32, class: u32)
         requires fits { Fits problem.now self.old.score }
         requires may { MayLeave problem.now (snapshot_of self.old).lists student class }

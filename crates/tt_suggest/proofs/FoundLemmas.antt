@@ -20,7 +20,7 @@ use Rattle.tt_suggest.specs.declared.suggestion.Rank.{Rank}
 use Rattle.tt_suggest.specs.declared.suggestion.Suggested.{Suggested}
 use Rattle.tt_suggest.specs.declared.suggestion.Suggestion.{Suggestion}
 use Rattle.tt_suggest.specs.Ranks.{rank_numbers}
-use Rattle.tt_suggest.specs.Suggestions.{rank_of, suggestion_of}
+use Rattle.tt_suggest.specs.Suggestions.{suggestion_rank, suggestion_of}
 use Rattle.tt_suggest.specs.Tree.{Node, emptied, gives_child, is_on, leaves_of, stays_at_root, tries_of}
 use Rattle.tt_suggest.specs.Walks.{AreFoundIn, child_of, leaf_of, node_of, suggestions_by, tries_by}
 use Rattle.tt_suggest.proofs.TreeLemmas.{barren_suggestions, barren_tries, child_suggestions, child_tries, leaf_leaves, leaf_tries}
@@ -34,7 +34,7 @@ pub barren_found : (p : Parts) (published : Option Timetable) (s : Snapshot) (b 
     → AreFoundIn (tries_by p s b (v ∷ [])) (suggestions_by p published s b (v ∷ [])) now now
 barren_found p published s b v now none few = record {
   tried = omega (arith, barren_tries p s b v none);
-  best = sym (ap (least_after rank_of now.best) (barren_suggestions p published s b v none) ∙ least_after_none rank_of now.best);
+  best = sym (ap (least_after suggestion_rank now.best) (barren_suggestions p published s b v none) ∙ least_after_none suggestion_rank now.best);
   few = few;
 }
 
@@ -44,7 +44,7 @@ pub child_found : (p : Parts) (published : Option Timetable) (s : Snapshot) (b :
     → AreFoundIn (tries_by p s b (v ∷ [])) (suggestions_by p published s b (v ∷ [])) old new
 child_found p published s b v old new some found = record {
   tried = omega (arith, found.tried, child_tries p s b v some);
-  best = found.best ∙ ap (least_after rank_of old.best) (sym (child_suggestions p published s b v some));
+  best = found.best ∙ ap (least_after suggestion_rank old.best) (sym (child_suggestions p published s b v some));
   few = found.few;
 }
 
@@ -73,7 +73,7 @@ leaf_is p published s b v rank none ranked =
 -- what is found where the child is a suggestion
 pub leaf_found : (p : Parts) (published : Option Timetable) (s : Snapshot) (b : Branch) (v : Value) (rank : Rank) (old new : Suggested) → gives p s b v ≡ true → b.others.items ≡ [] → conflicts_of p s b.class v ≡ []
     → rank_numbers rank ≡ total_with p s b.class v ∷ moved_in p published (with_value s b.class (Some v)).plan ∷ []
-    → new.tried ≡ old.tried → old.tried ≤ 1000000 → new.best ≡ least_after rank_of old.best (leaf_of b v rank ∷ [])
+    → new.tried ≡ old.tried → old.tried ≤ 1000000 → new.best ≡ least_after suggestion_rank old.best (leaf_of b v rank ∷ [])
     → AreFoundIn (tries_by p s b (v ∷ [])) (suggestions_by p published s b (v ∷ [])) old new
 leaf_found p published s b v rank old new some alone none ranked tried few best =
     let waiting : (child_of p s b v).waiting ≡ [] = ap (λ xs. xs ++ conflicts_of p s b.class v) alone ∙ none in
@@ -83,15 +83,15 @@ leaf_found p published s b v rank old new some alone none ranked tried few best 
     ∙ ap (λ x. x ∷ []) (sym (leaf_is p published s b v rank none ranked)) in
     record {
       tried = omega (arith, tried, child_tries p s b v some, leaf_tries p b.spare (child_of p s b v) waiting);
-      best = best ∙ ap (least_after rank_of old.best) (sym leaves);
+      best = best ∙ ap (least_after suggestion_rank old.best) (sym leaves);
       few = omega (arith, tried, few);
     }
 
 -- what was found stays where a later suggestion has a higher total
-found_stays : (found : Option Suggestion) (later : Suggestion) → IsSomeAnd found (λ best. best.total < later.total) → found ≡ least_after rank_of found (later ∷ [])
+found_stays : (found : Option Suggestion) (later : Suggestion) → IsSomeAnd found (λ best. best.total < later.total) → found ≡ least_after suggestion_rank found (later ∷ [])
 found_stays None later above = absurd above
 found_stays (Some best) later above =
-    let behind : is_less rank_of later best ≡ false = rw (sym (nat_cmp_is later.total best.total Greater above)) refl in
+    let behind : is_less suggestion_rank later best ≡ false = rw (sym (nat_cmp_is later.total best.total Greater above)) refl in
     rw behind refl
 
 -- the same where the child is a suggestion that has a higher total than what was found

@@ -6,16 +6,16 @@ use Rattle.tt_base.proofs.ListLemmas.{least_after_none}
 use Rattle.tt_suggest.specs.declared.suggestion.Suggested.{Suggested}
 use Rattle.tt_suggest.specs.declared.suggestion.Suggestion.{Suggestion}
 use Rattle.tt_suggest.specs.Ranks.{is_better}
-use Rattle.tt_suggest.specs.Suggestions.{rank_of}
+use Rattle.tt_suggest.specs.Suggestions.{suggestion_rank}
 use Rattle.tt_suggest.specs.Walks.{AreFoundIn}
 
 -- a suggestion that is better is taken
-pub takes : (best : Option Suggestion) (x : Suggestion) → is_better (rank_of x) best ≡ true → Some x ≡ least_after rank_of best (x ∷ [])
+pub takes : (best : Option Suggestion) (x : Suggestion) → is_better (suggestion_rank x) best ≡ true → Some x ≡ least_after suggestion_rank best (x ∷ [])
 takes None x better = refl
 takes (Some best) x better = rw better refl
 
 -- one that is not is passed over
-pub stays : (best : Option Suggestion) (x : Suggestion) → is_better (rank_of x) best ≡ false → best ≡ least_after rank_of best (x ∷ [])
+pub stays : (best : Option Suggestion) (x : Suggestion) → is_better (suggestion_rank x) best ≡ false → best ≡ least_after suggestion_rank best (x ∷ [])
 stays None x better = absurd (cc)
 stays (Some best) x better = rw better refl
 
@@ -26,4 +26,4 @@ least_none numbers (x ∷ xs) = (λ none. absurd (cc), λ none. absurd (cc))
 
 -- nothing was tried
 pub found_none : (now : Suggested) → now.tried ≤ 1000000 → AreFoundIn 0 [] now now
-found_none now few = record { tried = omega arith; best = sym (least_after_none rank_of now.best); few = few }
+found_none now few = record { tried = omega arith; best = sym (least_after_none suggestion_rank now.best); few = few }

@@ -14,7 +14,7 @@ use Rattle.tt_state.specs.Snapshots.{Snapshot}
 use Rattle.tt_suggest.specs.declared.branch.Branch.{Branch}
 use Rattle.tt_suggest.specs.declared.suggestion.Suggested.{Suggested}
 use Rattle.tt_suggest.specs.declared.suggestion.Suggestion.{Suggestion}
-use Rattle.tt_suggest.specs.Suggestions.{rank_of, suggestion_of}
+use Rattle.tt_suggest.specs.Suggestions.{suggestion_rank, suggestion_of}
 use Rattle.tt_suggest.specs.Tree.{Node, gives_child, leaves_of, tries_of}
 use Rattle.tt_suggest.specs.Walks.{AreFoundIn, child_of, node_of, suggestions_by, tries_by}
 
@@ -103,12 +103,12 @@ child_suggestions p published s b v some = rw some (ap (map (suggestion_of p pub
 -- what is found so far, where the values from the k-th on are still to be tried
 pub record IsOnWay (p : Parts) (published : Option Timetable) (s : Snapshot) (b : Branch) (now : Suggested) (k tried : ℕ) (best : Option Suggestion) : Type 0 where
   pub tries : now.tried + tries_by p s b (drop k (domain_of p b.class)) ≡ tried
-  pub least : least_after rank_of now.best (suggestions_by p published s b (drop k (domain_of p b.class))) ≡ best
+  pub least : least_after suggestion_rank now.best (suggestions_by p published s b (drop k (domain_of p b.class))) ≡ best
   pub few : now.tried ≤ 1000000
 
 -- before the first value
 pub way_start : (p : Parts) (published : Option Timetable) (s : Snapshot) (b : Branch) (old now : Suggested) (count : ℕ) → count ≡ length (domain_of p b.class) → now.tried ≡ old.tried + count → now.best ≡ old.best → now.tried ≤ 1000000
-    → IsOnWay p published s b now 0 (old.tried + tries_of p (suc b.spare) (node_of s b)) (least_after rank_of old.best (map (suggestion_of p published) (leaves_of p (suc b.spare) (node_of s b))))
+    → IsOnWay p published s b now 0 (old.tried + tries_of p (suc b.spare) (node_of s b)) (least_after suggestion_rank old.best (map (suggestion_of p published) (leaves_of p (suc b.spare) (node_of s b))))
 way_start p published s b old now count size tried best few = record {
   tries = omega (arith, size, tried, branch_tries p s b);
   least = rw (best, branch_suggestions p published s b) refl;
@@ -125,21 +125,21 @@ way_next p published s b now next k v tried best on at found =
     record {
       tries = omega (arith, found.tried, next_tries p s b v rest, rw split at on.tries);
       least =
-          ap (λ o. least_after rank_of o (suggestions_by p published s b rest)) found.best
-          ∙ sym (least_after_append rank_of now.best (suggestions_by p published s b (v ∷ [])) (suggestions_by p published s b rest))
-          ∙ ap (least_after rank_of now.best) (sym (next_suggestions p published s b v rest))
+          ap (λ o. least_after suggestion_rank o (suggestions_by p published s b rest)) found.best
+          ∙ sym (least_after_append suggestion_rank now.best (suggestions_by p published s b (v ∷ [])) (suggestions_by p published s b rest))
+          ∙ ap (least_after suggestion_rank now.best) (sym (next_suggestions p published s b v rest))
           ∙ rw split at on.least;
       few = found.few;
     }
 
 -- after the last value
 pub way_end : (p : Parts) (published : Option Timetable) (s : Snapshot) (b : Branch) (old now : Suggested) (k tries : ℕ) (xs : List Suggestion)
-    → IsOnWay p published s b now k (old.tried + tries) (least_after rank_of old.best xs) → length (domain_of p b.class) ≤ k → AreFoundIn tries xs old now
+    → IsOnWay p published s b now k (old.tried + tries) (least_after suggestion_rank old.best xs) → length (domain_of p b.class) ≤ k → AreFoundIn tries xs old now
 way_end p published s b old now k tries xs on past =
     let none = drop_all k (domain_of p b.class) past in
     record {
       tried = omega (arith, rw none at on.tries, none_tries p s b);
-      best = sym (least_after_none rank_of now.best) ∙ rw (none, none_suggestions p published s b) at on.least;
+      best = sym (least_after_none suggestion_rank now.best) ∙ rw (none, none_suggestions p published s b) at on.least;
       few = on.few;
     }
 

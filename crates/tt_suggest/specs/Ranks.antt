@@ -3,7 +3,7 @@ use Rattle.std.specs.Prelude.{ℕ, Bool, true, List, [], ◌∷◌, Option, Some
 use Rattle.tt_base.specs.Lists.{comes_before}
 use Rattle.tt_suggest.specs.declared.suggestion.Rank.{Rank}
 use Rattle.tt_suggest.specs.declared.suggestion.Suggestion.{Suggestion}
-use Rattle.tt_suggest.specs.Suggestions.{rank_of}
+use Rattle.tt_suggest.specs.Suggestions.{suggestion_rank}
 
 -- the numbers of a rank
 abbrev pub rank_numbers : Rank → List ℕ
@@ -12,4 +12,4 @@ rank_numbers r = r.total ∷ r.moved ∷ []
 -- a suggestion of this rank is better than what was found, if anything was
 abbrev pub is_better : List ℕ → Option Suggestion → Bool
 is_better rank None = true
-is_better rank (Some best) = comes_before rank (rank_of best)
+is_better rank (Some best) = comes_before rank (suggestion_rank best)

@@ -23,12 +23,12 @@ abbrev pub suggestions_of : Parts → Option Timetable → (depth : ℕ) → Sna
 suggestions_of p published depth s class = map (suggestion_of p published) (leaves_of p depth (root_of s class))
 
 -- the numbers by which a suggestion is chosen: the total, and how many published classes are moved
-abbrev pub rank_of : Suggestion → List ℕ
-rank_of x = x.total ∷ x.moved ∷ []
+abbrev pub suggestion_rank : Suggestion → List ℕ
+suggestion_rank x = x.total ∷ x.moved ∷ []
 
 -- how many values are tried for a class by at most so many placements, and the first suggestion that has the least rank
 abbrev pub suggested : Parts → Option Timetable → (depth : ℕ) → Snapshot → (class : ℕ) → Suggested
 suggested p published depth s class = record {
   tried = tries_of p depth (root_of s class);
-  best = first_least rank_of (suggestions_of p published depth s class);
+  best = first_least suggestion_rank (suggestions_of p published depth s class);
 }

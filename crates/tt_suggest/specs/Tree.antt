@@ -23,8 +23,8 @@ abbrev pub emptied : Snapshot → List ℕ → Snapshot
 emptied s classes = fold (λ now class. with_value now class None) s classes
 
 -- a snapshot with a class at a value, without the classes that it pushes out
-abbrev pub placed_in : Parts → Snapshot → (class : ℕ) → Value → Snapshot
-placed_in p s class v = with_value (emptied s (conflicts_of p s class v)) class (Some v)
+abbrev pub placed_without : Parts → Snapshot → (class : ℕ) → Value → Snapshot
+placed_without p s class v = with_value (emptied s (conflicts_of p s class v)) class (Some v)
 
 -- the class was placed on the way
 abbrev pub is_on : List Move → (class : ℕ) → Bool
@@ -49,7 +49,7 @@ gives_child p spare node class others v =
 -- the child of a node by a class at a value
 abbrev pub child_by : Parts → Node → (class : ℕ) → (others : List ℕ) → Value → Node
 child_by p node class others v = record {
-  snapshot = placed_in p node.snapshot class v;
+  snapshot = placed_without p node.snapshot class v;
   path = node.path ++ record { class = class; value = v } ∷ [];
   waiting = others ++ conflicts_of p node.snapshot class v;
 }

@@ -12,7 +12,7 @@ use Rattle.tt_suggest.specs.declared.branch.Branch.{Branch}
 use Rattle.tt_suggest.specs.declared.suggestion.Rank.{Rank}
 use Rattle.tt_suggest.specs.declared.suggestion.Suggested.{Suggested}
 use Rattle.tt_suggest.specs.declared.suggestion.Suggestion.{Suggestion}
-use Rattle.tt_suggest.specs.Suggestions.{rank_of, suggestion_of}
+use Rattle.tt_suggest.specs.Suggestions.{suggestion_rank, suggestion_of}
 use Rattle.tt_suggest.specs.Tree.{Node, child_by, children_by, leaves_of, tries_of}
 
 -- the node of a branch at a snapshot
@@ -58,5 +58,5 @@ pub record IsBack (old new : Held) : Type 0 where
 -- what is found once so many values were tried that gave these suggestions
 pub record AreFoundIn (tries : ℕ) (xs : List Suggestion) (old new : Suggested) : Type 0 where
   pub tried : new.tried ≡ old.tried + tries
-  pub best : new.best ≡ least_after rank_of old.best xs
+  pub best : new.best ≡ least_after suggestion_rank old.best xs
   pub few : new.tried ≤ 1000000

@@ -1,3 +1,5 @@
+//! A node of the tree of placements, and which values of its class give a child.
+
 ghost use Rattle.std.specs.Prelude.{◌≡◌, ◌+◌, ◌==◌, ◌∷◌, ◌++◌, [], ◌<◌, ◌↔◌, IsTrue, IfOk, IfSome, None, length};
 ghost use Rattle.std.specs.List.{list_any};
 ghost use Rattle.tt_plan.specs.Domain.{IsOfDomain};
@@ -11,7 +13,7 @@ use std::alloc::{AllocError, Global};
 use tt_bits::Value;
 use tt_state::State;
 
-/// A node of the tree of placements whose snapshot is the present one and where a class waits.
+// A node of the tree of placements whose snapshot is the present one and where a class waits.
 #[derive(Drop)]
 pub(crate) struct Branch {
     /// The placements that led here.
@@ -26,7 +28,7 @@ pub(crate) struct Branch {
     pub moved: u32,
 }
 
-/// Whether a value is the one that a class has.
+// Whether a value is the one that a class has.
 fn is_value(now: Option<Value>, value: Value) -> bool
     ensures { result ≡ is_value now value }
 {
@@ -36,14 +38,14 @@ fn is_value(now: Option<Value>, value: Value) -> bool
     }
 }
 
-/// Whether a class was placed on a path.
+// Whether a class was placed on a path.
 fn is_on(path: &[Move], class: u32) -> bool
     ensures { result ≡ is_on path.now class }
 {
     path.iter().any(|step| step.class == class)
 }
 
-/// Whether some of these classes were placed on a path.
+// Whether some of these classes were placed on a path.
 fn is_any_on(path: &[Move], classes: &[u32]) -> bool
     ensures { result ≡ list_any (is_on path.now) classes.now }
 {
@@ -51,7 +53,7 @@ fn is_any_on(path: &[Move], classes: &[u32]) -> bool
 }
 
 impl Branch {
-    /// Whether nothing was placed yet, and the value is the one that the class has.
+    // Whether nothing was placed yet, and the value is the one that the class has.
     fn stays_at_root(&self, state: &State, value: Value) -> bool
         ensures { result ≡ stays_at_root state.now.present self.now.path.items self.now.class value }
     {
@@ -59,7 +61,7 @@ impl Branch {
         self.path.len() == 0 && at_value
     }
 
-    /// How many classes the class at a value may push out, so that no more wait than may be placed.
+    // How many classes the class at a value may push out, so that no more wait than may be placed.
     fn most_conflicts(&self) -> Option<u32>
         ensures none { (result ≡ None) ↔ (self.now.spare < length self.now.others.items) }
         ensures value { IfSome result (λ most. most + length self.now.others.items ≡ self.now.spare) }
@@ -68,9 +70,9 @@ impl Branch {
         Some(most as u32)
     }
 
-    /// Whether no more classes wait than may be placed, once the class has a value that isn't blocked,
-    /// and none of those pushed out was placed on the way. Where it is so, its conflict set was found
-    /// last.
+    // Whether no more classes wait than may be placed, once the class has a value that isn't blocked,
+    // and none of those pushed out was placed on the way. Where it is so, its conflict set was found
+    // last.
     #[tactic(auto, using(crate::proofs::FollowLemmas::follows_none, crate::proofs::FollowLemmas::follows_within))]
     fn may_follow(&self, state: &mut State, value: Value) -> bool
         requires value { IsOfDomain state.old.problem self.now.class value }
@@ -86,14 +88,14 @@ impl Branch {
             && !is_any_on(self.path.as_slice(), state.taken())
     }
 
-    /// Whether no class waits once the class has a value that pushes out these.
+    // Whether no class waits once the class has a value that pushes out these.
     pub(crate) fn is_last(&self, conflicts: &[u32]) -> bool
         ensures { result ≡ (length self.now.others.items + length conflicts.now == 0) }
     {
         self.others.len() + conflicts.len() == 0
     }
 
-    /// Whether the class at a value gives a child. Where it does, its conflict set was found last.
+    // Whether the class at a value gives a child. Where it does, its conflict set was found last.
     #[tactic(auto, unfolding(crate::specs::Tree::gives_child), using(tt_state::proofs::ObstacleLemmas::blocked_not_clear, crate::proofs::FollowLemmas::barren, crate::proofs::FollowLemmas::gives_unless_held))]
     pub(crate) fn gives_child(&self, state: &mut State, value: Value) -> bool
         requires { IsOfDomain state.old.problem self.now.class value }
@@ -113,7 +115,7 @@ impl Branch {
         state.first_locked().is_none()
     }
 
-    /// The placements that led here, with that of the class at a value.
+    // The placements that led here, with that of the class at a value.
     pub(crate) fn path_with(&self, alloc: Global, value: Value) -> Result<Vec<Move>, AllocError>
         ensures { IfOk result (λ path. path.items ≡ self.now.path.items ++ record { class = self.now.class; value = value } ∷ []) }
     {
@@ -126,7 +128,7 @@ impl Branch {
         Ok(path)
     }
 
-    /// The other classes that wait, and after them some that were pushed out.
+    // The other classes that wait, and after them some that were pushed out.
     pub(crate) fn waiting_with(
         &self,
         alloc: Global,

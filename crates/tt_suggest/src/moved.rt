@@ -1,3 +1,5 @@
+//! How many published classes are moved, now and once a class has a value or none.
+
 ghost use Rattle.std.specs.Prelude.{◌≡◌, ◌<◌, slice_set, Option};
 ghost use Rattle.std.specs.Option.{option_copied, ForSome};
 ghost use Rattle.tt_published.specs.Published.{is_moved, keeps, moved_in, moved_of};
@@ -10,7 +12,7 @@ use tt_problem::Problem;
 use tt_published::{Published, is_moved, moved};
 use tt_state::State;
 
-/// How many published classes are moved at present; 0 where nothing is published.
+// How many published classes are moved at present; 0 where nothing is published.
 pub(crate) fn moved_now(state: &State, published: Option<&Published>) -> u32
     requires { ForSome (option_copied published) (IsTimetableOf state.now.problem) }
     ensures { result ≡ moved_in state.now.problem (option_copied published.entry) state.now.present.plan }
@@ -24,7 +26,7 @@ pub(crate) fn moved_now(state: &State, published: Option<&Published>) -> u32
     }
 }
 
-/// Whether a class with this value or none meets as published.
+// Whether a class with this value or none meets as published.
 fn keeps(problem: &Problem, published: &Published, class: u32, value: Option<Value>) -> bool
     requires belongs { IsTimetableOf problem.now published.now }
     requires may { MayHave problem.now class value }
@@ -36,7 +38,7 @@ fn keeps(problem: &Problem, published: &Published, class: u32, value: Option<Val
     }
 }
 
-/// Whether a class is moved once it has this value or none.
+// Whether a class is moved once it has this value or none.
 #[tactic(auto, using(tt_published::proofs::MovedLemmas::moved_at))]
 fn will_be_moved(state: &State, published: &Published, class: u32, value: Option<Value>) -> bool
     requires belongs { IsTimetableOf state.now.problem published.now }
@@ -48,7 +50,7 @@ fn will_be_moved(state: &State, published: &Published, class: u32, value: Option
     published.has(class) && !kept
 }
 
-/// How many published classes are moved once a class has this value or none, where so many are now.
+// How many published classes are moved once a class has this value or none, where so many are now.
 fn moved_by(
     state: &State,
     published: &Published,
@@ -69,7 +71,7 @@ fn moved_by(
     moved + u32::from(will) - u32::from(was)
 }
 
-/// The same, and 0 where nothing is published.
+// The same, and 0 where nothing is published.
 pub(crate) fn moved_with(
     state: &State,
     published: Option<&Published>,

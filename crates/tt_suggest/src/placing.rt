@@ -1,3 +1,5 @@
+//! The changes of the last step that lead from a node to its child.
+
 ghost use Rattle.std.specs.Prelude.{◌≡◌, ◌+◌, ◌<◌, ◌≤◌, All, IfOk, OnOk, None, false, length};
 ghost use Rattle.std.specs.Option.{option_copied, ForSome};
 ghost use Rattle.tt_plan.specs.Domain.{IsOfDomain};
@@ -6,7 +8,7 @@ ghost use Rattle.tt_published.specs.Timetable.{IsTimetableOf};
 ghost use Rattle.tt_state.specs.History.{earlier};
 ghost use Rattle.tt_state.specs.Snapshots.{is_locked_in, with_value};
 ghost use Rattle.tt_state.specs.Values.{MayHave, conflicts_of};
-ghost use Rattle.tt_suggest.specs.Tree.{child_by, emptied, placed_in};
+ghost use Rattle.tt_suggest.specs.Tree.{child_by, emptied, placed_without};
 ghost use Rattle.tt_suggest.specs.Walks.{node_of, IsBranchOf, HasGoneOn};
 
 use crate::branch::Branch;
@@ -16,8 +18,8 @@ use tt_bits::Value;
 use tt_published::Published;
 use tt_state::State;
 
-/// Gives a class a value, or none where it isn't locked, in the last step. The answer is how many
-/// published classes are moved then.
+// Gives a class a value, or none where it isn't locked, in the last step. The answer is how many
+// published classes are moved then.
 fn place(
     state: &mut State,
     published: Option<&Published>,
@@ -39,8 +41,8 @@ fn place(
     Ok(moved)
 }
 
-/// Takes their values from some classes that aren't locked, in the last step. The answer is how many
-/// published classes are moved then.
+// Takes their values from some classes that aren't locked, in the last step. The answer is how many
+// published classes are moved then.
 fn empty(
     state: &mut State,
     published: Option<&Published>,
@@ -63,8 +65,8 @@ fn empty(
     Ok(moved)
 }
 
-/// Takes some classes out, none of which is locked, and gives another a value, in the last step. The answer is how many
-/// published classes are moved then.
+// Takes some classes out, none of which is locked, and gives another a value, in the last step. The answer is how many
+// published classes are moved then.
 fn exchange(
     state: &mut State,
     published: Option<&Published>,
@@ -81,14 +83,14 @@ fn exchange(
     requires moved { moved ≡ moved_in state.old.problem (option_copied published) state.old.present.plan }
     requires step { 0 < length (earlier state.old) }
     ensures moved { IfOk result (λ moved. moved ≡ moved_in state.old.problem (option_copied published.entry) state.new.present.plan) }
-    ensures present { OnOk result (state.new.present ≡ placed_in state.old.problem state.old.present class value) }
+    ensures present { OnOk result (state.new.present ≡ placed_without state.old.problem state.old.present class value) }
     ensures on { HasGoneOn state.old state.new }
 {
     let moved = empty(state, published, moved, conflicts)?;
     place(state, published, moved, class, Some(value))
 }
 
-/// Goes to the child of a branch by its class at a value, in the last step. A class waits there.
+// Goes to the child of a branch by its class at a value, in the last step. A class waits there.
 pub(crate) fn go_on(
     alloc: Global,
     state: &mut State,

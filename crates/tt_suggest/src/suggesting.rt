@@ -1,3 +1,5 @@
+//! The walk over the tree of placements, and `suggest`.
+
 ghost use Rattle.std.specs.Prelude.{◌≡◌, ◌≢◌, ◌↔◌, ◌+◌, ◌==◌, true, false, ◌∷◌, [], ◌<◌, ◌≤◌, Option, Err, Ok, IfNone, IfOk, IfSome, IsSomeAnd, OnOk, OnErr, None, Some, length, map, suc};
 ghost use Rattle.std.specs.Option.{option_copied, ForSome};
 ghost use Rattle.tt_base.specs.Lists.{least_after};
@@ -7,7 +9,7 @@ ghost use Rattle.tt_published.specs.Timetable.{IsTimetableOf};
 ghost use Rattle.tt_state.specs.History.{IsWithinStep, earlier, with_taken};
 ghost use Rattle.tt_state.specs.Snapshots.{with_value};
 ghost use Rattle.tt_state.specs.Values.{conflicts_of, total_with};
-ghost use Rattle.tt_suggest.specs.Suggestions.{rank_of, suggested, suggestion_of, suggestions_of};
+ghost use Rattle.tt_suggest.specs.Suggestions.{suggestion_rank, suggested, suggestion_of, suggestions_of};
 ghost use Rattle.tt_suggest.specs.Tree.{gives_child, leaves_of, root_of, tries_of};
 ghost use Rattle.tt_suggest.specs.Ranks.{is_better, rank_numbers};
 ghost use Rattle.tt_suggest.specs.Walks.{AreFoundIn, IsBack, IsBranchOf, child_of, leaf_of, node_of, suggestions_by, tries_by};
@@ -22,11 +24,11 @@ use tt_plan::{domain_size, value_at};
 use tt_published::Published;
 use tt_state::State;
 
-/// The most values that are tried.
+// The most values that are tried.
 const MOST_TRIES: u32 = 1_000_000;
 
 impl Suggested {
-    /// Whether a suggestion of this rank is better than what was found so far.
+    // Whether a suggestion of this rank is better than what was found so far.
     fn is_beaten(&self, rank: Rank) -> bool
         ensures { result ≡ is_better (rank_numbers rank) self.now.best }
     {
@@ -39,7 +41,7 @@ impl Suggested {
         }
     }
 
-    /// A total below which each is no higher than that of what was found so far, if anything was.
+    // A total below which each is no higher than that of what was found so far, if anything was.
     fn bound(&self) -> Option<u128>
         ensures { IfSome result (λ bound. IsSomeAnd self.now.best (λ best. bound ≡ best.total + 1)) }
     {
@@ -49,7 +51,7 @@ impl Suggested {
         }
     }
 
-    /// The total with a class at a value, or none where it is above that of what was found so far.
+    // The total with a class at a value, or none where it is above that of what was found so far.
     fn total_within(&self, state: &mut State, class: u32, value: Value) -> Option<u128>
         requires value { IsOfDomain state.old.problem class value }
         ensures same { state.new ≡ state.old }
@@ -63,8 +65,8 @@ impl Suggested {
         state.trial_below(class, value, others, bound)
     }
 
-    /// Takes the suggestion that a branch gives with its class at a value, if it is better than what
-    /// was found so far.
+    // Takes the suggestion that a branch gives with its class at a value, if it is better than what
+    // was found so far.
     fn offer(
         &mut self,
         alloc: Global,
@@ -73,7 +75,7 @@ impl Suggested {
         rank: Rank,
     ) -> Result<(), AllocError>
         ensures tried { self.new.tried ≡ self.old.tried }
-        ensures best { OnOk result (self.new.best ≡ least_after rank_of self.old.best (leaf_of branch.now value rank ∷ [])) }
+        ensures best { OnOk result (self.new.best ≡ least_after suggestion_rank self.old.best (leaf_of branch.now value rank ∷ [])) }
     {
         if self.is_beaten(rank) {
             let moves = Moves::from_vec(branch.path_with(alloc, value)?);
@@ -86,7 +88,7 @@ impl Suggested {
         Ok(())
     }
 
-    /// Counts so many values more to try.
+    // Counts so many values more to try.
     fn add_tries(&mut self, tries: u32) -> Result<(), SuggestEnd>
         requires so_far { self.old.tried ≤ 1000000 }
         requires few { tries ≤ 1000000 }
@@ -104,8 +106,8 @@ impl Suggested {
     }
 }
 
-/// The rank of the suggestion that a branch gives with its class at a value, where nothing is pushed
-/// out and no class waits then. `None` where its total is above that of what was found so far.
+// The rank of the suggestion that a branch gives with its class at a value, where nothing is pushed
+// out and no class waits then. `None` where its total is above that of what was found so far.
 fn rank_with(
     state: &mut State,
     published: Option<&Published>,
@@ -125,8 +127,8 @@ fn rank_with(
     Some(Rank { total, moved })
 }
 
-/// Tries each value of the class of a branch, in the last step, and goes on from there as far as it
-/// may.
+// Tries each value of the class of a branch, in the last step, and goes on from there as far as it
+// may.
 #[cycle(walk)]
 fn walk(
     alloc: Global,
@@ -153,7 +155,7 @@ fn walk(
     Ok(())
 }
 
-/// Tries a value of the class of a branch, in the last step.
+// Tries a value of the class of a branch, in the last step.
 #[cycle(walk)]
 fn try_value(
     alloc: Global,
@@ -185,7 +187,7 @@ fn try_value(
     descend(alloc, state, published, branch, value, found)
 }
 
-/// Goes to the child of a branch by its class at a value, walks on from there, and goes back.
+// Goes to the child of a branch by its class at a value, walks on from there, and goes back.
 #[cycle(walk)]
 fn descend(
     alloc: Global,
@@ -215,7 +217,7 @@ fn descend(
     Ok(())
 }
 
-/// Walks the tree of placements from the present snapshot, in the last step.
+// Walks the tree of placements from the present snapshot, in the last step.
 fn suggest_step(
     alloc: Global,
     state: &mut State,

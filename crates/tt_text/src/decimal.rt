@@ -1,15 +1,19 @@
+//! Decimal numbers that words are.
+
 ghost use Rattle.std.specs.Prelude.{◌≡◌, ◌≤◌, length, true};
 ghost use Rattle.std.specs.Char.{is_ascii_digit};
 ghost use Rattle.std.specs.List.{list_all};
 ghost use Rattle.std.specs.Str.Parse.{digits_value};
 ghost use Rattle.tt_text.specs.Decimal.{at_most, decimal_of};
 
+// Whether each byte is a decimal digit.
 fn are_digits(word: &[u8]) -> bool
     ensures { result ≡ list_all is_ascii_digit word.now }
 {
     word.iter().all(|c| c.is_ascii_digit())
 }
 
+// The number that up to 20 decimal digits are.
 fn value_of(digits: &[u8]) -> u128
     requires short { length digits.now ≤ 20 }
     requires digits { list_all is_ascii_digit digits.now ≡ true }

@@ -1,3 +1,5 @@
+//! A reply, made piece by piece.
+
 ghost use Rattle.std.specs.Prelude.{◌≡◌, ◌<◌, ◌≤◌, ◌+◌, ◌⊎◌, ◌++◌, [], IfOk, OnErr, OnOk, decimal, length};
 ghost use Rattle.tt_text.specs.Fields.{field};
 ghost use Rattle.tt_text.specs.Reply.{kept_bytes, most_digits};

@@ -1,3 +1,5 @@
+//! The words of a line.
+
 ghost use Rattle.std.specs.Prelude.{◌≡◌, ◌≤◌, ◌<◌, ◌∷◌, length, drop, take, slice_index, false};
 ghost use Rattle.std.specs.Iterator.{YieldsFirstBy, item_count};
 ghost use Rattle.tt_text.specs.Line.{words_of, is_blank};
@@ -28,6 +30,7 @@ impl<'a> Words<'a> {
     }
 }
 
+// Whether a byte is a space or a tab.
 fn is_space(c: u8) -> bool
     ensures { result ≡ is_blank c }
 {

@@ -1,3 +1,5 @@
+//! `run`, which does what the words of the command line say, and the usage line.
+
 ghost use Rattle.std.specs.Prelude.{◌≢◌, Err, map, string_bytes};
 ghost use Rattle.tt_top.specs.Words.{form_of};
 ghost use Rattle.tt_top.specs.PlainRun.{usage_run};

@@ -1,3 +1,5 @@
+//! The run that checks a solution file.
+
 ghost use Rattle.std.specs.Prelude.{◌≡◌, ◌≢◌, ◌+◌, ◌∷◌, [], ℕ, List, Err, IfOk, IfErr, IsOk, Ok, OnOk};
 ghost use Rattle.tt_io.specs.Causes.{Asks, Writes};
 ghost use Rattle.tt_io.specs.Whole.{WritesFront};

@@ -1,3 +1,5 @@
+//! What a run over files works with: the limit of a file, the reader of lines, and the reply.
+
 ghost use Rattle.std.specs.Prelude.{◌≡◌, IfOk};
 ghost use Rattle.tt_io.specs.Lines.{new_reader};
 

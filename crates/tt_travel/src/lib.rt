@@ -77,7 +77,7 @@ impl Travel {
         }
     }
 
-    /// Where the slots from one room to another stand.
+    // Where the slots from one room to another stand.
     fn place(&self, a: u32, b: u32) -> usize
         requires from { a < self.now.rooms }
         requires to { b < self.now.rooms }

@@ -11,7 +11,7 @@ use Rattle.serde_json.specs.declared.value.Value.{Value}
 use Rattle.tt_fields.specs.declared.faults.Wrong.TheVariants.{NotOfKind}
 use Rattle.tt_fields.specs.declared.references.Known.{Known}
 use Rattle.tt_fields.specs.Path.{at}
-use Rattle.tt_fields.specs.Answer.{Part, Fault, fault}
+use Rattle.tt_fields.specs.Answer.{Field, Fault, fault}
 use Rattle.tt_fields.specs.Kinds.{a_number, items_at, place_of, a_reference, required, value_at}
 use Rattle.tt_fields.specs.List.{known_of, IsAmong}
 use Rattle.tt_fields.proofs.Chain.{after}
@@ -31,14 +31,14 @@ items_length path i vs = length_from path i (items_view vs) ∙ items_count vs
 abbrev IsZero : ℕ → Type 0
 IsZero n = n ≡ 0
 
-place_unknown : (p : Part) → IfOk (place_of None p) IsZero
+place_unknown : (p : Field) → IfOk (place_of None p) IsZero
 place_unknown p = after IsZero (a_number 0 4294967295 p) _ (λ x is. refl)
 
-required_unknown : (read : Part → Result ℕ Fault) → ((p : Part) → IfOk (read p) IsZero) → (key : List ℕ) (o : Part) → IfOk (required read key o) IsZero
+required_unknown : (read : Field → Result ℕ Fault) → ((p : Field) → IfOk (read p) IsZero) → (key : List ℕ) (o : Field) → IfOk (required read key o) IsZero
 unfolding required
 required_unknown read h key o = elim (value_at key o) as (λ v. IfOk (option_map_or read v (fault NotOfKind (at o.path key))) IsZero) [ None ↦ tt | Some p ↦ h p ]
 
-reference_unknown : (p : Part) → IfOk (a_reference None p) IsZero
+reference_unknown : (p : Field) → IfOk (a_reference None p) IsZero
 unfolding a_reference
 reference_unknown p = elim (as_object p.value) as (λ ms. IfOk (option_map_or (λ members. required (place_of None) (codes "id") p) ms (place_of None p)) IsZero) [ None ↦ place_unknown p | Some ms ↦ required_unknown (place_of None) place_unknown (codes "id") p ]
 
@@ -48,7 +48,7 @@ below_of keys None n to some most among zero = let e : to ≡ 0 = zero refl in o
 below_of keys (Some x) n to some most among zero = omega (arith, most, among)
 
 -- the place of a reference is below n, where no more than n ids are known
-pub below_rooms : (k : Known) (n to : ℕ) (key : List ℕ) (o : Part) → 0 < n → HasIds k n → IsAmong k to → required (a_reference (known_of k)) key o ≡ Ok to → to < n
+pub below_rooms : (k : Known) (n to : ℕ) (key : List ℕ) (o : Field) → 0 < n → HasIds k n → IsAmong k to → required (a_reference (known_of k)) key o ≡ Ok to → to < n
 below_rooms k n to key o some most among is =
     below_of (λ ids. ids.now.keys) k.ids n to some most.most among
     (λ none. IfOk-at_ok IsZero (ap (λ (ids : Option (List ℕ)). required (a_reference ids) key o) (sym none) ∙ is) (required_unknown (a_reference None) reference_unknown key o))

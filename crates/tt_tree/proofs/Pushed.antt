@@ -13,7 +13,7 @@ use Rattle.tt_problem.specs.declared.parts.CoursePart.{CoursePart}
 use Rattle.tt_problem.specs.Spans.{CoversFrom, Covers}
 use Rattle.tt_problem.specs.Valid.{IsValidRoom, room_ids, class_ids, course_ids}
 use Rattle.tt_base.specs.Chain.{◌>>=◌}
-use Rattle.tt_fields.specs.Answer.{Part, Fault}
+use Rattle.tt_fields.specs.Answer.{Field, Fault}
 use Rattle.tt_fields.specs.Kinds.{a_number, an_object, a_list, required, or_else, new_id, each, each_as}
 use Rattle.tt_fields.proofs.Chain.{then}
 use Rattle.tt_tree.specs.declared.context as context
@@ -35,10 +35,10 @@ abbrev pub closed_room : ℕ → List RoomPart → Table → List Time → Resul
 closed_room id rooms travel closed = Ok (record { rooms = rooms ++ record { id = id; closed = closed } ∷ []; travel = travel })
 
 -- what is left of a room after its travel
-abbrev pub room_rest : Context → ℕ → List RoomPart → Table → Part → Result Campus Fault
+abbrev pub room_rest : Context → ℕ → List RoomPart → Table → Field → Result Campus Fault
 room_rest c id rooms travel p = or_else [] (a_list 0 1000) (codes "unavailable") p >>= λ unavailable. each_as (a_closed_time c) unavailable >>= closed_room id rooms travel
 
-pub room_is : (c : Context) (s : Campus) (ids more : List ℕ) (from id : ℕ) (p : Part) (now : Table) (entries : List Part)
+pub room_is : (c : Context) (s : Campus) (ids more : List ℕ) (from id : ℕ) (p : Field) (now : Table) (entries : List Field)
     → an_object p ≡ Ok p → required (a_number 0 4294967295) (codes "id") p ≡ Ok id → new_id id ids p ≡ Ok more
     → or_else [] (a_list 0 4000) (codes "travel") p ≡ Ok entries → each (a_travel_entry c from) entries s.travel ≡ Ok now
     → ids ≡ room_ids s.rooms → length s.rooms ≡ from → a_room c p s ≡ room_rest c id s.rooms now p

@@ -6,7 +6,7 @@ use Rattle.tt_problem.specs.declared.parts.RoomPart.{RoomPart}
 use Rattle.tt_problem.specs.declared.parts.ClassPart.{ClassPart}
 use Rattle.tt_problem.specs.declared.parts.CoursePart.{CoursePart}
 use Rattle.tt_problem.specs.Valid.{room_ids, class_ids, course_ids}
-use Rattle.tt_fields.specs.Answer.{Part}
+use Rattle.tt_fields.specs.Answer.{Field}
 use Rattle.tt_fields.specs.Kinds.{a_number, a_truth, an_object, a_list, a_reference, place_of, required, or_else, optional, new_id, each, each_as}
 use Rattle.tt_fields.proofs.Alike.{Alike, Any, equal_alike, then_alike, after_alike, same_alike, required_alike, optional_alike, place_alike, reference_alike, each_alike, each_as_alike, ids_push}
 use Rattle.tt_tree.specs.Context.{Context}
@@ -18,18 +18,18 @@ unknown c = record { nr_days = c.nr_days; nr_weeks = c.nr_weeks; rooms = None; c
 
 -- ---- times
 
-time_same : (c : Context) (o : Part) → time_in c o ≡ time_in (unknown c) o
+time_same : (c : Context) (o : Field) → time_in c o ≡ time_in (unknown c) o
 unfolding time_in
 time_same c o = refl
 
-time_alike : (c : Context) (p : Part) → Alike Any (a_time_choice c p) (a_time_choice (unknown c) p)
+time_alike : (c : Context) (p : Field) → Alike Any (a_time_choice c p) (a_time_choice (unknown c) p)
 unfolding a_time_choice
 time_alike c p =
     after_alike Any (an_object p) _ _ (λ o.
     same_alike Any (time_in c o) (time_in (unknown c) o) _ _ (time_same c o) (λ time.
     after_alike Any (required (a_number 0 1000000) (codes "penalty") o) _ _ (λ penalty. tt)))
 
-closed_alike : (c : Context) (p : Part) → Alike Any (a_closed_time c p) (a_closed_time (unknown c) p)
+closed_alike : (c : Context) (p : Field) → Alike Any (a_closed_time c p) (a_closed_time (unknown c) p)
 unfolding a_closed_time
 closed_alike c p =
     after_alike Any (an_object p) _ _ (λ o. equal_alike (time_in c o) (time_in (unknown c) o) (time_same c o))
@@ -40,7 +40,7 @@ closed_alike c p =
 abbrev pub SameRooms : Campus → Campus → Type 0
 SameRooms s t = room_ids s.rooms ≡ room_ids t.rooms
 
-entry_alike : (c : Context) (from other : ℕ) (p : Part) (s t : Table) → Alike Any (a_travel_entry c from p s) (a_travel_entry (unknown c) other p t)
+entry_alike : (c : Context) (from other : ℕ) (p : Field) (s t : Table) → Alike Any (a_travel_entry c from p s) (a_travel_entry (unknown c) other p t)
 unfolding a_travel_entry
 entry_alike c from other p s t =
     after_alike Any (an_object p) _ _ (λ o.
@@ -48,7 +48,7 @@ entry_alike c from other p s t =
     (required_alike Any (a_reference c.rooms) (a_reference None) (reference_alike c.rooms) (codes "room") o) (λ to place k.
     after_alike Any (required (a_number 0 65535) (codes "value") o) _ _ (λ slots. tt)))
 
-room_alike : (c : Context) (p : Part) (s t : Campus) → SameRooms s t → Alike SameRooms (a_room c p s) (a_room (unknown c) p t)
+room_alike : (c : Context) (p : Field) (s t : Campus) → SameRooms s t → Alike SameRooms (a_room c p s) (a_room (unknown c) p t)
 unfolding a_room
 room_alike c p s t same =
     after_alike SameRooms (an_object p) _ _ (λ o.
@@ -62,7 +62,7 @@ room_alike c p s t same =
     (each_as_alike (a_closed_time c) (a_closed_time (unknown c)) (closed_alike c) unavailable) (λ closed times l.
     ids_push (λ (x : RoomPart). x.id) s.rooms t.rooms (record { id = id; closed = closed }) (record { id = id; closed = times }) same refl)))))))
 
-pub rooms_alike : (c : Context) (items : List Part) → Alike SameRooms (rooms_in c items) (rooms_in (unknown c) items)
+pub rooms_alike : (c : Context) (items : List Field) → Alike SameRooms (rooms_in c items) (rooms_in (unknown c) items)
 unfolding rooms_in
 rooms_alike c items = each_alike SameRooms (a_room c) (a_room (unknown c)) (room_alike c) items (no_rooms (length items)) (no_rooms (length items)) refl
 
@@ -72,7 +72,7 @@ rooms_alike c items = each_alike SameRooms (a_room c) (a_room (unknown c)) (room
 abbrev SameClasses : List ClassPart → List ClassPart → Type 0
 SameClasses s t = class_ids s ≡ class_ids t
 
-choice_alike : (c : Context) (p : Part) → Alike Any (a_room_choice c p) (a_room_choice (unknown c) p)
+choice_alike : (c : Context) (p : Field) → Alike Any (a_room_choice c p) (a_room_choice (unknown c) p)
 unfolding a_room_choice
 choice_alike c p =
     after_alike Any (an_object p) _ _ (λ o.
@@ -80,17 +80,17 @@ choice_alike c p =
     (required_alike Any (place_of c.rooms) (place_of None) (place_alike c.rooms) (codes "id") o) (λ room place k.
     after_alike Any (required (a_number 0 1000000) (codes "penalty") o) _ _ (λ penalty. tt)))
 
-where_alike : (room : Bool) (c : Context) (o : Part) → Alike Any (rooms_where room c o) (rooms_where room (unknown c) o)
+where_alike : (room : Bool) (c : Context) (o : Field) → Alike Any (rooms_where room c o) (rooms_where room (unknown c) o)
 where_alike false c o = tt
 where_alike true c o =
     after_alike Any (or_else [] (a_list 0 1000) (codes "rooms") o) (each_as (a_room_choice c)) (each_as (a_room_choice (unknown c))) (λ items.
     each_as_alike (a_room_choice c) (a_room_choice (unknown c)) (choice_alike c) items)
 
-choices_alike : (c : Context) (o : Part) → Alike Any (rooms_of c o) (rooms_of (unknown c) o)
+choices_alike : (c : Context) (o : Field) → Alike Any (rooms_of c o) (rooms_of (unknown c) o)
 unfolding rooms_of
 choices_alike c o = after_alike Any (or_else true a_truth (codes "room") o) _ _ (λ room. where_alike room c o)
 
-class_alike : (c : Context) (p : Part) (s t : List ClassPart) → SameClasses s t → Alike SameClasses (a_class c p s) (a_class (unknown c) p t)
+class_alike : (c : Context) (p : Field) (s t : List ClassPart) → SameClasses s t → Alike SameClasses (a_class c p s) (a_class (unknown c) p t)
 unfolding a_class
 class_alike c p s t same =
     after_alike SameClasses (an_object p) _ _ (λ o.
@@ -114,7 +114,7 @@ SameSubparts s t = SameClasses s.classes t.classes
 same_length : (s t : List ClassPart) → SameClasses s t → length s ≡ length t
 same_length s t same = sym (length-map s (λ (x : ClassPart). x.id)) ∙ ap (λ (l : List ℕ). length l) same ∙ length-map t (λ (x : ClassPart). x.id)
 
-subpart_alike : (c : Context) (p : Part) (s t : Subparts) → SameSubparts s t → Alike SameSubparts (a_subpart c p s) (a_subpart (unknown c) p t)
+subpart_alike : (c : Context) (p : Field) (s t : Subparts) → SameSubparts s t → Alike SameSubparts (a_subpart c p s) (a_subpart (unknown c) p t)
 unfolding a_subpart
 subpart_alike c p s t same =
     after_alike SameSubparts (an_object p) _ _ (λ o.
@@ -126,7 +126,7 @@ subpart_alike c p s t same =
 abbrev SameConfigs : Configs → Configs → Type 0
 SameConfigs s t = SameSubparts s.subparts t.subparts
 
-config_alike : (c : Context) (p : Part) (s t : Configs) → SameConfigs s t → Alike SameConfigs (a_config c p s) (a_config (unknown c) p t)
+config_alike : (c : Context) (p : Field) (s t : Configs) → SameConfigs s t → Alike SameConfigs (a_config c p s) (a_config (unknown c) p t)
 unfolding a_config
 config_alike c p s t same =
     after_alike SameConfigs (an_object p) _ _ (λ o.
@@ -139,7 +139,7 @@ pub record SameTree (s t : Tree) : Type 0 where
   pub courses : course_ids s.courses ≡ course_ids t.courses
   pub classes : class_ids s.configs.subparts.classes ≡ class_ids t.configs.subparts.classes
 
-course_alike : (c : Context) (p : Part) (s t : Tree) → SameTree s t → Alike SameTree (a_course c p s) (a_course (unknown c) p t)
+course_alike : (c : Context) (p : Field) (s t : Tree) → SameTree s t → Alike SameTree (a_course c p s) (a_course (unknown c) p t)
 unfolding a_course
 course_alike c p s t same =
     after_alike SameTree (an_object p) _ _ (λ o.
@@ -150,6 +150,6 @@ course_alike c p s t same =
     (each_alike SameConfigs (a_config c) (a_config (unknown c)) (config_alike c) items s.configs t.configs same.classes) (λ configs others k.
     record { courses = ids_push (λ (x : CoursePart). x.id) s.courses t.courses _ _ same.courses refl; classes = k })))))
 
-pub courses_alike : (c : Context) (items : List Part) → Alike SameTree (courses_in c items) (courses_in (unknown c) items)
+pub courses_alike : (c : Context) (items : List Field) → Alike SameTree (courses_in c items) (courses_in (unknown c) items)
 unfolding courses_in
 courses_alike c items = each_alike SameTree (a_course c) (a_course (unknown c)) (course_alike c) items no_tree no_tree (record { courses = refl; classes = refl })

@@ -14,21 +14,21 @@ use Rattle.tt_problem.specs.Valid.{room_ids, class_ids, course_ids}
 use Rattle.tt_fields.specs.declared.faults.Wrong.TheVariants.{NoTime}
 use Rattle.tt_fields.specs.Path.{at}
 use Rattle.tt_base.specs.Chain.{◌>>=◌}
-use Rattle.tt_fields.specs.Answer.{Part, Fault, fault}
+use Rattle.tt_fields.specs.Answer.{Field, Fault, fault}
 use Rattle.tt_fields.specs.Kinds.{a_number, a_truth, a_set, an_object, a_list, a_reference, place_of, or_fault, required, or_else, optional, new_id, each, each_as}
 use Rattle.tt_tree.specs.Context.{Context}
 
 -- ---- times
 
 -- the length of a time that begins at `start`, which is to be one that a time has
-unfoldable pub length_after : ℕ → Part → Result ℕ Fault
+unfoldable pub length_after : ℕ → Field → Result ℕ Fault
 length_after start o = do
   length ← required (a_number 0 65535) (codes "length") o
   if length == 0 || nat_lt 65535 (start + length) then fault NoTime (at o.path (codes "length")) else Ok length
 
 -- a time object, within the days of a week and the weeks of the term; its length has been read as one that a
 -- time has, so that the last line always finds a time
-unfoldable pub time_in : Context → Part → Result Time Fault
+unfoldable pub time_in : Context → Field → Result Time Fault
 time_in c o = do
   days ← required (a_set days_text c.nr_days) (codes "days") o
   start ← required (a_number 0 65535) (codes "start") o
@@ -37,7 +37,7 @@ time_in c o = do
   or_fault NoTime o (bits.time_of days weeks start length)
 
 -- a time of a class
-unfoldable pub a_time_choice : Context → Part → Result TimeChoice Fault
+unfoldable pub a_time_choice : Context → Field → Result TimeChoice Fault
 a_time_choice c p = do
   o ← an_object p
   time ← time_in c o
@@ -45,7 +45,7 @@ a_time_choice c p = do
   Ok (record { time = time; penalty = penalty })
 
 -- an unavailable time of a room
-unfoldable pub a_closed_time : Context → Part → Result Time Fault
+unfoldable pub a_closed_time : Context → Field → Result Time Fault
 a_closed_time c p = do
   o ← an_object p
   time_in c o
@@ -53,7 +53,7 @@ a_closed_time c p = do
 -- ---- rooms
 
 -- an entry in the travel of the room at place `from`: it counts both ways, and the last for a pair of rooms
-unfoldable pub a_travel_entry : Context → ℕ → Part → Table → Result Table Fault
+unfoldable pub a_travel_entry : Context → ℕ → Field → Table → Result Table Fault
 a_travel_entry c from p table = do
   o ← an_object p
   to ← required (a_reference c.rooms) (codes "room") o
@@ -66,7 +66,7 @@ pub record Campus : Type 0 where
   pub travel : Table
 
 -- a room, after those that have been read
-unfoldable pub a_room : Context → Part → Campus → Result Campus Fault
+unfoldable pub a_room : Context → Field → Campus → Result Campus Fault
 a_room c p s = do
   o ← an_object p
   id ← required (a_number 0 4294967295) (codes "id") o
@@ -82,13 +82,13 @@ abbrev pub no_rooms : ℕ → Campus
 no_rooms count = record { rooms = []; travel = no_travel count }
 
 -- all rooms of a list, and the travel between them
-unfoldable pub rooms_in : Context → List Part → Result Campus Fault
+unfoldable pub rooms_in : Context → List Field → Result Campus Fault
 rooms_in c items = each (a_room c) items (no_rooms (length items))
 
 -- ---- courses
 
 -- a room of a class
-unfoldable pub a_room_choice : Context → Part → Result RoomChoice Fault
+unfoldable pub a_room_choice : Context → Field → Result RoomChoice Fault
 a_room_choice c p = do
   o ← an_object p
   room ← required (place_of c.rooms) (codes "id") o
@@ -96,18 +96,18 @@ a_room_choice c p = do
   Ok (record { room = room; penalty = penalty })
 
 -- the rooms of a class that may need one, none for one that needs none
-abbrev pub rooms_where : Bool → Context → Part → Result (List RoomChoice) Fault
+abbrev pub rooms_where : Bool → Context → Field → Result (List RoomChoice) Fault
 rooms_where false c o = Ok []
 rooms_where true c o = or_else [] (a_list 0 1000) (codes "rooms") o >>= each_as (a_room_choice c)
 
 -- the rooms of a class, which are skipped where its `room` is false
-unfoldable pub rooms_of : Context → Part → Result (List RoomChoice) Fault
+unfoldable pub rooms_of : Context → Field → Result (List RoomChoice) Fault
 rooms_of c o = do
   room ← or_else true a_truth (codes "room") o
   rooms_where room c o
 
 -- a class, after those that have been read
-unfoldable pub a_class : Context → Part → List ClassPart → Result (List ClassPart) Fault
+unfoldable pub a_class : Context → Field → List ClassPart → Result (List ClassPart) Fault
 a_class c p before = do
   o ← an_object p
   id ← required (a_number 0 4294967295) (codes "id") o
@@ -133,7 +133,7 @@ pub record Subparts : Type 0 where
   pub classes : List ClassPart
 
 -- a subpart, whose classes are at most 20,000 together with those that have been read
-unfoldable pub a_subpart : Context → Part → Subparts → Result Subparts Fault
+unfoldable pub a_subpart : Context → Field → Subparts → Result Subparts Fault
 a_subpart c p s = do
   o ← an_object p
   items ← required (a_list 1 (20000 - length s.classes)) (codes "classes") o
@@ -146,7 +146,7 @@ pub record Configs : Type 0 where
   pub subparts : Subparts
 
 -- a configuration
-unfoldable pub a_config : Context → Part → Configs → Result Configs Fault
+unfoldable pub a_config : Context → Field → Configs → Result Configs Fault
 a_config c p s = do
   o ← an_object p
   items ← required (a_list 1 no_limit) (codes "subparts") o
@@ -159,7 +159,7 @@ pub record Tree : Type 0 where
   pub configs : Configs
 
 -- a course, after those that have been read
-unfoldable pub a_course : Context → Part → Tree → Result Tree Fault
+unfoldable pub a_course : Context → Field → Tree → Result Tree Fault
 a_course c p s = do
   o ← an_object p
   id ← required (a_number 0 4294967295) (codes "id") o
@@ -173,5 +173,5 @@ abbrev pub no_tree : Tree
 no_tree = record { courses = []; configs = record { spans = []; subparts = record { spans = []; classes = [] } } }
 
 -- all courses of a list
-unfoldable pub courses_in : Context → List Part → Result Tree Fault
+unfoldable pub courses_in : Context → List Field → Result Tree Fault
 courses_in c items = each (a_course c) items no_tree

@@ -1,3 +1,5 @@
+//! The courses of a problem file, with all that is in them.
+
 ghost use Rattle.std.specs.Prelude.{◌≡◌, ◌<◌, ◌≤◌, ◌^◌, List, [], ◌∷◌, ◌++◌, length, All, IfOk, OnOk};
 ghost use Rattle.tt_problem.specs.Spans.{Covers};
 ghost use Rattle.tt_problem.specs.declared.parts.ClassPart.{ClassPart as ClassSeen};
@@ -14,7 +16,7 @@ use indexmap::IndexSet;
 use std::alloc::{AllocError, Global};
 use tt_base::Row;
 use tt_fields::{
-    Fault, FileFault, ItemTable, NextTable, Part, PartList, add_id, as_object, known_id, list,
+    Fault, Field, FileFault, ItemTable, NextTable, PartList, add_id, as_object, known_id, list,
     list_or_none, number, optional_number, optional_reference, read_each, read_onto, truth_or,
 };
 use tt_problem::{ClassPart, CoursePart, RoomChoice, Span};
@@ -48,9 +50,9 @@ pub struct Tree {
     pub configs: Configs,
 }
 
-/// A room of a class, with its penalty.
+// A room of a class, with its penalty.
 #[tactic(auto, unfolding(crate::specs::Tables::a_room_choice))]
-fn read_room_choice<'a>(context: &Context<'_>, item: &'a Part<'a>) -> Result<RoomChoice, Fault<'a>>
+fn read_room_choice<'a>(context: &Context<'_>, item: &'a Field<'a>) -> Result<RoomChoice, Fault<'a>>
     requires { IsContext context.now }
     ensures reads { Reads (λ choice. choice) result (a_room_choice (context_of context.now) (part_of item.now)) }
     ensures valid { IfOk result (λ choice. IsChoiceAmong context.now.rooms choice) }
@@ -61,7 +63,7 @@ fn read_room_choice<'a>(context: &Context<'_>, item: &'a Part<'a>) -> Result<Roo
     Ok(RoomChoice { room, penalty })
 }
 
-/// The rooms of a class.
+// The rooms of a class.
 #[derive(Clone, Copy)]
 struct RoomChoiceTable<'a> {
     context: &'a Context<'a>,
@@ -74,17 +76,17 @@ impl ItemTable<RoomChoice> for RoomChoiceTable<'_> {
 
     ghost ready = { λ t. IsContext t.context.now };
 
-    fn read_item(&self, _alloc: Global, item: &Part<'_>) -> Result<RoomChoice, FileFault> {
+    fn read_item(&self, _alloc: Global, item: &Field<'_>) -> Result<RoomChoice, FileFault> {
         Ok(read_room_choice(self.context, &*item)?)
     }
 }
 
-/// The rooms of a class that may need one, none for one that needs none.
+// The rooms of a class that may need one, none for one that needs none.
 fn rooms_if(
     alloc: Global,
     room: bool,
     context: &Context<'_>,
-    object: &Part<'_>,
+    object: &Field<'_>,
 ) -> Result<Row<RoomChoice>, FileFault>
     requires { IsContext context.now }
     ensures reads { Gives (λ rooms. rooms) result
@@ -101,12 +103,12 @@ fn rooms_if(
     }
 }
 
-/// The rooms of a class, which are skipped where its `room` is false.
+// The rooms of a class, which are skipped where its `room` is false.
 #[tactic(auto, unfolding(crate::specs::Tables::rooms_of))]
 fn read_class_rooms(
     alloc: Global,
     context: &Context<'_>,
-    object: &Part<'_>,
+    object: &Field<'_>,
 ) -> Result<Row<RoomChoice>, FileFault>
     requires { IsContext context.now }
     ensures reads { Gives (λ rooms. rooms) result
@@ -118,7 +120,7 @@ fn read_class_rooms(
     rooms_if(alloc, room, context, object)
 }
 
-/// The classes of a subpart.
+// The classes of a subpart.
 #[derive(Clone, Copy)]
 struct ClassTable<'a> {
     context: &'a Context<'a>,
@@ -140,7 +142,7 @@ impl NextTable<Classes> for ClassTable<'_> {
         &self,
         alloc: Global,
         _place: usize,
-        item: &Part<'_>,
+        item: &Field<'_>,
         before: &mut Classes,
     ) -> Result<(), FileFault> {
         as_object(item)?;
@@ -165,7 +167,7 @@ impl NextTable<Classes> for ClassTable<'_> {
     }
 }
 
-/// Appends the span from `first` up to `after`.
+// Appends the span from `first` up to `after`.
 #[tactic(auto, using(crate::proofs::Pushed::covers_more, crate::proofs::Pushed::spans_few))]
 fn push_span(spans: &mut Vec<Span>, first: usize, after: usize) -> Result<(), AllocError>
     requires covers { Covers spans.old.items first }
@@ -182,7 +184,7 @@ fn push_span(spans: &mut Vec<Span>, first: usize, after: usize) -> Result<(), Al
     Ok(())
 }
 
-/// The subparts of a configuration.
+// The subparts of a configuration.
 #[derive(Clone, Copy)]
 struct SubpartTable<'a> {
     context: &'a Context<'a>,
@@ -204,7 +206,7 @@ impl NextTable<Subparts> for SubpartTable<'_> {
         &self,
         alloc: Global,
         _place: usize,
-        item: &Part<'_>,
+        item: &Field<'_>,
         before: &mut Subparts,
     ) -> Result<(), FileFault> {
         as_object(item)?;
@@ -219,7 +221,7 @@ impl NextTable<Subparts> for SubpartTable<'_> {
     }
 }
 
-/// The configurations of a course.
+// The configurations of a course.
 #[derive(Clone, Copy)]
 struct ConfigTable<'a> {
     context: &'a Context<'a>,
@@ -241,7 +243,7 @@ impl NextTable<Configs> for ConfigTable<'_> {
         &self,
         alloc: Global,
         _place: usize,
-        item: &Part<'_>,
+        item: &Field<'_>,
         before: &mut Configs,
     ) -> Result<(), FileFault> {
         as_object(item)?;
@@ -256,7 +258,7 @@ impl NextTable<Configs> for ConfigTable<'_> {
     }
 }
 
-/// The courses.
+// The courses.
 #[derive(Clone, Copy)]
 struct CourseTable<'a> {
     context: &'a Context<'a>,
@@ -278,7 +280,7 @@ impl NextTable<Tree> for CourseTable<'_> {
         &self,
         alloc: Global,
         _place: usize,
-        item: &Part<'_>,
+        item: &Field<'_>,
         before: &mut Tree,
     ) -> Result<(), FileFault> {
         as_object(item)?;

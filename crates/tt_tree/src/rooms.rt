@@ -1,3 +1,5 @@
+//! The rooms of a problem file, and the travel between them.
+
 ghost use Rattle.std.specs.Prelude.{◌≡◌, ◌<◌, ◌≤◌, length, IfOk, OnOk};
 ghost use Rattle.tt_travel.specs.Table.{Table, most_rooms};
 ghost use Rattle.tt_fields.specs.Answer.{Reads, Gives, part_of};
@@ -12,7 +14,7 @@ use indexmap::IndexSet;
 use std::alloc::Global;
 use tt_base::Row;
 use tt_fields::{
-    Fault, FileFault, NextTable, Part, PartList, add_id, as_object, list_or_none, number,
+    Fault, Field, FileFault, NextTable, PartList, add_id, as_object, list_or_none, number,
     read_each, read_onto, reference,
 };
 use tt_problem::RoomPart;
@@ -27,7 +29,7 @@ pub struct Campus {
     pub travel: Travel,
 }
 
-/// The entries in the travel of the room at a place, one of so many rooms.
+// The entries in the travel of the room at a place, one of so many rooms.
 #[derive(Clone, Copy)]
 struct EntryTable<'a> {
     context: &'a Context<'a>,
@@ -35,11 +37,11 @@ struct EntryTable<'a> {
     from: u32,
 }
 
-/// Enters a travel that a room has.
+// Enters a travel that a room has.
 #[tactic(auto, unfolding(crate::specs::Tables::a_travel_entry))]
 fn enter_travel<'a>(
     entries: &EntryTable<'_>,
-    item: &'a Part<'a>,
+    item: &'a Field<'a>,
     travel: &mut Travel,
 ) -> Result<(), Fault<'a>>
     requires context { IsContext entries.now.context.now }
@@ -71,14 +73,14 @@ impl NextTable<Travel> for EntryTable<'_> {
         &self,
         _alloc: Global,
         _place: usize,
-        item: &Part<'_>,
+        item: &Field<'_>,
         before: &mut Travel,
     ) -> Result<(), FileFault> {
         Ok(enter_travel(self, &*item, before)?)
     }
 }
 
-/// The rooms of a list of so many.
+// The rooms of a list of so many.
 #[derive(Clone, Copy)]
 struct RoomTable<'a> {
     context: &'a Context<'a>,
@@ -101,7 +103,7 @@ impl NextTable<Campus> for RoomTable<'_> {
         &self,
         alloc: Global,
         place: usize,
-        item: &Part<'_>,
+        item: &Field<'_>,
         before: &mut Campus,
     ) -> Result<(), FileFault> {
         let entries = EntryTable {

@@ -1,3 +1,5 @@
+//! The times of a class, and the unavailable times of a room, as a file has them.
+
 ghost use Rattle.std.specs.Prelude.{IfOk};
 ghost use Rattle.tt_problem.specs.Valid.{IsTimeOf, IsValidTime};
 ghost use Rattle.tt_fields.specs.Answer.{Reads, part_of};
@@ -7,12 +9,12 @@ ghost use Rattle.tt_tree.specs.Tables.{length_after, time_in, a_time_choice, a_c
 use crate::context::Context;
 use std::alloc::Global;
 use tt_bits::Time;
-use tt_fields::{Fault, FileFault, ItemTable, Part, Wrong, as_object, fault, fault_at, number};
+use tt_fields::{Fault, Field, FileFault, ItemTable, Wrong, as_object, fault, fault_at, number};
 use tt_problem::TimeChoice;
 
-/// The length of a time that begins at `start`, or no time where there is none so long.
+// The length of a time that begins at `start`, or no time where there is none so long.
 #[tactic(auto, unfolding(crate::specs::Tables::length_after))]
-fn length_from<'a>(object: &'a Part<'a>, start: u16) -> Result<u16, Fault<'a>>
+fn length_from<'a>(object: &'a Field<'a>, start: u16) -> Result<u16, Fault<'a>>
     ensures { Reads (λ n. n) result (length_after start (part_of object.now)) }
 {
     let length = number(object, "length", 0, 65_535)?;
@@ -23,9 +25,9 @@ fn length_from<'a>(object: &'a Part<'a>, start: u16) -> Result<u16, Fault<'a>>
     }
 }
 
-/// The time that an object has, without its penalty.
+// The time that an object has, without its penalty.
 #[tactic(auto, unfolding(crate::specs::Tables::time_in))]
-fn read_time<'a>(context: &Context<'_>, object: &'a Part<'a>) -> Result<Time, Fault<'a>>
+fn read_time<'a>(context: &Context<'_>, object: &'a Field<'a>) -> Result<Time, Fault<'a>>
     requires { IsContext context.now }
     ensures reads { Reads (λ t. t) result (time_in (context_of context.now) (part_of object.now)) }
     ensures within { IfOk result (λ t. IsTimeOf context.now.nr_days context.now.nr_weeks t) }
@@ -40,9 +42,9 @@ fn read_time<'a>(context: &Context<'_>, object: &'a Part<'a>) -> Result<Time, Fa
     }
 }
 
-/// A time of a class, with its penalty.
+// A time of a class, with its penalty.
 #[tactic(auto, unfolding(crate::specs::Tables::a_time_choice))]
-fn read_time_choice<'a>(context: &Context<'_>, item: &'a Part<'a>) -> Result<TimeChoice, Fault<'a>>
+fn read_time_choice<'a>(context: &Context<'_>, item: &'a Field<'a>) -> Result<TimeChoice, Fault<'a>>
     requires { IsContext context.now }
     ensures reads { Reads (λ choice. choice) result (a_time_choice (context_of context.now) (part_of item.now)) }
     ensures valid { IfOk result (λ choice. IsValidTime context.now.nr_days context.now.nr_weeks choice) }
@@ -66,14 +68,14 @@ impl ItemTable<TimeChoice> for TimeTable<'_> {
 
     ghost ready = { λ t. IsContext t.context.now };
 
-    fn read_item(&self, _alloc: Global, item: &Part<'_>) -> Result<TimeChoice, FileFault> {
+    fn read_item(&self, _alloc: Global, item: &Field<'_>) -> Result<TimeChoice, FileFault> {
         Ok(read_time_choice(self.context, &*item)?)
     }
 }
 
-/// An unavailable time of a room.
+// An unavailable time of a room.
 #[tactic(auto, unfolding(crate::specs::Tables::a_closed_time))]
-fn read_closed<'a>(context: &Context<'_>, item: &'a Part<'a>) -> Result<Time, Fault<'a>>
+fn read_closed<'a>(context: &Context<'_>, item: &'a Field<'a>) -> Result<Time, Fault<'a>>
     requires { IsContext context.now }
     ensures reads { Reads (λ t. t) result (a_closed_time (context_of context.now) (part_of item.now)) }
     ensures within { IfOk result (λ t. IsTimeOf context.now.nr_days context.now.nr_weeks t) }
@@ -95,7 +97,7 @@ impl ItemTable<Time> for ClosedTable<'_> {
 
     ghost ready = { λ t. IsContext t.context.now };
 
-    fn read_item(&self, _alloc: Global, item: &Part<'_>) -> Result<Time, FileFault> {
+    fn read_item(&self, _alloc: Global, item: &Field<'_>) -> Result<Time, FileFault> {
         Ok(read_closed(self.context, &*item)?)
     }
 }

@@ -1,3 +1,5 @@
+//! The text of a type.
+
 ghost use Rattle.std.specs.Prelude.{◌≡◌, ◌++◌, OnOk};
 ghost use Rattle.tt_types.specs.TypeTexts.{parameters_text, type_text};
 
@@ -5,7 +7,7 @@ use std::alloc::AllocError;
 use tt_problem::{DistKind, Parameters};
 use tt_text::Reply;
 
-/// Appends parameters in parentheses.
+// Appends parameters in parentheses.
 #[tactic(auto, using(std::proofs::Common::append_assoc), unfolding(crate::specs::TypeTexts::parameters_text))]
 fn add_parameters(out: &mut Reply, parameters: Parameters) -> Result<(), AllocError>
     ensures { OnOk result (out.new ≡ out.old ++ parameters_text parameters) }

@@ -30,7 +30,7 @@ use Rattle.tt_verify.specs.declared.violation.Violation.TheVariants as what
 use Rattle.tt_published.specs.Published.{published_plan, published_value}
 use Rattle.tt_published.specs.Timetable.{Timetable}
 use Rattle.tt_verify.specs.Hard.{AreAsManyAsHard}
-use Rattle.tt_verify.specs.Verified.{totals_in}
+use Rattle.tt_verify.specs.Verified.{timetable_totals}
 use Rattle.tt_verify.specs.Pairs.{are_related, related_pairs}
 use Rattle.tt_verify.specs.Violations.{all_rule_faults, amount_faults, clashes_of, closed_fault, closed_faults, hard_violations, kind_faults, pair_faults, rule_faults, rule_faults_at}
 use Rattle.tt_verify.proofs.PairLemmas.{length-related_pairs, pairs_among-placed}
@@ -148,9 +148,9 @@ as_many_as_hard p closures spots plan lists whole at =
 
 -- what is found after the listing's own faults is what the totals count as hard
 pub hard_found : (p : Parts) (t : Timetable) (plan : List (Option Value)) (closures : List Closure) (spots : List (Option Spot)) (before after : List Violation) → plan ≡ published_plan p t → closures ≡ [] → spots ≡ spots_of p plan
-    → after ≡ before ++ hard_violations p closures spots → AreAsManyAsHard p closures spots → length after - length before ≡ (totals_in p t).hard
+    → after ≡ before ++ hard_violations p closures spots → AreAsManyAsHard p closures spots → length after - length before ≡ (timetable_totals p t).hard
 hard_found p t plan closures spots before after planned none at grown hard =
     let whole : length (published_plan p t) ≡ length p.classes = length-map-range_with_len (published_value p t) 0 (length p.classes) in
-    let counted : length (hard_violations p closures spots) ≡ (totals_in p t).hard =
+    let counted : length (hard_violations p closures spots) ≡ (timetable_totals p t).hard =
     hard (published_plan p t) t.lists whole (at ∙ ap (spots_of p) planned) ∙ ap (λ (cs : List Closure). (totals_of p cs (published_plan p t) t.lists).hard) none in
     omega (arith, ap length grown, length-append before (hard_violations p closures spots), counted)

@@ -13,20 +13,20 @@ unfoldable pub class_text : List ℕ → Parts → (class : ℕ) → List ℕ
 class_text text p class = field text (class_id p class)
 
 -- the line on a violation. Rules are counted from 1
-unfoldable pub line_of : Parts → Violation → List ℕ
-line_of p (what.Missing class) = class_text (codes "class ") p class ++ codes " missing\n"
-line_of p (what.Outside class) = class_text (codes "class ") p class ++ codes " outside\n"
-line_of p (what.Invalid student) = field (codes "student ") (student_id p student) ++ codes " invalid\n"
-line_of p (what.Over class students) = class_text (codes "class ") p class ++ field (codes " over ") students ++ codes "\n"
-line_of p (what.Clash class other) = class_text (codes "clash ") p class ++ class_text (codes " ") p other ++ codes "\n"
-line_of p (what.Closed class) = class_text (codes "closed ") p class ++ codes "\n"
-line_of p (what.Pair rule class other) =
+unfoldable pub violation_line : Parts → Violation → List ℕ
+violation_line p (what.Missing class) = class_text (codes "class ") p class ++ codes " missing\n"
+violation_line p (what.Outside class) = class_text (codes "class ") p class ++ codes " outside\n"
+violation_line p (what.Invalid student) = field (codes "student ") (student_id p student) ++ codes " invalid\n"
+violation_line p (what.Over class students) = class_text (codes "class ") p class ++ field (codes " over ") students ++ codes "\n"
+violation_line p (what.Clash class other) = class_text (codes "clash ") p class ++ class_text (codes " ") p other ++ codes "\n"
+violation_line p (what.Closed class) = class_text (codes "closed ") p class ++ codes "\n"
+violation_line p (what.Pair rule class other) =
     field (codes "rule ") (rule + 1) ++ (class_text (codes " pair ") p class ++ class_text (codes " ") p other ++ codes "\n")
-line_of p (what.Amount rule amount) = field (codes "rule ") (rule + 1) ++ field (codes " amount ") amount ++ codes "\n"
+violation_line p (what.Amount rule amount) = field (codes "rule ") (rule + 1) ++ field (codes " amount ") amount ++ codes "\n"
 
 -- a line for each violation, in order
-unfoldable pub lines_of : Parts → List Violation → List ℕ
-lines_of p violations = flat_map (line_of p) violations
+unfoldable pub violation_lines : Parts → List Violation → List ℕ
+violation_lines p violations = flat_map (violation_line p) violations
 
 -- the line on these sums and hard conflicts
 unfoldable pub sum_line : Sums → (hard : ℕ) → List ℕ

@@ -1,3 +1,5 @@
+//! The amount of a rule, counted from the spots of its members.
+
 ghost use Rattle.std.specs.Prelude.{◌≡◌, ◌-◌, ◌*◌, ◌<◌, ◌≤◌, ◌^◌, All, IfOk, count_by, filter, length, map, sum_by, vec_len};
 ghost use Rattle.std.specs.List.{list_any};
 ghost use Rattle.tt_base.specs.Among.{pairs_among};
@@ -19,7 +21,7 @@ use tt_bits::{PairKind, Spot, holds};
 use tt_problem::{DistKind, Problem, Rule};
 use tt_travel::Travel;
 
-/// The spots of the placed members of a rule, in member order.
+// The spots of the placed members of a rule, in member order.
 fn placed_members(
     alloc: Global,
     spots: &[Option<Spot>],
@@ -48,7 +50,7 @@ pub fn is_violated(kind: PairKind, travel: &Travel, a: &Spot, b: &Spot) -> bool
     !holds(kind, *a, *b, travel.between(a.room, b.room))
 }
 
-/// How many later spots break a rule on pairs with a spot.
+// How many later spots break a rule on pairs with a spot.
 fn violated_with(kind: PairKind, travel: &Travel, spot: &Spot, later: &[Spot]) -> u64
     requires room { IsRoomOf travel.now spot.now.room }
     requires rooms { All (λ x. IsRoomOf travel.now x.room) later.now }
@@ -64,7 +66,7 @@ fn violated_with(kind: PairKind, travel: &Travel, spot: &Spot, later: &[Spot]) -
     count
 }
 
-/// How many pairs of spots break a rule on pairs.
+// How many pairs of spots break a rule on pairs.
 #[tactic(auto, using(crate::proofs::PairLemmas::few_pairs))]
 fn violated_pairs(kind: PairKind, travel: &Travel, spots: &[Spot]) -> u64
     requires few { length spots.now ≤ most_members }
@@ -79,7 +81,7 @@ fn violated_pairs(kind: PairKind, travel: &Travel, spots: &[Spot]) -> u64
     count
 }
 
-/// Whether some spot has a day.
+// Whether some spot has a day.
 fn is_used(spots: &[Spot], day: u8) -> bool
     requires { day < 7 }
     ensures { result ≡ list_any (λ x. has (day_set x.time.days) day) spots.now }
@@ -87,7 +89,7 @@ fn is_used(spots: &[Spot], day: u8) -> bool
     spots.iter().any(|spot| spot.time.days.has(day))
 }
 
-/// The days that some spot has, above the most that are allowed.
+// The days that some spot has, above the most that are allowed.
 #[tactic(auto, using(tt_base::proofs::Ranges::count_range_more), unfolding(tt_measure::specs::Cells::seven_days))]
 fn days_over(most: u16, spots: &[Spot]) -> u64
     ensures days { result ≡ count_by (λ day. list_any (λ x. has (day_set x.time.days) day) spots.now) seven_days - most }
@@ -102,7 +104,7 @@ fn days_over(most: u16, spots: &[Spot]) -> u64
     u64::from(days.saturating_sub(most))
 }
 
-/// Whether some spot has a week.
+// Whether some spot has a week.
 fn meets_in(spots: &[Spot], week: u8) -> bool
     requires { week < 128 }
     ensures { result ≡ list_any (λ x. has (week_set x.time.weeks) week) spots.now }
@@ -110,7 +112,7 @@ fn meets_in(spots: &[Spot], week: u8) -> bool
     spots.iter().any(|spot| spot.time.weeks.has(week))
 }
 
-/// The weeks that some spot has, above the most that are allowed.
+// The weeks that some spot has, above the most that are allowed.
 #[tactic(auto, using(tt_base::proofs::Ranges::count_range_more))]
 fn weeks_over(most: u16, spots: &[Spot]) -> u64
     ensures weeks { result ≡ count_by (λ week. list_any (λ x. has (week_set x.time.weeks) week) spots.now) places - most }
@@ -134,7 +136,7 @@ pub fn stands_in(week: u8, day: u8, spot: &Spot) -> bool
     spot.time.weeks.has(week) && spot.time.days.has(day)
 }
 
-/// The slots that the spots of a cell take together.
+// The slots that the spots of a cell take together.
 fn load_in(spots: &[Spot], week: u8, day: u8) -> u64
     requires few { length spots.now ≤ most_members }
     requires week { week < most_weeks }
@@ -151,7 +153,7 @@ fn load_in(spots: &[Spot], week: u8, day: u8) -> u64
     load
 }
 
-/// The slots above the most that are allowed in a cell, over the days of a week.
+// The slots above the most that are allowed in a cell, over the days of a week.
 #[tactic(auto, using(tt_base::proofs::Ranges::sum_range_more), unfolding(tt_measure::specs::Cells::seven_days))]
 fn load_over_in(most: u16, spots: &[Spot], week: u8) -> u64
     requires few { length spots.now ≤ most_members }
@@ -166,7 +168,7 @@ fn load_over_in(most: u16, spots: &[Spot], week: u8) -> u64
     sum
 }
 
-/// The slots above the most that are allowed in a cell, over all cells.
+// The slots above the most that are allowed in a cell, over all cells.
 #[tactic(auto, using(tt_base::proofs::Ranges::sum_range_more))]
 fn load_over(most: u16, weeks: u8, spots: &[Spot]) -> u64
     requires few { length spots.now ≤ most_members }

@@ -1,9 +1,11 @@
+//! `verify`: all that is found of a published timetable, and its lines.
+
 ghost use Rattle.std.specs.Prelude.{◌≡◌, ◌++◌, IfOk, OnOk, length, vec_len};
 ghost use Rattle.tt_score.specs.Members.{AreSpotsOf};
 ghost use Rattle.tt_published.specs.Timetable.{IsTimetableOf};
 ghost use Rattle.tt_verify.specs.Hard.{AreAsManyAsHard};
-ghost use Rattle.tt_verify.specs.Lines.{lines_of, sum_line, verdict_line};
-ghost use Rattle.tt_verify.specs.Verified.{sums_of, totals_in, verified_text};
+ghost use Rattle.tt_verify.specs.Lines.{violation_lines, sum_line, verdict_line};
+ghost use Rattle.tt_verify.specs.Verified.{sums_of, timetable_totals, verified_text};
 ghost use Rattle.tt_verify.specs.Violations.{hard_violations, listing_faults, violations_of};
 
 use crate::clashes::add_clashes;
@@ -21,7 +23,7 @@ use tt_problem::Problem;
 use tt_published::Published;
 use tt_text::Reply;
 
-/// Adds what is wrong with the listed classes and with the students' lists.
+// Adds what is wrong with the listed classes and with the students' lists.
 #[tactic(auto, using(crate::proofs::CountLemmas::limit_faults_counted, std::proofs::Common::append_assoc), unfolding(crate::specs::Violations::listing_faults))]
 fn add_listing_faults(
     alloc: Global,
@@ -62,7 +64,7 @@ pub fn add_hard_violations(
     add_all_rule_faults(alloc, problem, spots, found)
 }
 
-/// What is wrong with a timetable, how much of it is counted as hard, and what it costs.
+// What is wrong with a timetable, how much of it is counted as hard, and what it costs.
 #[derive(Drop)]
 struct Findings {
     violations: Vec<Violation>,
@@ -70,7 +72,7 @@ struct Findings {
     sums: Sums,
 }
 
-/// All that is found of a published timetable.
+// All that is found of a published timetable.
 #[tactic(auto, unfolding(crate::specs::Violations::violations_with))]
 fn findings_on(
     alloc: Global,
@@ -79,8 +81,8 @@ fn findings_on(
 ) -> Result<Findings, AllocError>
     requires { IsTimetableOf problem.now published.now }
     ensures violations { IfOk result (λ f. f.violations.items ≡ violations_of problem.now published.now) }
-    ensures hard { IfOk result (λ f. f.hard ≡ (totals_in problem.now published.now).hard) }
-    ensures sums { IfOk result (λ f. f.sums ≡ sums_of (totals_in problem.now published.now)) }
+    ensures hard { IfOk result (λ f. f.hard ≡ (timetable_totals problem.now published.now).hard) }
+    ensures sums { IfOk result (λ f. f.sums ≡ sums_of (timetable_totals problem.now published.now)) }
 {
     problem.validity();
     let plan = published_plan(alloc, problem, published)?;
@@ -99,10 +101,10 @@ fn findings_on(
     })
 }
 
-/// Appends a line for each violation, the line on the sums, and the last line.
+// Appends a line for each violation, the line on the sums, and the last line.
 #[tactic(auto, using(std::proofs::Common::append_assoc))]
 fn add_findings(out: &mut Reply, problem: &Problem, findings: &Findings) -> Result<(), AllocError>
-    ensures { OnOk result (out.new ≡ out.old ++ (lines_of problem.now findings.now.violations.items ++ sum_line findings.now.sums findings.now.hard ++ verdict_line (vec_len findings.now.violations))) }
+    ensures { OnOk result (out.new ≡ out.old ++ (violation_lines problem.now findings.now.violations.items ++ sum_line findings.now.sums findings.now.hard ++ verdict_line (vec_len findings.now.violations))) }
 {
     add_lines(out, problem, findings.violations.as_slice())?;
     add_sum_line(out, &findings.sums, findings.hard)?;

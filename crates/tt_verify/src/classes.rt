@@ -1,3 +1,5 @@
+//! What is wrong with classes: no value, more students than seats, or a closed room.
+
 ghost use Rattle.std.specs.Prelude.{◌≡◌, ◌++◌, ◌<◌, IfSome, OnOk, length};
 ghost use Rattle.std.specs.List.{list_any};
 ghost use Rattle.tt_bits.specs.Times.{overlaps};
@@ -14,7 +16,7 @@ use tt_clash::Closures;
 use tt_problem::Problem;
 use tt_published::Published;
 
-/// Adds a class that isn't listed, or is listed and has no value.
+// Adds a class that isn't listed, or is listed and has no value.
 #[tactic(auto, unfolding(crate::specs::Violations::class_fault))]
 fn add_class_fault(
     published: &Published,
@@ -52,7 +54,7 @@ pub fn add_class_faults(
     Ok(())
 }
 
-/// Adds a class that so many students have, where they are more than its limit.
+// Adds a class that so many students have, where they are more than its limit.
 #[tactic(auto, unfolding(crate::specs::Violations::limit_fault_with, crate::specs::Violations::limit_fault))]
 fn add_limit_fault(
     problem: &Problem,
@@ -87,14 +89,14 @@ pub fn add_limit_faults(
     Ok(())
 }
 
-/// Whether the time overlaps one of some times.
+// Whether the time overlaps one of some times.
 fn overlaps_some(times: &[Time], time: Time) -> bool
     ensures { result ≡ list_any (λ t. overlaps time t) times.now }
 {
     times.iter().any(|other| time.overlaps(other))
 }
 
-/// Whether the room of a spot is closed at an overlapping time, by the file or by a closure.
+// Whether the room of a spot is closed at an overlapping time, by the file or by a closure.
 #[tactic(auto, unfolding(tt_clash::specs::Blocked::is_closed))]
 fn is_closed(problem: &Problem, closures: &Closures, spot: &Spot) -> bool
     requires { IfSome spot.now.room (λ room. room < length problem.now.rooms) }
@@ -109,7 +111,7 @@ fn is_closed(problem: &Problem, closures: &Closures, spot: &Spot) -> bool
     }
 }
 
-/// Adds a class that is placed and whose room is closed then.
+// Adds a class that is placed and whose room is closed then.
 #[tactic(auto, unfolding(crate::specs::Violations::closed_fault))]
 fn add_closed_fault(
     problem: &Problem,

@@ -1,5 +1,7 @@
+//! The lines on violations, on the sums, and the last line.
+
 ghost use Rattle.std.specs.Prelude.{◌≡◌, ◌++◌, OnOk, codes};
-ghost use Rattle.tt_verify.specs.Lines.{class_text, number_line, line_of, lines_of, sum_line, verdict_line};
+ghost use Rattle.tt_verify.specs.Lines.{class_text, number_line, violation_line, violation_lines, sum_line, verdict_line};
 
 use crate::sums::Sums;
 use crate::violation::Violation;
@@ -7,7 +9,7 @@ use std::alloc::AllocError;
 use tt_problem::Problem;
 use tt_text::Reply;
 
-/// Appends a text and the id of a class.
+// Appends a text and the id of a class.
 #[tactic(auto, unfolding(crate::specs::Lines::class_text))]
 fn add_class(out: &mut Reply, t: &str, problem: &Problem, class: u32) -> Result<(), AllocError>
     ensures { OnOk result (out.new ≡ out.old ++ class_text t.now problem.now class) }
@@ -15,7 +17,7 @@ fn add_class(out: &mut Reply, t: &str, problem: &Problem, class: u32) -> Result<
     out.field(t, u128::from(problem.class_id(class)))
 }
 
-/// Appends a text, the id of a class, and another text.
+// Appends a text, the id of a class, and another text.
 #[tactic(auto, using(std::proofs::Common::append_assoc))]
 fn add_class_line(
     out: &mut Reply,
@@ -30,7 +32,7 @@ fn add_class_line(
     out.text(end)
 }
 
-/// Appends two texts, each with the id of a class, and the end of the line.
+// Appends two texts, each with the id of a class, and the end of the line.
 #[tactic(auto, using(std::proofs::Common::append_assoc))]
 fn add_two_classes(
     out: &mut Reply,
@@ -46,10 +48,10 @@ fn add_two_classes(
     out.text("\n")
 }
 
-/// Appends the line on a violation.
-#[tactic(auto, using(std::proofs::Common::append_assoc), unfolding(crate::specs::Lines::line_of))]
+// Appends the line on a violation.
+#[tactic(auto, using(std::proofs::Common::append_assoc), unfolding(crate::specs::Lines::violation_line))]
 fn add_line(out: &mut Reply, problem: &Problem, violation: Violation) -> Result<(), AllocError>
-    ensures { OnOk result (out.new ≡ out.old ++ line_of problem.now violation) }
+    ensures { OnOk result (out.new ≡ out.old ++ violation_line problem.now violation) }
 {
     match violation {
         Violation::Missing { class } => add_class_line(out, "class ", problem, class, " missing\n"),
@@ -78,13 +80,13 @@ fn add_line(out: &mut Reply, problem: &Problem, violation: Violation) -> Result<
 }
 
 /// Appends a line for each violation, in order.
-#[tactic(auto, using(std::proofs::Common::append_assoc), unfolding(crate::specs::Lines::lines_of))]
+#[tactic(auto, using(std::proofs::Common::append_assoc), unfolding(crate::specs::Lines::violation_lines))]
 pub fn add_lines(
     out: &mut Reply,
     problem: &Problem,
     violations: &[Violation],
 ) -> Result<(), AllocError>
-    ensures { OnOk result (out.new ≡ out.old ++ lines_of problem.now violations.now) }
+    ensures { OnOk result (out.new ≡ out.old ++ violation_lines problem.now violations.now) }
 {
     for violation in violations {
         add_line(out, problem, *violation)?;

@@ -1,3 +1,5 @@
+//! The plan of a published timetable, and the spot of each class.
+
 ghost use Rattle.std.specs.Prelude.{◌≡◌, ◌<◌, IfOk, IfSome, length, option_and_then};
 ghost use Rattle.tt_plan.specs.Domain.{IsOfDomain, IsSpotOf, spot_at_value, spots_of};
 ghost use Rattle.tt_score.specs.Members.{AreSpotsOf};
@@ -28,7 +30,7 @@ pub fn published_plan(
     Ok(plan)
 }
 
-/// The spot of a class with this value, or without one.
+// The spot of a class with this value, or without one.
 fn spot_of(problem: &Problem, class: u32, value: Option<Value>) -> Option<Spot>
     requires { IfSome value (λ v. IsOfDomain problem.now class v) }
     ensures spot { result ≡ option_and_then (spot_at_value problem.now class) value }

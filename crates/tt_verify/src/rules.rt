@@ -1,3 +1,5 @@
+//! What is wrong with the required rules.
+
 ghost use Rattle.std.specs.Prelude.{◌≡◌, ◌++◌, ◌<◌, ℕ, All, IfSome, OnOk, length};
 ghost use Rattle.tt_bits.specs.Spots.{spot_at};
 ghost use Rattle.tt_pair.specs.ViolatedPairs.{is_violated};
@@ -15,15 +17,15 @@ use tt_bits::{PairKind, Spot};
 use tt_problem::{DistKind, Problem, Rule};
 use tt_travel::Travel;
 
-/// A required rule on pairs, and its place in the problem.
+// A required rule on pairs, and its place in the problem.
 #[derive(Clone, Copy)]
 struct PairRule {
     place: u32,
     kind: PairKind,
 }
 
-/// Whether two classes are placed, and their spots break a rule on pairs, the first that of the
-/// member listed earlier.
+// Whether two classes are placed, and their spots break a rule on pairs, the first that of the
+// member listed earlier.
 #[tactic(auto, unfolding(crate::specs::Pairs::are_related))]
 fn breaks(travel: &Travel, spots: &[Option<Spot>], kind: PairKind, class: u32, other: u32) -> bool
     requires rooms { (c : ℕ) → IfSome (spot_at spots.now c) (λ x. IsRoomOf travel.now x.room) }
@@ -37,7 +39,7 @@ fn breaks(travel: &Travel, spots: &[Option<Spot>], kind: PairKind, class: u32, o
     }
 }
 
-/// Adds the pairs of a member and of those of some others that break a rule on pairs with it.
+// Adds the pairs of a member and of those of some others that break a rule on pairs with it.
 #[tactic(auto, using(crate::proofs::PairLemmas::pair_faults_yes, crate::proofs::PairLemmas::pair_faults_no, std::proofs::Common::append_assoc))]
 fn add_pairs_of(
     travel: &Travel,
@@ -64,7 +66,7 @@ fn add_pairs_of(
     Ok(())
 }
 
-/// Adds the pairs of members that break a rule on pairs.
+// Adds the pairs of members that break a rule on pairs.
 fn add_pairs(
     travel: &Travel,
     spots: &[Option<Spot>],
@@ -84,7 +86,7 @@ fn add_pairs(
     Ok(())
 }
 
-/// Adds the amount of a rule that speaks of all members together, where it is above 0.
+// Adds the amount of a rule that speaks of all members together, where it is above 0.
 #[tactic(auto, unfolding(crate::specs::Violations::amount_faults))]
 fn add_amount(
     alloc: Global,
@@ -109,7 +111,7 @@ fn add_amount(
     Ok(())
 }
 
-/// Adds what is wrong with a rule; nothing where it isn't required.
+// Adds what is wrong with a rule; nothing where it isn't required.
 #[tactic(auto, unfolding(crate::specs::Violations::rule_faults_at, crate::specs::Violations::rule_faults, crate::specs::Violations::kind_faults))]
 fn add_rule_faults(
     alloc: Global,

@@ -1,3 +1,5 @@
+//! The four sums of a timetable, and their total.
+
 ghost use Rattle.std.specs.Prelude.{[], ◌≡◌, ◌*◌, ◌/◌, ◌<◌, ◌≤◌, ◌^◌, IfOk, length};
 ghost use Rattle.tt_plan.specs.Domain.{room_penalty, spots_of, time_penalty};
 ghost use Rattle.tt_problem.specs.Valid.{AreValidWeights};
@@ -27,7 +29,7 @@ pub struct Sums {
     pub total: u128,
 }
 
-/// The penalties of the times of the placed classes.
+// The penalties of the times of the placed classes.
 #[tactic(auto, using(tt_base::proofs::Ranges::sum_range_more), unfolding(tt_score::specs::Placed::over_placed))]
 fn time_sum(problem: &Problem, plan: &[Option<Value>]) -> u64
     requires { IsPlanOf problem.now plan.now }
@@ -43,7 +45,7 @@ fn time_sum(problem: &Problem, plan: &[Option<Value>]) -> u64
     sum
 }
 
-/// The penalties of the rooms of the placed classes.
+// The penalties of the rooms of the placed classes.
 #[tactic(auto, using(tt_base::proofs::Ranges::sum_range_more), unfolding(tt_score::specs::Placed::over_placed))]
 fn room_sum(problem: &Problem, plan: &[Option<Value>]) -> u64
     requires { IsPlanOf problem.now plan.now }
@@ -59,7 +61,7 @@ fn room_sum(problem: &Problem, plan: &[Option<Value>]) -> u64
     sum
 }
 
-/// The whole part of a cost divided by the weeks.
+// The whole part of a cost divided by the weeks.
 #[tactic(auto, using(tt_score::proofs::AmountLemmas::few_shares))]
 fn per_week(cost: u128, weeks: u8) -> u128
     requires { 1 ≤ weeks }
@@ -69,7 +71,7 @@ fn per_week(cost: u128, weeks: u8) -> u128
     cost / u128::from(weeks)
 }
 
-/// The cost of a rule that has this amount.
+// The cost of a rule that has this amount.
 fn cost_of(problem: &Problem, rule: &Rule, amount: u64) -> u128
     requires { rule.now.penalty ≤ 1000000 }
     ensures cost { result ≡ kind_cost rule.now.kind problem.now.nr_weeks rule.now.penalty amount }
@@ -83,7 +85,7 @@ fn cost_of(problem: &Problem, rule: &Rule, amount: u64) -> u128
     }
 }
 
-/// The cost of the rule at a place, 0 where it is required.
+// The cost of the rule at a place, 0 where it is required.
 #[tactic(auto, unfolding(crate::specs::Costs::cost_at, tt_score::specs::Amounts::cost_of))]
 fn rule_cost(
     alloc: Global,
@@ -105,7 +107,7 @@ fn rule_cost(
     Ok(cost_of(problem, rule, amount))
 }
 
-/// The costs of the soft rules together.
+// The costs of the soft rules together.
 #[tactic(auto, using(tt_base::proofs::Ranges::sum_range_more, crate::proofs::PairLemmas::costs_by_place))]
 fn cost_sum(alloc: Global, problem: &Problem, spots: &[Option<Spot>]) -> Result<u128, AllocError>
     requires whole { length spots.now ≡ length problem.now.classes }
@@ -120,7 +122,7 @@ fn cost_sum(alloc: Global, problem: &Problem, spots: &[Option<Spot>]) -> Result<
     Ok(sum)
 }
 
-/// The four penalties together, each times its weight.
+// The four penalties together, each times its weight.
 fn weighted(weights: Weights, penalties: Penalties) -> u128
     requires weights { AreValidWeights weights }
     requires few_costs { penalties.distribution < 2 ^ 100 }

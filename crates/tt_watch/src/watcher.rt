@@ -1,4 +1,5 @@
-// How far a long command has come, and who is told of it.
+//! How far a long command has come, and who is told of it.
+
 ghost use Rattle.std.specs.Prelude.{◌≡◌, ◌<◌, ◌≤◌, max, true, false};
 
 use std::fmt;

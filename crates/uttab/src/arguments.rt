@@ -1,3 +1,5 @@
+//! The words of the command line.
+
 ghost use Rattle.std.specs.Prelude.{◌≡◌, [], string_bytes, IsUtf8};
 
 use std::alloc::{AllocError, Global};

@@ -1,3 +1,5 @@
+//! What happened where a run ended with a status that its output doesn't explain.
+
 ghost use Rattle.std.specs.Prelude.{◌≡◌, option_and_then};
 ghost use Rattle.uttab.specs.Reasons.{line_of, reason_text};
 

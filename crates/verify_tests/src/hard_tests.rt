@@ -1,3 +1,5 @@
+//! Tests of what is hard, with closures of a session.
+
 use std::alloc::Global;
 use std::test::Fail;
 use tt_bits::{Days, Time, Weeks};
@@ -9,7 +11,7 @@ use tt_score::Score;
 use tt_text::Reply;
 use tt_verify::{add_count, add_hard_violations, add_lines};
 
-/// A class with two rooms, of which the file closes the first at its time.
+// A class with two rooms, of which the file closes the first at its time.
 const TWO_ROOMS: &str = r#"{"nrDays":1,"nrWeeks":1,"slotsPerDay":288,
     "optimization":{"time":1,"room":1,"distribution":1,"student":1},
     "rooms":[

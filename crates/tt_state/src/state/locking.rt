@@ -21,7 +21,7 @@ impl State {
         self.present.is_locked(class)
     }
 
-    /// Puts a lock on a class, or takes it off.
+    // Puts a lock on a class, or takes it off.
     fn turn(&mut self, beginning: Beginning, class: u32, lock: bool) -> Result<(), AllocError>
         requires may { may_turn lock self.old.present class ≡ true }
         requires begins { MayBegin beginning self.old.entries }
@@ -88,7 +88,7 @@ impl State {
         self.turn(Beginning::Moment, class, false)
     }
 
-    /// Locks each placed class, or takes each lock off. How many locks turned.
+    // Locks each placed class, or takes each lock off. How many locks turned.
     fn turn_all(&mut self, lock: bool) -> Result<u32, AllocError>
         ensures now { OnOk result (self.new ≡ record { problem = self.old.problem; present = all_turned lock self.old.present; entries = noted_by (turn_of lock) (turning lock self.old.present) (begun Beginning.Step self.old.entries); taken = self.old.taken }) }
         ensures past { OnOk result (HasPastOf self.old.present (begun Beginning.Step self.old.entries) self.new.present self.new.entries) }

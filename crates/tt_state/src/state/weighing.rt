@@ -8,7 +8,7 @@ use crate::state::State;
 use tt_bits::{Key, Value};
 
 impl State {
-    /// 1, and how often the class at the value has pushed out the other from the value that it has.
+    // 1, and how often the class at the value has pushed out the other from the value that it has.
     fn toll(&self, class: u32, value: Value, other: u32) -> u128
         ensures toll { result ≡ toll_of self.now.present class value other }
         ensures small { result ≤ 2 ^ 64 }

@@ -4,7 +4,7 @@ use Rattle.std.proofs.lemmas.Bool.{or_from, or_left, or_right}
 use Rattle.tt_state.specs.History.{Held, trail, with_taken}
 use Rattle.tt_state.specs.Snapshots.{Snapshot, with_value}
 use Rattle.tt_state.specs.Values.{blocked_of, conflicts_of}
-use Rattle.tt_deluge.specs.ClassRounds.{among, has_value, moved_to_value}
+use Rattle.tt_deluge.specs.ClassRounds.{moved_by_conflicts, has_value, moved_to_value}
 use Rattle.tt_deluge.specs.Deluged.{made_within}
 use Rattle.tt_deluge.specs.Standing.{IsClassRound}
 use Rattle.tt_deluge.proofs.RoundLemmas.{among-many, moved-among, moved-none, round-left}
@@ -68,6 +68,6 @@ returns-in-Some-clause-round c =
     let good : (has_value s class v || is_some (blocked_of p s.closures class v)) ≡ false = or_from (has_value s class v) (is_some (blocked_of p s.closures class v)) had blocked in
     let now : c.find_conflicts_within.new.self ≡ with_taken h (conflicts_of p s class v) = c.find_conflicts_within.ensures.found c.if-not-find_conflicts_within.false in
     let one : conflicts_of p s class v ≡ other ∷ [] = sym (ap (λ (x : Held). x.taken) now) ∙ c.in-Some.ensures.one in
-    let found : moved_to_value p s class v ≡ among p s class v (other ∷ []) = moved-among p s class v (other ∷ []) good one in
-    let Round : Held → Type 0 = λ (x : Held). IfOk c.exchange.result (IsClassRound c.args.level (among x.problem x.present class v (other ∷ [])) (with_taken x []) (with_taken c.exchange.new.state [])) in
+    let found : moved_to_value p s class v ≡ moved_by_conflicts p s class v (other ∷ []) = moved-among p s class v (other ∷ []) good one in
+    let Round : Held → Type 0 = λ (x : Held). IfOk c.exchange.result (IsClassRound c.args.level (moved_by_conflicts x.problem x.present class v (other ∷ [])) (with_taken x []) (with_taken c.exchange.new.state [])) in
     subst (λ (o : Option Snapshot). IfOk c.exchange.result (IsClassRound c.args.level o (with_taken h []) (with_taken c.exchange.new.state []))) (sym found) (subst Round now c.exchange.ensures.round)

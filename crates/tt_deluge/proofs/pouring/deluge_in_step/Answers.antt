@@ -5,7 +5,7 @@ use Rattle.tt_problem.specs.declared.parts.Parts.{Parts}
 use Rattle.tt_state.specs.History.{Desk, trail}
 use Rattle.tt_state.specs.Snapshots.{Snapshot}
 use Rattle.tt_improve.specs.Classes.{total_of}
-use Rattle.tt_deluge.specs.Deluged.{are_none, best_moment, objects_at}
+use Rattle.tt_deluge.specs.Deluged.{are_none, best_moment, targets_at}
 use Rattle.tt_deluge.specs.Pouring.{IsPouring}
 use Rattle.tt_deluge.specs.Standing.{StandsAs}
 use Rattle.tt_deluge.specs.UnderWay.{ended_at}
@@ -16,7 +16,7 @@ pub returns-then-are_none-clause-end : goal.returns-then-are_none-clause-end
 returns-then-are_none-clause-end g c =
     let h = c.args.state.now in
     let present : c.begin.new.self.present ≡ h.present = ap (λ (d : Desk). d.present) c.in_ok-begin.ensures.desk in
-    let none : are_none (objects_at h.problem h.present) ≡ true = ap are_none (sym c.in_ok-work.ensures.objects) ∙ sym c.are_none.ensures ∙ c.if-are_none.true in
+    let none : are_none (targets_at h.problem h.present) ≡ true = ap are_none (sym c.in_ok-work.ensures.targets) ∙ sym c.are_none.ensures ∙ c.if-are_none.true in
     ap (λ (t : Snapshot). ended_at t 0 0) present ∙ deluged-none h.problem c.args.rounds c.args.seed h.present none
 
 pub roll_back-requires : goal.roll_back-requires
@@ -35,7 +35,7 @@ returns-in-Ok-clause-end g c =
     let Way : Parts → Snapshot → Type 0 = λ (q : Parts) (t : Snapshot). IsPouring q t (trail st) [] best (best_moment q c.args.rounds c.args.seed t) in
     let way = subst (Way h.problem) present (subst (λ (q : Parts). Way q begun.present) problem c.in-Ok.ensures.way) in
     let same = pour-end h.problem h.present c.roll_back.new.self.present (trail st) best (best_moment h.problem c.args.rounds c.args.seed h.present) way c.roll_back.ensures.present in
-    let some : are_none (objects_at h.problem h.present) ≡ false = ap are_none (sym c.in_ok-work.ensures.objects) ∙ sym c.are_none.ensures ∙ c.if-are_none.false in
+    let some : are_none (targets_at h.problem h.present) ≡ false = ap are_none (sym c.in_ok-work.ensures.targets) ∙ sym c.are_none.ensures ∙ c.if-are_none.false in
     deluged-end h.problem c.args.rounds c.args.seed h.present c.roll_back.new.self.present (trail st) best way same some
 
 pub returns-in-Ok-clause-total : goal.returns-in-Ok-clause-total

@@ -7,12 +7,12 @@ use Rattle.tt_state.proofs.StepLemmas.{within_next, within_same}
 use Rattle.tt_draw.proofs.WordLemmas.{words_from}
 use Rattle.rand_core.specs.Stream.{Stream}
 use Rattle.tt_improve.specs.Classes.{total_of}
-use Rattle.tt_deluge.specs.declared.objects.Objects.{Objects as Kept}
-use Rattle.tt_deluge.specs.Deluged.{Moment, best_moment, first_moment, found_by, level_at, made_within, moments_after}
+use Rattle.tt_deluge.specs.declared.targets.Targets.{Targets as Kept}
+use Rattle.tt_deluge.specs.Deluged.{DelugeMoment, best_moment, first_moment, found_by, level_at, made_within, moments_after}
 use Rattle.tt_deluge.specs.Pouring.{IsMomentOf, IsPouring, moment_of}
 use Rattle.tt_deluge.specs.Reading.{words_of}
 use Rattle.tt_deluge.specs.Standing.{StandsAs}
-use Rattle.tt_deluge.specs.Views.{objects_in}
+use Rattle.tt_deluge.specs.Views.{targets_in}
 use Rattle.tt_deluge.proofs.ChangeLemmas.{stands-next, stands-same}
 use Rattle.tt_deluge.proofs.PourLemmas.{last-moments, next-moments, pour-on, pour-start, round-leads}
 use Rattle.tt_deluge.proofs.pouring.pour.Goals as goal
@@ -27,12 +27,12 @@ loop-made-init g c =
     let begins : moment_of start.present 0 (words_of c.new-words.result) ≡ first_moment c.args.seed start.present = ap (λ (w : Stream). moment_of start.present 0 w) words in
     record {
       step = within_same (with_taken start []);
-      objects = refl;
+      targets = refl;
       few = omega (arith, changed);
       moment = moment;
       still = λ none. refl;
       stands = stands-same start.problem start.present;
-      way = pour-start start.problem (objects_in c.args.work.now.objects) c.args.rounds c.args.seed kept.total start.present (trail start) (words_of c.new-words.result) kept c.requires.objects moment.total moment changed begins;
+      way = pour-start start.problem (targets_in c.args.work.now.targets) c.args.rounds c.args.seed kept.total start.present (trail start) (words_of c.new-words.result) kept c.requires.targets moment.total moment changed begins;
     }
 
 byte_is : (b : Bool) → bool_byte b ≡ cond b 1 0
@@ -64,15 +64,15 @@ loop-made-preserved g c =
     let words = words_of c.loop-made.words in
     let left = words_of c.make_round.new.words in
     let kept = c.moment_now-now.result in
-    let o = objects_in c.args.work.now.objects in
+    let o = targets_in c.args.work.now.targets in
     let problem : before.problem ≡ p = inv.step.problem in
-    let objects : c.loop-made.work.objects ≡ c.args.work.now.objects = inv.objects in
+    let targets : c.loop-made.work.targets ≡ c.args.work.now.targets = inv.targets in
     let change : made_within p level (found_by p o before.present words).0 ≡ cond changes (Some after.present) None =
     subst (λ (q : Parts). made_within q level (found_by q o before.present words).0 ≡ cond changes (Some after.present) None) problem
-    (subst (λ (k : Kept). made_within before.problem level (found_by before.problem (objects_in k) before.present words).0 ≡ cond changes (Some after.present) None) objects done.round.change) in
+    (subst (λ (k : Kept). made_within before.problem level (found_by before.problem (targets_in k) before.present words).0 ≡ cond changes (Some after.present) None) targets done.round.change) in
     let words_are : left ≡ (found_by p o before.present words).1 =
     subst (λ (q : Parts). left ≡ (found_by q o before.present words).1) problem
-    (subst (λ (k : Kept). left ≡ (found_by before.problem (objects_in k) before.present words).1) objects done.words) in
+    (subst (λ (k : Kept). left ≡ (found_by before.problem (targets_in k) before.present words).1) targets done.words) in
     let stands : StandsAs p before.present after.present = subst (λ (q : Parts). StandsAs q before.present after.present) problem done.round.stands in
     let counted : c.from.result ≡ cond changes 1 0 = c.from.ensures ∙ byte_is changes in
     let changed_now : kept.changed ≡ c.loop-made.now.changed + cond changes 1 0 = c.moment_now-now.ensures.changed ∙ ap (λ (n : ℕ). c.loop-made.now.changed + n) counted in
@@ -81,13 +81,13 @@ loop-made-preserved g c =
     let next = leads ∙ ap (λ (n : ℕ). moment_of after.present n left) (sym changed_now) in
     let ahead = next-moments p o first rounds i (moment_of before.present c.loop-made.now.changed words) (moment_of after.present kept.changed left) c.loop-made-test.true next in
     let end = best_moment p rounds c.args.seed s in
-    let way = subst (λ (l : List Moment). IsPouring p s (trail before) l c.loop-made.best end) ahead inv.way in
+    let way = subst (λ (l : List DelugeMoment). IsPouring p s (trail before) l c.loop-made.best end) ahead inv.way in
     let moment : IsMomentOf p after.present (trail after) kept = subst (λ (q : Parts). IsMomentOf q after.present (trail after) kept) (done.step.problem ∙ problem) c.moment_now-now.ensures.moment in
     let still = still_next s before.present after.present changes c.loop-made.now.changed kept.changed changed_now done.round.same inv.still in
     let all = stands-next p s before.present after.present inv.stands stands in
     record {
       step = within_next _ _ _ inv.step done.step;
-      objects = done.objects ∙ objects;
+      targets = done.targets ∙ targets;
       few = omega (arith, inv.few, changed_now, byte_small changes);
       moment = moment;
       still = still;
@@ -99,7 +99,7 @@ pub returns-clause-way : goal.returns-clause-way
 returns-clause-way g c =
     let start = c.args.state.now in
     let p = start.problem in
-    let o = objects_in c.args.work.now.objects in
+    let o = targets_in c.args.work.now.targets in
     let first = c.moment_now-start.result.total in
     let none = last-moments p o first c.args.rounds c.loop-made.made (moment_of c.loop-made.state.present c.loop-made.now.changed (words_of c.loop-made.words)) c.loop-made-test.false in
-    subst (λ (l : List Moment). IsPouring p start.present (trail c.loop-made.state) l c.loop-made.best (best_moment p c.args.rounds c.args.seed start.present)) none c.loop-made.invariant.way
+    subst (λ (l : List DelugeMoment). IsPouring p start.present (trail c.loop-made.state) l c.loop-made.best (best_moment p c.args.rounds c.args.seed start.present)) none c.loop-made.invariant.way

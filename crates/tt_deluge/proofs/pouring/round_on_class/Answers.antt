@@ -18,8 +18,8 @@ domain_size-size-requires c =
     let classes = c.args.classes.now in
     let at = c.draw_below.result in
     let there : slice_get classes at ≡ Some (get_or classes at 0) = slice_get-get_or classes at 0 (c.draw_below.ensures.below c.requires.some) in
-    let object : IsMovable h.problem h.present (get_or classes at 0) = drawn-movable h.problem h.present classes at (get_or classes at 0) c.requires.classes there in
-    rw c.problem.ensures object.within
+    let target : IsMovable h.problem h.present (get_or classes at 0) = drawn-movable h.problem h.present classes at (get_or classes at 0) c.requires.classes there in
+    rw c.problem.ensures target.within
 
 pub class_round-requires-clause-class : goal.class_round-requires-clause-class
 class_round-requires-clause-class c =
@@ -36,9 +36,9 @@ class_round-requires-clause-place c =
     let at = c.draw_below.result in
     let class = get_or classes at 0 in
     let there : slice_get classes at ≡ Some class = slice_get-get_or classes at 0 (c.draw_below.ensures.below c.requires.some) in
-    let object : IsMovable h.problem h.present class = drawn-movable h.problem h.present classes at class c.requires.classes there in
+    let target : IsMovable h.problem h.present class = drawn-movable h.problem h.present classes at class c.requires.classes there in
     let size : c.domain_size-size.result ≡ length (domain_of h.problem class) = rw c.problem.ensures at c.domain_size-size.ensures.size in
-    let some : 0 < length (domain_of h.problem class) = domain-some h.problem h.present class c.soundness.ensures.present.plan object in
+    let some : 0 < length (domain_of h.problem class) = domain-some h.problem h.present class c.soundness.ensures.present.plan target in
     let below : c.draw_below-place.result < c.from.result = c.draw_below-place.ensures.below (omega (arith, some, size, c.from.ensures)) in
     omega (arith, below, size, c.from.ensures)
 

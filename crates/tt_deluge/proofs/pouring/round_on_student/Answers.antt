@@ -4,26 +4,26 @@ use Rattle.std.proofs.lemmas.Option.{slice_get-get_or, slice_get-map}
 use Rattle.std.proofs.lemmas.List.{length-map}
 use Rattle.std.proofs.lemmas.Result.{on_ok_weaker}
 use Rattle.tt_state.specs.History.{trail, with_taken}
-use Rattle.tt_improve.specs.declared.objects.Object.TheVariants.{Course}
-use Rattle.tt_deluge.specs.declared.objects.Choice.{Choice}
+use Rattle.tt_improve.specs.declared.targets.Target.TheVariants.{Course}
+use Rattle.tt_deluge.specs.declared.targets.Choice.{Choice}
 use Rattle.tt_deluge.specs.Deluged.{made_within}
 use Rattle.tt_deluge.specs.Reading.{words_of}
 use Rattle.tt_deluge.specs.Standing.{BeginsWith, IsRound, StandsAs}
 use Rattle.tt_deluge.specs.StudentRounds.{choice_drawn, student_round}
-use Rattle.tt_deluge.specs.Views.{object_of}
+use Rattle.tt_deluge.specs.Views.{target_of}
 use Rattle.tt_deluge.proofs.FoundLemmas.{drawn-seated, student-round-is}
 use Rattle.tt_deluge.proofs.RoundLemmas.{if_ok_join}
 use Rattle.tt_deluge.proofs.pouring.round_on_student.Goals as goal
 
-pub student_round-requires-clause-object : goal.student_round-requires-clause-object
-student_round-requires-clause-object c =
+pub student_round-requires-clause-target : goal.student_round-requires-clause-target
+student_round-requires-clause-target c =
     let h = c.args.state.now in
     let choices = c.args.choices.now in
     let at = c.draw_below.result in
     let choice : Choice = get_or choices at (record { student = 0; course = 0 }) in
     let here : slice_get choices at ≡ Some choice = slice_get-get_or choices at (record { student = 0; course = 0 }) (c.draw_below.ensures.below c.requires.some) in
-    let there : slice_get (map object_of choices) at ≡ Some (Course choice.student choice.course) = slice_get-map object_of choices at ∙ ap (option_map object_of) here in
-    drawn-seated h.problem h.present (map object_of choices) at choice.student choice.course c.requires.choices there
+    let there : slice_get (map target_of choices) at ≡ Some (Course choice.student choice.course) = slice_get-map target_of choices at ∙ ap (option_map target_of) here in
+    drawn-seated h.problem h.present (map target_of choices) at choice.student choice.course c.requires.choices there
 
 pub returns-clause-words : goal.returns-clause-words
 returns-clause-words c =
@@ -32,8 +32,8 @@ returns-clause-words c =
     let at = c.draw_below.result in
     let choice : Choice = get_or choices at (record { student = 0; course = 0 }) in
     let here : slice_get choices at ≡ Some choice = slice_get-get_or choices at (record { student = 0; course = 0 }) (c.draw_below.ensures.below c.requires.some) in
-    let there : slice_get (map object_of choices) at ≡ Some (Course choice.student choice.course) = slice_get-map object_of choices at ∙ ap (option_map object_of) here in
-    let is = student-round-is h.problem (map object_of choices) h.present (words_of c.args.words.now) (words_of c.draw_below.new.words) at (length choices) (Course choice.student choice.course) (sym (length-map choices object_of)) c.draw_below.ensures.draw there in
+    let there : slice_get (map target_of choices) at ≡ Some (Course choice.student choice.course) = slice_get-map target_of choices at ∙ ap (option_map target_of) here in
+    let is = student-round-is h.problem (map target_of choices) h.present (words_of c.args.words.now) (words_of c.draw_below.new.words) at (length choices) (Course choice.student choice.course) (sym (length-map choices target_of)) c.draw_below.ensures.draw there in
     on_ok_weaker c.student_round.result (λ (e : words_of c.student_round.new.words ≡ (choice_drawn h.problem h.present (Course choice.student choice.course) (words_of c.draw_below.new.words)).1). e ∙ sym (ap (λ f. f.1) is)) c.student_round.ensures.words
 
 pub returns-clause-round : goal.returns-clause-round
@@ -43,15 +43,15 @@ returns-clause-round c =
     let choices = c.args.choices.now in
     let at = c.draw_below.result in
     let choice : Choice = get_or choices at (record { student = 0; course = 0 }) in
-    let object = Course choice.student choice.course in
+    let target = Course choice.student choice.course in
     let here : slice_get choices at ≡ Some choice = slice_get-get_or choices at (record { student = 0; course = 0 }) (c.draw_below.ensures.below c.requires.some) in
-    let there : slice_get (map object_of choices) at ≡ Some (Course choice.student choice.course) = slice_get-map object_of choices at ∙ ap (option_map object_of) here in
-    let is = student-round-is h.problem (map object_of choices) h.present (words_of c.args.words.now) (words_of c.draw_below.new.words) at (length choices) (Course choice.student choice.course) (sym (length-map choices object_of)) c.draw_below.ensures.draw there in
-    let found : (student_round h.problem (map object_of choices) h.present (words_of c.args.words.now)).0 ≡ (choice_drawn h.problem h.present (Course choice.student choice.course) (words_of c.draw_below.new.words)).0 = ap (λ f. f.0) is in
+    let there : slice_get (map target_of choices) at ≡ Some (Course choice.student choice.course) = slice_get-map target_of choices at ∙ ap (option_map target_of) here in
+    let is = student-round-is h.problem (map target_of choices) h.present (words_of c.args.words.now) (words_of c.draw_below.new.words) at (length choices) (Course choice.student choice.course) (sym (length-map choices target_of)) c.draw_below.ensures.draw there in
+    let found : (student_round h.problem (map target_of choices) h.present (words_of c.args.words.now)).0 ≡ (choice_drawn h.problem h.present (Course choice.student choice.course) (words_of c.draw_below.new.words)).0 = ap (λ f. f.0) is in
     if_ok_join c.student_round.result
     (λ (made : Bool). made_within h.problem c.args.level (choice_drawn h.problem h.present (Course choice.student choice.course) (words_of c.draw_below.new.words)).0 ≡ cond made (Some end.present) None)
     (λ (made : Bool). made ≡ false → end.present ≡ h.present)
-    (IsRound c.args.level (student_round h.problem (map object_of choices) h.present (words_of c.args.words.now)).0 (with_taken h []) (with_taken end []))
+    (IsRound c.args.level (student_round h.problem (map target_of choices) h.present (words_of c.args.words.now)).0 (with_taken h []) (with_taken end []))
     (BeginsWith (trail h) (trail end)) (StandsAs h.problem h.present end.present)
     (λ made change same front stands. record { change = ap (made_within h.problem c.args.level) found ∙ change; same = same; front = front; stands = stands })
     c.student_round.ensures.made c.student_round.ensures.same c.student_round.ensures.trail c.student_round.ensures.stands

@@ -7,4 +7,4 @@ pub draw_config-config-requires : goal.draw_config-config-requires
 draw_config-config-requires c =
     let h = c.args.state.now in
     let valid = subst IsValid c.problem.ensures c.validity.ensures in
-    rw c.problem-2.ensures (within_courses h.problem h.present c.args.choice.student c.args.choice.course valid c.soundness.ensures.present c.requires.object)
+    rw c.problem-2.ensures (within_courses h.problem h.present c.args.choice.student c.args.choice.course valid c.soundness.ensures.present c.requires.target)

@@ -1,7 +1,7 @@
 use Rattle.std.proofs.Common.{◌+◌, ◌*◌, suc, map}
 use Rattle.std.specs.Option.{option_copied}
 use Rattle.tt_base.specs.Lists.{least_after}
-use Rattle.tt_suggest.specs.Suggestions.{rank_of, suggestion_of}
+use Rattle.tt_suggest.specs.Suggestions.{suggestion_rank, suggestion_of}
 use Rattle.tt_suggest.specs.Tree.{leaves_of, tries_of}
 use Rattle.tt_suggest.specs.Walks.{IsBack, node_of}
 use Rattle.tt_suggest.proofs.TreeLemmas.{IsOnWay}
@@ -25,5 +25,5 @@ invariant-walk-loop-k l =
       back : IsBack start l.state;
       on : IsOnWay start.problem aim start.present l.branch l.found l.k
           (l.fn.found.tried + tries_of start.problem (suc l.branch.spare) node)
-          (least_after rank_of l.fn.found.best (map (suggestion_of start.problem aim) (leaves_of start.problem (suc l.branch.spare) node)));
+          (least_after suggestion_rank l.fn.found.best (map (suggestion_of start.problem aim) (leaves_of start.problem (suc l.branch.spare) node)));
     }
