@@ -1,5 +1,5 @@
-"""Tests that the pages on the sources say what the sources are: the crates by layers, the files of the theorem, and the words
-that stand for two things in it."""
+"""Tests that the pages on the sources say what the sources are: the crates by layers and the files of the theorem; and that no word
+stands for two things in it."""
 
 import re
 import subprocess
@@ -57,11 +57,10 @@ def test_the_files_of_the_theorem_are_listed() -> None:
     assert listed == marked
 
 
-def test_the_words_for_two_definitions_are_listed() -> None:
-    words = part_of((TOP / "docs/WORDS.md").read_text(encoding="utf-8"), "To be parted").split("\n\n")[1]
-    listed = {word for row in words.splitlines()[2:] for word in re.findall(r"`(\S+)`", row.split("|")[1])}
+def test_no_word_stands_for_two_definitions() -> None:
     told = subprocess.run([TOP / "dev", "theorem", "--words"], capture_output=True, encoding="utf-8", check=True).stdout
-    assert listed == {name.strip("◌") for name in re.findall(r"^  (\S+): ", told, re.M)}
+    # The toolchain writes each step of a `do` block with this name.
+    assert re.findall(r"^  (\S+): ", told, re.M) == ["◌>>=◌"]
 
 
 def test_what_a_change_costs_is_counted() -> None:
