@@ -109,7 +109,7 @@ fn costs_these(alloc: Global, state: &State, want: &str) -> bool {
     let Ok(mut out) = Reply::new(alloc) else {
         return false;
     };
-    costs(state, &mut out).is_ok() && out.bytes() == want.as_bytes()
+    costs(alloc, state, &mut out).is_ok() && out.bytes() == want.as_bytes()
 }
 
 // Whether a room is closed for one slot within the time of the class.

@@ -68,7 +68,7 @@ impl Session {
             Command::Draft => Ok(self.draft(alloc, reply)?),
             Command::Totals => Ok(Outcome::Accepted),
             Command::Violations => Ok(self.violations(alloc, reply)?),
-            Command::Costs => Ok(self.costs(reply)?),
+            Command::Costs => Ok(self.costs(alloc, reply)?),
             Command::Explain { class } => Ok(self.explain(class, reply)?),
             Command::Why { class, time, room } => Ok(self.why(class, time, room, reply)?),
             Command::Values { class } => Ok(self.values(class, reply)?),

@@ -69,12 +69,12 @@ impl Session {
     }
 
     // Tells what the total is made of.
-    pub(crate) fn costs(&self, reply: &mut Reply) -> Result<Outcome, AllocError>
+    pub(crate) fn costs(&self, alloc: Global, reply: &mut Reply) -> Result<Outcome, AllocError>
         requires { reply.old ≡ [] }
         ensures ok { IfOk result (λ outcome. command_step self.now Command.Costs ≡ record { session = self.now; outcome = outcome; lines = reply.new }) }
         ensures memory { OnErr result (MayTake self.now Command.Costs) }
     {
-        costs(&self.state, reply)?;
+        costs(alloc, &self.state, reply)?;
         Ok(Outcome::Accepted)
     }
 

@@ -3,13 +3,13 @@
 ghost use Rattle.std.specs.Prelude.{◌≡◌, ◌++◌, ◌<◌, [], OnOk, if◌then◌else◌, length, nat_lt};
 ghost use Rattle.tt_plan.specs.Domain.{spots_of};
 ghost use Rattle.tt_score.specs.Totals.{totals_of};
-ghost use Rattle.tt_explain.specs.Explain.{line_at};
+ghost use Rattle.tt_explain.specs.Explain.{line_at, pair_count};
 ghost use Rattle.tt_explain.specs.Costs.{AddUp, all_costs, class_cost_line, class_costs, costly_class_lines, costly_rule_lines, costs_lines, is_costly_class, is_costly_place};
 
-use crate::explaining::pairs_with;
 use crate::now::value_in;
+use crate::pairs::pair_counts;
 use crate::rule_lines::add_rule_line;
-use std::alloc::AllocError;
+use std::alloc::{AllocError, Global};
 use tt_plan::{room_penalty, time_penalty};
 use tt_problem::Problem;
 use tt_state::State;
@@ -56,9 +56,10 @@ fn add_costly_rules(out: &mut Reply, state: &State) -> Result<(), AllocError>
     Ok(())
 }
 
-// What a class costs.
+// What a class costs that is in so many conflicting pairs.
 #[tactic(auto, unfolding(crate::specs::Costs::class_costs))]
-fn class_costs(state: &State, class: u32) -> ClassCosts
+fn class_costs(state: &State, class: u32, pairs: u64) -> ClassCosts
+    requires { pairs ≡ pair_count state.now.problem state.now.present class }
     ensures { result ≡ class_costs state.now.problem state.now.present class }
 {
     match value_in(state, class) {
@@ -70,7 +71,7 @@ fn class_costs(state: &State, class: u32) -> ClassCosts
         Some(value) => ClassCosts {
             time: time_penalty(state.problem(), class, value),
             room: room_penalty(state.problem(), class, value),
-            conflicts: pairs_with(state, class),
+            conflicts: pairs,
         },
     }
 }
@@ -92,11 +93,17 @@ fn add_class_cost_line(
     out.text("\n")
 }
 
-// Appends the line on what a class costs, where that is something.
-fn add_costly_class(out: &mut Reply, state: &State, class: u32) -> Result<(), AllocError>
+// Appends the line on what a class costs that is in so many conflicting pairs, where that is something.
+fn add_costly_class(
+    out: &mut Reply,
+    state: &State,
+    class: u32,
+    pairs: u64,
+) -> Result<(), AllocError>
+    requires { pairs ≡ pair_count state.now.problem state.now.present class }
     ensures { OnOk result (out.new ≡ out.old ++ (if is_costly_class state.now.problem state.now.present class then class_cost_line state.now.problem class (class_costs state.now.problem state.now.present class) else [])) }
 {
-    let costs = class_costs(state, class);
+    let costs = class_costs(state, class, pairs);
     if costs.costs_something() {
         add_class_cost_line(out, state.problem(), class, costs)
     } else {
@@ -106,11 +113,12 @@ fn add_costly_class(out: &mut Reply, state: &State, class: u32) -> Result<(), Al
 
 // Appends a line for each class that costs something.
 #[tactic(auto, unfolding(crate::specs::Costs::costly_class_lines))]
-fn add_costly_classes(out: &mut Reply, state: &State) -> Result<(), AllocError>
+fn add_costly_classes(alloc: Global, state: &State, out: &mut Reply) -> Result<(), AllocError>
     ensures { OnOk result (out.new ≡ out.old ++ costly_class_lines state.now.problem state.now.present) }
 {
+    let pairs = pair_counts(alloc, state)?;
     for class in 0..state.problem().class_count() {
-        add_costly_class(out, state, class)?;
+        add_costly_class(out, state, class, pairs[class as usize])?;
     }
     Ok(())
 }
@@ -126,14 +134,15 @@ fn costs_add_up(state: &State)
 
 /// Appends the lines on where the total comes from: each soft rule with an amount above 0, and each
 /// class whose time, room or students cost something. What they say adds up to the sums of the line
-/// of totals, where each pair of classes is counted at both. No memory is taken but the reply's;
-/// where that is wanting, some of the lines may have been appended.
+/// of totals, where each pair of classes is counted at both. It takes memory for a number a class, and
+/// goes once over the lists of the students. Where memory is wanting, some of the lines may have been
+/// appended.
 #[tactic(auto, using(std::proofs::Common::append_assoc), unfolding(crate::specs::Costs::costs_lines))]
-pub fn costs(state: &State, out: &mut Reply) -> Result<(), AllocError>
+pub fn costs(alloc: Global, state: &State, out: &mut Reply) -> Result<(), AllocError>
     ensures lines { OnOk result (out.new ≡ out.old ++ costs_lines state.now.problem state.now.present) }
     ensures sums { AddUp state.now.problem state.now.present (totals_of state.now.problem state.now.present.closures state.now.present.plan state.now.present.lists) }
 {
     costs_add_up(state);
     add_costly_rules(out, state)?;
-    add_costly_classes(out, state)
+    add_costly_classes(alloc, state, out)
 }
