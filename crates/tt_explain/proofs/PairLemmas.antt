@@ -1,36 +1,39 @@
--- The conflicting pairs with each class, counted student by student.
-use Rattle.std.proofs.Common.{◌≡◌, ◌∙◌, ℕ, zero, suc, ◌+◌, ◌-◌, ◌<◌, ◌≤◌, Bool, true, false, cond, List, [], ◌∷◌, ◌++◌, Option, Some, None, length, take, replicate, refl, sym, ap, arith, inl, inr}
-use Rattle.std.specs.Prelude.{slice_index, slice_set, sum_by}
+-- The conflicting pairs with each class, counted pair by pair and student by student.
+use Rattle.std.proofs.Common.{◌≡◌, ℕ, zero, suc, ◌+◌, ◌-◌, ◌<◌, ◌≤◌, Bool, true, false, cond, List, ◌∷◌, ◌++◌, Option, Some, None, length, take, replicate, refl, arith}
+use Rattle.std.specs.Prelude.{◌==◌, slice_index, sum_by}
 use Rattle.std.specs.List.{range_with_len}
 use Rattle.std.specs.Option.{option_map_or}
 use Rattle.std.proofs.Math.Seq.{take-append_seam}
-use Rattle.std.proofs.lemmas.Bool.{cases_eq, eq-eqb, ne_eqb}
-use Rattle.std.proofs.lemmas.List.{get_or-set_same, get_or-set_other}
-use Rattle.std.proofs.lemmas.List.Sums.{sum_by-cons}
-use Rattle.tt_base.specs.Lists.{is_listed}
+use Rattle.std.proofs.lemmas.List.Sums.{sum_by-append, sum_by-cons}
 use Rattle.tt_bits.specs.declared.times.Spot.{Spot}
 use Rattle.tt_bits.specs.Spots.{spot_at}
 use Rattle.tt_problem.specs.declared.parts.Parts.{Parts}
 use Rattle.tt_plan.specs.Domain.{spots_of}
-use Rattle.tt_roster.specs.Lists.{Ascends}
-use Rattle.tt_roster.specs.Conflicts.{class_conflicts, conflicts_with}
+use Rattle.tt_roster.specs.Conflicts.{class_conflicts}
 use Rattle.tt_roster.proofs.ConflictLemmas.{class_conflicts-most}
-use Rattle.tt_roster.proofs.ListLemmas.{has-below}
 use Rattle.tt_state.specs.Snapshots.{Snapshot}
+use Rattle.tt_verify.specs.Pairs.{pairs_with, related_pairs}
 use Rattle.tt_explain.specs.Explain.{pair_count}
-use Rattle.tt_explain.specs.Pairs.{pairs_at, pairs_of}
-use Rattle.tt_explain.proofs.SumLemmas.{sum-none, sum-places}
+use Rattle.tt_explain.specs.Pairs.{times_in}
 
--- once the first class of a list is counted, the others are left
-pub first_counted : (g : ℕ → ℕ) (counts list rest : List ℕ) (c n after : ℕ) → n ≡ g c → list ≡ c ∷ rest → Ascends 0 after list → c < length counts → (class : ℕ)
-    → slice_index (slice_set counts c (slice_index counts c + n)) class + cond (is_listed class rest) (g class) 0 ≡ slice_index counts class + cond (is_listed class list) (g class) 0
-first_counted g counts list rest c n after gains is up inside class =
-    let ascends : Ascends 0 after (c ∷ rest) = rw is at up in
-    let lacks : is_listed c rest ≡ false = has-below c (c + 1) after rest ascends.2 (omega arith) in
-    elim (cases_eq class c) [
-      | inl same ↦ rw (is, same, lacks, eq-eqb c c refl) (omega (arith, gains, get_or-set_same counts c (slice_index counts c + n) 0 inside))
-      | inr apart ↦ rw (is, ne_eqb class c apart) (omega (arith, get_or-set_other counts c class (slice_index counts c + n) 0 apart))
-    ]
+-- ---- pair by pair
+
+-- the pairs with one later class more
+pub times_more : (related : ℕ → ℕ → Bool) (class x : ℕ) (left rest : List ℕ) (other : ℕ) → left ≡ other ∷ rest
+    → times_in x (pairs_with related class left) ≡ cond (related class other) (cond (class == x) 1 0 + cond (other == x) 1 0) 0 + times_in x (pairs_with related class rest)
+times_more related class x left rest other next = rw next (by (related class other) refl)
+  where
+    by : (b : Bool) → related class other ≡ b
+        → times_in x (pairs_with related class (other ∷ rest)) ≡ cond b (cond (class == x) 1 0 + cond (other == x) 1 0) 0 + times_in x (pairs_with related class rest)
+    by true is = rw is (sum_by-cons (λ (pair : ℕ × ℕ). cond (pair.0 == x) 1 0 + cond (pair.1 == x) 1 0) (class, other) (pairs_with related class rest))
+    by false is = rw is (omega arith)
+
+-- the pairs of a list are those with its first class, and those of the others
+pub times_parted : (related : ℕ → ℕ → Bool) (x : ℕ) (left rest : List ℕ) (class : ℕ) → left ≡ class ∷ rest
+    → times_in x (related_pairs related left) ≡ times_in x (pairs_with related class rest) + times_in x (related_pairs related rest)
+times_parted related x left rest class next = rw next (sum_by-append (λ (pair : ℕ × ℕ). cond (pair.0 == x) 1 0 + cond (pair.1 == x) 1 0) (pairs_with related class rest) (related_pairs related rest))
+
+-- ---- student by student
 
 -- before the first student nothing is counted
 pub none_counted : (n class : ℕ) → slice_index (replicate n 0) class ≡ 0
@@ -47,23 +50,6 @@ student_more f k n within =
 -- what is written to the whole of a list is the list then
 pub whole_written : (n : ℕ) (xs ys : List ℕ) → n ≡ length xs → take n (xs ++ ys) ≡ xs
 whole_written n xs ys whole = rw whole (take-append_seam xs ys)
-
--- all students together add the conflicting pairs with the class
-pub all_counted : (p : Parts) (s : Snapshot) (class : ℕ) → length s.lists ≡ length p.students → sum_by (pairs_of p s class) (range_with_len 0 (length p.students)) ≡ pair_count p s class
-unfolding pair_count
-all_counted p s class whole =
-    ap (λ n. sum_by (pairs_of p s class) (range_with_len 0 n)) (sym whole)
-    ∙ sum-places (λ list. cond (is_listed class list) (pairs_at p s class list) 0) s.lists []
-    ∙ by (spot_at (spots_of p s.plan) class)
-  where
-    nothing : (b : Bool) → cond {A = ℕ} b 0 0 ≡ 0
-    nothing true = refl
-    nothing false = refl
-
-    by : (o : Option Spot) → sum_by (λ list. cond (is_listed class list) (option_map_or (λ x. conflicts_with p.travel (spots_of p s.plan) class x list) o 0) 0) s.lists
-        ≡ option_map_or (class_conflicts p.travel (spots_of p s.plan) s.lists class) o 0
-    by (Some x) = refl
-    by None = sum-none (λ (list : List ℕ). cond {A = ℕ} (is_listed class list) 0 0) s.lists (λ list. nothing (is_listed class list))
 
 -- no more than there are seats
 pub few_pairs : (p : Parts) (s : Snapshot) (class : ℕ) → sum_by length s.lists ≤ 4000000 → pair_count p s class ≤ 4000000

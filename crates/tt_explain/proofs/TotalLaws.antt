@@ -7,7 +7,7 @@ use Rattle.std.proofs.lemmas.Bool.{cases_lt, eqb-true, lt-ltb}
 use Rattle.tt_bits.specs.declared.times.Spot.{Spot}
 use Rattle.tt_bits.specs.declared.times.Value.{Value}
 use Rattle.tt_bits.specs.Spots.{spot_at}
-use Rattle.tt_travel.specs.Table.{IsRoomOf}
+use Rattle.tt_travel.specs.Table.{IsRoomOf, IsTravel}
 use Rattle.tt_problem.specs.declared.parts.DistKind.{DistKind}
 use Rattle.tt_problem.specs.declared.parts.Parts.{Parts}
 use Rattle.tt_problem.specs.declared.parts.Rule.{Rule}
@@ -24,13 +24,15 @@ use Rattle.tt_score.specs.Totals.{totals_of}
 use Rattle.tt_score.proofs.PlanLemmas.{spot_in}
 use Rattle.tt_state.specs.Snapshots.{Snapshot, list_in, value_in}
 use Rattle.tt_verify.specs.Costs.{cost_at}
+use Rattle.tt_verify.specs.Pairs.{related_pairs}
 use Rattle.tt_verify.proofs.PairLemmas.{costs_by_place, length-related_pairs}
 use Rattle.tt_explain.specs.declared.costing.ClassCosts.{ClassCosts}
 use Rattle.tt_explain.specs.Explain.{amount_line, line_at, pair_count, rule_line}
+use Rattle.tt_explain.specs.Pairs.{pairs_of, times_in}
 use Rattle.tt_explain.specs.Student.{all_pairs, conflict_between, student_pairs}
 use Rattle.tt_explain.specs.Meets.{all_met, is_met, met_classes, met_students}
 use Rattle.tt_explain.specs.Costs.{AddUp, all_costs, class_costs, costly_classes, costly_rules, costly_sum, is_costly_class, is_costly_place, is_costly_rule, no_costs, placed_costs}
-use Rattle.tt_explain.proofs.ConflictLaws.{conflicts-by_class, conflicts-by_other}
+use Rattle.tt_explain.proofs.ConflictLaws.{conflicts-by_class, conflicts-by_other, pairs-by_class}
 use Rattle.tt_explain.proofs.SumLemmas.{sum-alike, sum-filter, sum-places}
 
 -- a number that isn't above 0
@@ -130,7 +132,7 @@ module _ (p : Parts) (s : Snapshot) where
           sym (ap (λ (o : Option Spot). option_map_or (class_conflicts p.travel (spots_of p s.plan) s.lists class) o 0) none)
 
 -- the room of each placed class is one of the travel
-rooms_of : (p : Parts) (spots : List (Option Spot)) → IsValid p → AreSpotsOf p spots → (class : ℕ) → IfSome (spot_at spots class) (λ x. IsRoomOf p.travel x.room)
+pub rooms_of : (p : Parts) (spots : List (Option Spot)) → IsValid p → AreSpotsOf p spots → (class : ℕ) → IfSome (spot_at spots class) (λ x. IsRoomOf p.travel x.room)
 rooms_of p spots valid fit class = by (spot_at spots class) (fit class)
   where
     by : (o : Option Spot) → IfSome o (IsSpotOf p class) → IfSome o (λ x. IsRoomOf p.travel x.room)
@@ -171,3 +173,12 @@ pairs_add_up p s whole =
     sum-alike (λ student. length (student_pairs p s student)) (λ student. conflicts_in p.travel (spots_of p s.plan) (list_in s student)) (range_with_len 0 (length p.students)) (pairs_counted p s)
     ∙ ap (λ n. sum_by (λ student. conflicts_in p.travel (spots_of p s.plan) (list_in s student)) (range_with_len 0 n)) (sym whole)
     ∙ sum-places (conflicts_in p.travel (spots_of p s.plan)) s.lists []
+
+-- the pairs of all students with a class in them are the conflicting pairs with it
+pub all_counted : (p : Parts) (s : Snapshot) (class : ℕ) → length s.lists ≡ length p.students → All (Ascends 0 (length p.classes)) s.lists → IsTravel p.travel → ((c : ℕ) → IfSome (spot_at (spots_of p s.plan) c) (λ x. IsRoomOf p.travel x.room))
+    → sum_by (pairs_of p s class) (range_with_len 0 (length p.students)) ≡ pair_count p s class
+unfolding pair_count student_pairs conflict_between
+all_counted p s class whole ordered sound rooms =
+    ap (λ n. sum_by (pairs_of p s class) (range_with_len 0 n)) (sym whole)
+    ∙ sum-places (λ list. times_in class (related_pairs (conflict_between p s) list)) s.lists []
+    ∙ pairs-by_class p.travel (spots_of p s.plan) (length p.classes) s.lists ordered sound rooms class

@@ -1,17 +1,13 @@
--- Contract. What each student adds to the conflicting pairs of a class.
-use Rattle.std.specs.Prelude.{ℕ, cond, List}
-use Rattle.std.specs.Option.{option_map_or}
-use Rattle.tt_base.specs.Lists.{is_listed}
-use Rattle.tt_bits.specs.Spots.{spot_at}
+-- Contract. The conflicting pairs of classes that each student has, by class.
+use Rattle.std.specs.Prelude.{ℕ, ◌+◌, ◌==◌, cond, List, sum_by}
 use Rattle.tt_problem.specs.declared.parts.Parts.{Parts}
-use Rattle.tt_plan.specs.Domain.{spots_of}
-use Rattle.tt_roster.specs.Conflicts.{conflicts_with}
-use Rattle.tt_state.specs.Snapshots.{Snapshot, list_in}
+use Rattle.tt_state.specs.Snapshots.{Snapshot}
+use Rattle.tt_explain.specs.Student.{student_pairs}
 
--- how many others of some classes conflict with a class where it is; none where it isn't placed
-abbrev pub pairs_at : Parts → Snapshot → (class : ℕ) → List ℕ → ℕ
-pairs_at p s class list = option_map_or (λ x. conflicts_with p.travel (spots_of p s.plan) class x list) (spot_at (spots_of p s.plan) class) 0
+-- how often a class stands in some pairs
+abbrev pub times_in : (class : ℕ) → List (ℕ × ℕ) → ℕ
+times_in class pairs = sum_by (λ pair. cond (pair.0 == class) 1 0 + cond (pair.1 == class) 1 0) pairs
 
--- how many others of a student's classes conflict with a class of the student
+-- in how many conflicting pairs of a student a class is
 abbrev pub pairs_of : Parts → Snapshot → (class student : ℕ) → ℕ
-pairs_of p s class student = cond (is_listed class (list_in s student)) (pairs_at p s class (list_in s student)) 0
+pairs_of p s class student = times_in class (student_pairs p s student)

@@ -74,8 +74,8 @@ fn add_pairs_with(
     Ok(())
 }
 
-// The classes of a student behind so many.
-fn classes_behind(state: &State, student: u32, count: u32) -> Attendance<'_>
+/// The classes of a student behind so many.
+pub fn classes_behind(state: &State, student: u32, count: u32) -> Attendance<'_>
     requires { student < length state.now.problem.students }
     ensures { result ≡ drop count (list_in state.now.present student) }
 {

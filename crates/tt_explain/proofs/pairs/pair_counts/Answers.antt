@@ -1,7 +1,7 @@
 use Rattle.std.proofs.Common.{◌≡◌, ◌-◌, List, ℕ, drop, length, ap, arith}
 use Rattle.std.specs.Prelude.{slice_index}
 use Rattle.tt_explain.specs.Pairs.{pairs_of}
-use Rattle.tt_explain.proofs.PairLemmas.{all_counted, none_counted, student_more, whole_written}
+use Rattle.tt_explain.proofs.PairLemmas.{none_counted, student_more, whole_written}
 use Rattle.tt_explain.proofs.pairs.pair_counts.Goals as goal
 
 pub loop-student-init : goal.loop-student-init
@@ -9,7 +9,7 @@ loop-student-init c =
     let s = c.args.state.now in
     let all : length s.problem.students - 0 ≡ length s.problem.students = omega arith in
     record {
-      counted = λ class. rw (all, c.in_ok-counts.ensures.items_if_clones_equal (λ n clone. clone)) (omega (arith, none_counted c.class_count.result class, all_counted s.problem s.present class c.soundness.ensures.present.lists.whole));
+      counted = λ class. rw (all, c.in_ok-counts.ensures.items_if_clones_equal (λ n clone. clone)) (omega (arith, none_counted c.class_count.result class, c.counts_add_up.ensures.all class));
       whole = omega (arith, c.in_ok-counts.ensures.len, c.class_count.ensures.count, ap (λ p. length p.classes) c.problem.ensures);
     }
 
@@ -17,7 +17,7 @@ pub count_student-requires-clause-few : goal.count_student-requires-clause-few
 count_student-requires-clause-few c = λ class.
     let s = c.args.state.now in
     let more = student_more (pairs_of s.problem s.present class) c.loop-student.student (length s.problem.students) (omega (arith, c.loop-student-test.true, c.student_count-student-end.ensures.count, ap (λ p. length p.students) c.problem-2.ensures)) in
-    rw c.deref_mut.ensures.value (omega (arith, more, c.loop-student.invariant.counted class, c.pairs_are_few.ensures class))
+    rw c.deref_mut.ensures.value (omega (arith, more, c.loop-student.invariant.counted class, c.counts_add_up.ensures.few class))
 
 pub loop-student-preserved : goal.loop-student-preserved
 loop-student-preserved c =
