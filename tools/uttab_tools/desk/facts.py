@@ -179,9 +179,7 @@ class Facts:
     def listed(self, kind: str) -> list[list[object]]:
         return [[number, label] for number, label, _ in self.labels[kind]]
 
-
-def students_of(draft: dict[str, object], number: int) -> list[int]:
-    """The students that a draft has in a class."""
-    classes = draft["classes"]
-    assert isinstance(classes, list)
-    return next((list(one["students"]) for one in classes if one["id"] == number), [])
+    def who_may_attend(self, number: int) -> list[int]:
+        """The students with the course of a class."""
+        one = self.problem.classes.get(number)
+        return [] if one is None else [student.id for student in self.problem.students.values() if one.course.id in student.courses]

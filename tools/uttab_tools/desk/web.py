@@ -17,7 +17,7 @@ from pathlib import Path
 from typing import TypeVar
 
 from uttab_tools import limits
-from uttab_tools.desk.facts import KINDS, Facts, students_of
+from uttab_tools.desk.facts import KINDS, Facts
 from uttab_tools.desk.files import KINDS as MADE
 from uttab_tools.desk.files import Maker
 from uttab_tools.desk.session import Session, Unasked, moved
@@ -167,8 +167,10 @@ class Server(ThreadingHTTPServer):
 
     def _attending(self, words: Words) -> Words:
         one = number(words, "id")
-        students = students_of(json.loads(self.by_the_one(self.session.draft)), one)
-        return {"students": [[student, self.facts.label("student", student)] for student in students]}
+        students = self.facts.who_may_attend(one)
+        replies, _ = self.by_the_one(lambda: self.session.ask([f"student {student}" for student in students]))
+        return {"students": [[student, self.facts.label("student", student)]
+                             for student, reply in zip(students, replies) if f"class {one}" in reply]}
 
     def answer(self, place: str, words: Words) -> Words:
         """The answer to a request of the page, with the state of the desk after it."""
