@@ -261,7 +261,7 @@ def test_a_search_goes_on_with_another_program(session: Session, monkeypatch: py
     session.keep_fresh()
     assert session.process is not first and session.slice()
     session.process.kill()
-    assert not session.slice() and session.notice is not None and str(session.notice["why"]).startswith("uttab ended with status -9")
+    assert not session.slice() and session.notice is not None and str(session.notice["why"]).startswith("uttab was killed by signal 9")
 
 
 @needs_program
@@ -293,7 +293,7 @@ def test_another_program_takes_the_place_of_one_that_ended(session: Session) -> 
     session.do(["assign 701 5 1"], "One")
     before = session.ask(["totals", "explain 701"])[0]
     session.process.kill()
-    with pytest.raises(Unasked, match="ended with status -9"):
+    with pytest.raises(Unasked, match=r"^uttab was killed by signal 9\. Another took its place"):
         session.do(["unassign 701"], "Lost")
     assert session.ask(["totals", "explain 701"])[0] == before
     assert [step.label for step in session.steps] == ["One"]

@@ -66,7 +66,9 @@ class Process:
         if not piece:
             status = self.running.wait()
             self.listener.join(1)
-            raise Ended(f"uttab ended with status {status}. {self.said}".strip())
+            how = f"ended with status {status}" if status >= 0 else f"was killed by signal {-status}"
+            why = self.said if self.said.startswith("uttab: ") else ""
+            raise Ended(f"uttab {how}. {why}".strip())
         self.read += piece
 
     def _taken(self, end: int) -> list[str]:
