@@ -3,7 +3,7 @@
 import os
 import resource
 import signal
-from collections.abc import Iterator
+from collections.abc import Iterator, Sequence
 from pathlib import Path
 
 import pytest
@@ -12,6 +12,8 @@ from desk_help import FACULTY, HEADING, PROBLEM, commands, replayed, session_on,
 
 from uttab_tools.desk import session as session_module
 from uttab_tools.desk.log import Entry, Log, entries_of, without_undone
+from uttab_tools.desk.process import Reply
+from uttab_tools.desk.search import LEAST_SLICE, MOST_SLICE
 from uttab_tools.desk.session import Session, Unasked, closures, moved
 from uttab_tools.program import FileFault
 
@@ -249,6 +251,34 @@ def test_nothing_is_changed_while_a_search_runs(session: Session) -> None:
     assert session.ask(["totals"])[0][0][-1] == session.totals
     session.stop(False)
     assert session.slice() is False and session.notice is not None and session.notice["why"] == "stopped"
+
+
+@needs_program
+def test_slices_are_short_while_someone_asks(session: Session, monkeypatch: pytest.MonkeyPatch) -> None:
+    session.do(["enrol all", "search 2000 11", "improve 20000 1"], "")
+    session.start("deluge", 60, 1)
+    search, ask = session.search, session.process.ask
+    assert search is not None
+
+    def ask_meanwhile(lines: Sequence[str]) -> list[Reply]:
+        session.asked += 1
+        return ask(lines)
+
+    search.slice = MOST_SLICE
+    monkeypatch.setattr(session.process, "ask", ask_meanwhile)
+    assert session.slice() and search.slice == LEAST_SLICE
+    assert search.after_slice(search.size, 1, False, True) is None and search.slice == 2 * LEAST_SLICE
+
+
+@needs_program
+def test_each_command_is_another_version(session: Session) -> None:
+    seen = [session.version]
+    for act in (lambda: session.do(["assign 701 5 1"], "One"), lambda: session.do(["lock 701"], "Two"), lambda: session.undo(1)):
+        act()
+        seen.append(session.version)
+    assert sorted(set(seen)) == seen
+    session.ask(["explain 701", "totals"], [701])
+    assert session.version == seen[-1]
 
 
 @needs_program

@@ -7,12 +7,19 @@ import signal
 import socket
 import subprocess
 import sys
+import time
 from collections.abc import Iterator
 from pathlib import Path
 
 import pytest
 from conftest import PROGRAM, TOOLS, TOP, needs_program
-from desk_help import FACULTY, PROBLEM, Desk, commands, replayed, until
+from desk_help import FACULTY, PROBLEM, Desk, commands, replayed, session_on, until
+
+from uttab_tools.desk import web
+from uttab_tools.desk.facts import Facts
+from uttab_tools.desk.files import Maker
+from uttab_tools.names import Names
+from uttab_tools.problem import Problem
 
 pytestmark = needs_program
 
@@ -167,6 +174,43 @@ def test_the_dearest_lines_have_numbers(desk: Desk, largest: object) -> None:
     desk.post("do", lines=["enrol all", "search 60 11"])
     body = json.dumps({"lines": ["costs"], "most": {"costs": 1}, "largest": largest})
     assert desk.request("POST", "ask", body, Origin=f"http://{desk.host}", Content_Type="application/json")[0] == 400
+
+
+def test_who_attends_a_class_that_isnt_placed(desk: Desk) -> None:
+    desk.post("do", lines=["enrol all"])
+    for line in ("totals", "assign 801 1 11"):
+        desk.post("do" if line != "totals" else "ask", lines=[line])
+        students = desk.post("attending", id=801)["students"]
+        (reply,) = desk.post("ask", lines=["explain 801"])["replies"]  # type: ignore[misc]
+        assert isinstance(students, list) and f"students {len(students)} conflicts 0" in reply and len(students) > 1
+    assert desk.post("attending", id=99999)["students"] == []
+
+
+def test_a_search_waits_for_a_page_that_asks(tmp_path: Path, monkeypatch: pytest.MonkeyPatch) -> None:
+    """What a page asks one after the other doesn't wait for a slice each time."""
+    problem = Problem(str(PROBLEM))
+    with session_on(tmp_path / "log.txt") as session:
+        server = web.Server(0, session, Facts(problem, Names(problem, None)), Maker(str(PROBLEM), [], []))
+        try:
+            server.answer("do", {"lines": ["enrol all", "search 2000 11"]})
+            monkeypatch.setattr(web, "PAUSE", 0)
+            server.answer("start", {"word": "deluge", "seconds": 600, "seed": 1})
+            search = session.search
+            assert search is not None
+            until(lambda: search.turns > 0, "a slice")
+            monkeypatch.setattr(web, "PAUSE", 1000)
+            monkeypatch.setattr(web, "LONGEST_PAUSE", 1000)
+            server.answer("ask", {"lines": ["totals"]})
+            turns = search.turns
+            time.sleep(0.3)
+            assert "ok " in str(server.answer("ask", {"lines": ["totals"]})) and search.turns == turns
+            monkeypatch.setattr(web, "PAUSE", 0)
+            until(lambda: search.turns > turns, "the next slice")
+            server.answer("stop", {})
+            until(lambda: session.search is None, "the stop")
+        finally:
+            server.one.shutdown()
+            server.server_close()
 
 
 def test_a_search_is_stopped(tmp_path: Path) -> None:

@@ -46,17 +46,18 @@ class Search:
             return "stopped"
         return "time is over" if self.gone() >= self.seconds else None
 
-    def after_slice(self, made: int, took: float, better: bool, all_placed: bool) -> str | None:
-        """Takes note of a slice of so many turns. The answer is why it was the last one, or none."""
+    def after_slice(self, made: int, took: float, better: bool, all_placed: bool, awaited: bool = False) -> str | None:
+        """Takes note of a slice of so many turns. Where someone waited for its end the next ones are short again. The answer is
+        why it was the last one, or none."""
         asked = self.size
         self.turns += made
         self.seed += 1
         if better:
             self.kept += 1
-            self.idle, self.slice = 0, LEAST_SLICE
+            self.idle = 0
         else:
             self.idle += 1
-            self.slice = min(MOST_SLICE, 2 * self.slice)
+        self.slice = LEAST_SLICE if better or awaited else min(MOST_SLICE, 2 * self.slice)
         left = max(LEAST_SLICE / 2, self.seconds - self.gone())
         self.size = max(1, min(MOST_TURNS, int(asked * min(GROWTH, min(self.slice, left) / max(took, 1e-4)))))
         if made < asked:

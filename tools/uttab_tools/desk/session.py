@@ -86,6 +86,8 @@ class Session:
         self.fault: str | None = None
         self.behind = False  # whether the program isn't where the log ends: another has to take its place first
         self.ending = False
+        self.asked = 0  # how often something was asked, as whoever asks counts it
+        self.version = 0  # goes up with each command that is carried out
         self.seen = 0
         self.changed = threading.Condition()
         self.process = self._started()
@@ -224,6 +226,7 @@ class Session:
     def _note(self, entry: Entry) -> None:
         """Takes note of a command that is kept."""
         self.totals = entry.totals or self.totals
+        self.version += 1
         if entry.line == "undo":
             self.steps[-1].lines.pop()
             if self.steps[-1].lines:
@@ -264,7 +267,7 @@ class Session:
         return not why
 
     def _slice(self, search: Search) -> str | None:
-        line = search.line()
+        line, asked = search.line(), self.asked
         began = time.monotonic()
         reply = self._ask_all([line])[0]
         took = time.monotonic() - began
@@ -278,7 +281,7 @@ class Session:
         else:
             self._ask_all(["undo"])
         made = int(reply[0].split(" ")[1])
-        why = search.after_slice(made, took, better, " unplaced 0 " in reply[-1])
+        why = search.after_slice(made, took, better, " unplaced 0 " in reply[-1], self.asked != asked)
         self.tell()
         return why
 
@@ -313,7 +316,8 @@ class Session:
             raise Unasked("The desk has ended.")
         if self.search:
             self._end_search(self.search, "the program ended")
-        self.behind = True
+        self.behind, self.replaying = True, f"0 of {len(self.log.entries)}"
+        self.tell()
         self.process.end()
         try:
             self.process = self._started()
@@ -360,6 +364,7 @@ class Session:
         if self.search:
             self.search.stopping = True
         if at_once:
+            self.behind = True
             self.process.kill()
         self.tell()
 
@@ -371,7 +376,7 @@ class Session:
         search = self.search
         steps = self.steps
         return {
-            "seen": self.seen, "totals": self.totals, "said": self.process.said, "notice": self.notice,
+            "seen": self.seen, "version": self.version, "totals": self.totals, "said": self.process.said, "notice": self.notice,
             "replaying": self.replaying, "fault": self.fault, "published": self.published is not None, "knows": self.knows,
             "closures": closures(steps), "stepCount": len(steps),
             "steps": [{"label": step.label, "count": len(step.lines), "totals": step.totals} for step in steps[-MOST_STEPS:]],

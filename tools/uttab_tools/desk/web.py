@@ -32,6 +32,10 @@ MOST_DIGITS = 10
 MOST_AT_ONCE = 3 * limits.CLASSES
 CONNECTIONS = 64
 
+# A page that was answered mostly asks again at once. So long a search waits for that, and at most between two slices;
+# so often it looks.
+PAUSE, LONGEST_PAUSE, TICK = 0.15, 1.0, 0.01
+
 # Nothing but what the page itself has is loaded, run, framed or sent anywhere.
 POLICY = ("default-src 'none'; script-src 'self'; style-src 'self'; connect-src 'self'; img-src 'self' data:; "
           "base-uri 'none'; form-action 'none'; frame-ancestors 'none'")
@@ -71,6 +75,7 @@ class Server(ThreadingHTTPServer):
         self.head = json.dumps(facts.head | {"made": maker.offered()}, separators=(",", ":"), ensure_ascii=False).encode("utf-8", "replace")
         self.one = ThreadPoolExecutor(max_workers=1)
         self.free = threading.BoundedSemaphore(CONNECTIONS)
+        self.answered = self.sliced = 0.0  # when someone was last answered, and when a slice last ended
         self.answers: dict[str, Callable[[Words], Words]] = {
             "ask": self._ask, "do": self._do, "undo": self._undo, "publish": self._publish, "start": self._start,
             "stop": self._stop, "facts": self._facts, "find": self._find, "beside": self._beside, "list": self._list,
@@ -103,12 +108,21 @@ class Server(ThreadingHTTPServer):
         """What the call answers, made by the thread that asks the program."""
         def fresh() -> Answer:
             self.session.keep_fresh()
-            return call()
+            try:
+                return call()
+            finally:
+                self.answered = time.monotonic()
+        self.session.asked += 1
         return self.one.submit(fresh).result()
 
     def slices(self) -> None:
         """A slice of the running search, and a place behind all who wait for the next."""
-        if self.session.slice():
+        now = time.monotonic()
+        if now - self.answered < PAUSE and now - self.sliced < LONGEST_PAUSE:
+            time.sleep(TICK)
+            self.one.submit(self.slices)
+        elif self.session.slice():
+            self.sliced = time.monotonic()
             self.one.submit(self.slices)
 
     # What the page asks for.

@@ -37,10 +37,24 @@ export const tell = (words, className = "") => {
 
 // Talking to the server.
 
+// What takes longer is told, so that nobody clicks again.
+let awaited = 0;
+const told = async answer => {
+  let late = false;
+  const slow = setTimeout(() => { late = true; awaited += 1; document.body.classList.add("waiting"); }, 700);
+  try {
+    return await answer;
+  } finally {
+    clearTimeout(slow);
+    if (late) awaited -= 1;
+    document.body.classList.toggle("waiting", awaited > 0);
+  }
+};
+
 export const request = async (place, body) => {
   let answer;
   try {
-    answer = await post(place, body);
+    answer = await told(post(place, body));
   } catch (error) {
     tell(error.message, "bad");
     return null;
@@ -69,7 +83,6 @@ export const change = async (place, body, where) => {
     if (answer) await refresh();
     return null;
   }
-  handled = app.state.seen;
   const refused = answer.replies.map(R.refusal).find(Boolean);
   if (refused) {
     await know({ class: refused.words.map(Number).filter(Number.isInteger), rule: refused.words.map(Number).filter(Number.isInteger) });
@@ -83,7 +96,7 @@ export const change = async (place, body, where) => {
   const gone = [...new Set(answer.replies.flatMap(R.outs))].filter(id => !(body.moving || []).includes(id));
   await know({ class: gone });
   const own = answer.replies.flatMap(R.others);
-  tell(`${body.label}.${gone.length ? ` Out: ${gone.map(W.say).join("; ")}.` : ""}${own.length ? ` ${own.join("; ")}.` : ""}`);
+  tell(`${body.label}${own.length ? ` (${own.join("; ")})` : ""}.${gone.length ? ` Out: ${gone.map(W.say).join("; ")}.` : ""}`);
   await refresh();
   return answer;
 };
@@ -106,7 +119,6 @@ const stateDraws = [];
 export const onState = draw => { stateDraws.push(draw); };
 const drawState = () => stateDraws.forEach(one => one());
 
-let handled = -1;
 export const adopt = next => {
   if (!next || (app.state && next.seen < app.state.seen)) return;
   const old = app.state;
@@ -116,21 +128,21 @@ export const adopt = next => {
   if (next.fault) tell(next.fault, "bad");
   else if (old?.search && !next.search && next.notice) sayNotice(next.notice);
   drawState();
+  if (old && Boolean(old.search) !== Boolean(next.search)) draw();
 };
 const sayNotice = ({ word, why, turns, seconds, from }) => {
   if (from) app.earlier = R.totals(from);
-  tell(`${word}: ${why}${turns === undefined ? "" : `, after ${W.count(turns)} turns in ${seconds.toFixed(1)} s`}.`);
+  tell(`${word}: ${why}${turns === undefined ? "" : `, after ${W.turnsWord(word, turns)} in ${seconds.toFixed(1)} s`}.`);
 };
 
 // Shows what changed without this page: a search's slices, another page's commands. While a search runs, a quarter of the
 // time at most goes into it.
-let catching = false, lately = 0, took = 0;
+let handled = -1, catching = false, lately = 0, took = 0;
 const catchUp = async () => {
   const { state } = app;
-  if (underWay || catching || state.replaying || state.fault || state.seen === handled) return;
+  if (underWay || catching || state.replaying || state.fault || state.version === handled) return;
   if (state.search && Date.now() - lately < Math.max(2000, 4 * took)) return;
   catching = true;
-  handled = state.seen;
   const began = Date.now();
   try {
     await refresh();
@@ -139,7 +151,7 @@ const catchUp = async () => {
     took = lately - began;
     catching = false;
   }
-  catchUp();
+  if (handled >= 0) catchUp();
 };
 export const follow = () => {
   const events = new EventSource("events");
@@ -152,33 +164,35 @@ export const follow = () => {
 
 let turn = 0;
 export const refresh = async () => {
-  const own = ++turn, { view, chosen, tab, state: { seen } } = app;
-  const shown = await load({ view, chosen, tab, seen }, () => own === turn);
-  if (!shown || own !== turn) return;
+  const own = ++turn, { view, chosen, tab, state: { version } } = app;
+  handled = version;
+  const shown = await load({ view, chosen, tab, version }, () => own === turn);
+  if (own !== turn) return;
+  if (!shown) { handled = -1; return; }
   app.shown = shown;
   app.armed = null;
   draw();
-  if (shown.list.seen !== seen) await showList(shown);
+  if (shown.list.version !== version) await showList(shown);
 };
 
 // The list alone, beside what is shown already.
 const showList = async shown => {
-  const own = ++turn, { tab, state: { seen } } = app, question = QUESTION[tab];
+  const own = ++turn, { tab, state: { version } } = app, question = QUESTION[tab];
   const answer = question ? await ask([question], { most: MOST, largest: LARGEST }) : null;
   if ((question && !answer) || own !== turn) return;
-  const list = await newList(tab, seen, answer?.replies[0], answer?.left[0]);
+  const list = await newList(tab, version, answer?.replies[0], answer?.left[0]);
   await know(namedInList(list));
   if (own !== turn) return;
   shown.list = list;
   listDraws.forEach(one => one());
 };
 
-// What is asked for each list; `seen` is the state of the desk since which it holds.
+// What is asked for each list; `version` is that of the timetable of which it tells.
 const QUESTION = { unplaced: "violations", look: "violations", costs: "costs" };
 const SLOW = "costs";
-const newList = async (tab, seen, reply, left = {}) => {
-  const list = { tab, seen, left, text: [...reply?.slice(0, -1) ?? [], left.class].join("\n") }, old = app.shown?.list;
-  if (tab === "unplaced" && old?.tab === tab && old.text === list.text) return Object.assign(old, { seen });
+const newList = async (tab, version, reply, left = {}) => {
+  const list = { tab, version, left, text: [...reply?.slice(0, -1) ?? [], left.class].join("\n") }, old = app.shown?.list;
+  if (tab === "unplaced" && old?.tab === tab && old.text === list.text) return Object.assign(old, { version });
   if (QUESTION[tab] === "violations") list.violations = R.violations(reply);
   if (tab === "costs") list.costs = topCosts(R.costs(reply));
   if (tab === "look") list.places = await placesOf([...list.violations.clashes.map(pair => pair[0]), ...list.violations.closed]);
@@ -186,14 +200,14 @@ const newList = async (tab, seen, reply, left = {}) => {
   return list;
 };
 // The list that stands, where it still holds or the new one takes longer.
-const keptList = (tab, seen) => {
+const keptList = (tab, version) => {
   const list = app.shown?.list;
-  if (list?.tab === tab && (list.seen === seen || tab === SLOW)) return list;
+  if (list?.tab === tab && (list.version === version || tab === SLOW)) return list;
   return tab === SLOW ? { tab } : null;
 };
 
-const load = async ({ view, chosen, tab, seen }, wanted) => {
-  const shown = { view, chosen, seen, whys: new Map(), list: keptList(tab, seen) };
+const load = async ({ view, chosen, tab, version }, wanted) => {
+  const shown = { view, chosen, version, whys: new Map(), list: keptList(tab, version) };
   if (view.kind === "student") {
     const answer = await ask([`student ${view.id}`]);
     if (!answer) return null;
@@ -215,7 +229,7 @@ const load = async ({ view, chosen, tab, seen }, wanted) => {
     shown.valuesLeft = left[ids.length].value || 0;
     shown.meets = R.meets(replies[ids.length + 1]);
   }
-  shown.list ??= await newList(tab, seen, replies.at(-1), left.at(-1));
+  shown.list ??= await newList(tab, version, replies.at(-1), left.at(-1));
   const week = namedInWeek(shown), list = namedInList(shown.list);
   await know({ class: [...week.class, ...list.class], rule: [...week.rule, ...list.rule], student: list.student });
   return shown;
@@ -307,6 +321,6 @@ export const beside = async by => {
 };
 export const setTab = async tab => {
   app.tab = tab;
-  const { shown } = app, holds = shown && shown.seen === app.state.seen && shown.view === app.view && shown.chosen === app.chosen;
+  const { shown } = app, holds = shown && shown.version === app.state.version && shown.view === app.view && shown.chosen === app.chosen;
   await (holds ? showList(shown) : refresh());
 };

@@ -107,21 +107,22 @@ export const moveInTabs = async by => {
 };
 
 // A list that is the same as before has only another class that is chosen.
-let drawn = null;
+let drawn = null, whileSearching = false;
 const markChosen = list => {
   for (const one of list.querySelectorAll(".class")) {
     if (one.dataset.id === String(app.shown.chosen)) one.setAttribute("aria-current", "true"); else one.removeAttribute("aria-current");
   }
 };
 const drawList = () => {
-  const list = $("list"), own = app.shown.list, { tab } = own;
+  const list = $("list"), own = app.shown.list, { tab } = own, searching = Boolean(app.state.search);
   list.setAttribute("aria-labelledby", `tab-${tab}`);
-  list.setAttribute("aria-busy", !(own.seen >= app.shown.seen));
-  if (own === drawn) { markChosen(list); return; }
+  list.setAttribute("aria-busy", !(own.version >= app.shown.version));
+  if (own === drawn && searching === whileSearching) { markChosen(list); return; }
   drawn = own;
+  whileSearching = searching;
   const draw = () => {
     list.replaceChildren();
-    if (app.state.search && tab !== "steps") add(list, "p", "While a search runs, this is a moment old.", "soft");
+    if (searching && tab !== "steps") add(list, "p", "While a search runs, this is a moment old.", "soft");
     DRAW[tab](list, own);
   };
   if (list.dataset.of === tab) keepingFocus(list, draw); else { list.dataset.of = tab; list.scrollTop = 0; draw(); }
