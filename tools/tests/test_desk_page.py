@@ -241,6 +241,27 @@ def test_weeks_students_and_lists(browser: Browser, begin: Callable[..., Desk], 
     browser.command("violations", "class 701 missing")
 
 
+def test_what_was_used_leaves_the_focus_beside_it(browser: Browser, begin: Callable[..., Desk]) -> None:
+    """A place that is taken is no longer one; a reply and a menu are gone when they are closed."""
+    desk = begin()
+    browser.choose(701)
+    browser.go_to_value("5 1")
+    browser.keys(Keys.ENTER)
+    until(lambda: commands(desk.log)[-1:] == ["assign 701 5 1"] and browser.focused("#panel"), "the focus beside the place")
+    browser.command("explain 701", "value 5 1")
+    browser.press("#replyGone")
+    assert not browser.text("#reply") and browser.focused("#command") and not browser.has("#replyGone:not([hidden])")
+    browser.command("explain 701", "value 5 1")
+    browser.keys(Keys.ESCAPE)
+    assert not browser.text("#reply")
+    browser.away()
+    browser.press("#searchMenu > summary")
+    assert browser.run("""const edge = one => one.getBoundingClientRect().right;
+        return [...document.querySelectorAll("#search *")].filter(one => edge(one) > edge(document.querySelector("#search"))).length""") == 0
+    browser.keys(Keys.ESCAPE)
+    assert browser.focused("#searchMenu > summary")
+
+
 def test_a_list_follows_what_is_done_and_stays_where_it_is(browser: Browser, begin: Callable[..., Desk]) -> None:
     """A list that is long stays scrolled as it was, with what is new in it; that of costs follows when the week is drawn."""
     begin()
@@ -296,9 +317,11 @@ def test_a_search_that_goes_on_without_its_page(browser: Browser, begin: Callabl
     browser.open(desk)
     browser.until_text("#how", "turns")
     until(lambda: browser.has("#grid .m"), "the week while it searches")
+    browser.until_text("#list", "While a search runs, this is a moment old.")
     browser.click("#stop")
     until(lambda: desk.state()["search"] is None, "the stop")
     browser.until_text("#told", "search: stopped")
+    until(lambda: "a moment old" not in browser.text("#list") and not browser.has("#undo:disabled"), "what may be done again")
     browser.click("#undo")
     browser.until_number("unplaced", 400)
     assert replayed(problem, desk.log) == desk.totals()

@@ -39,14 +39,15 @@ const drawRunning = () => {
     $("how").textContent = searchWords(search);
   } else {
     $("progress").removeAttribute("value");
-    $("how").textContent = replaying ? `The log is carried out: ${replaying}` : `Working. ${said || ""}`;
+    $("how").textContent = replaying ? `The program is begun anew, and carries out the log: ${replaying}` : `Working. ${said || ""}`;
   }
+  $("waits").hidden = !search;
   $("stop").hidden = !search || search.stopping;
   $("stopNow").hidden = !((search && search.stopping) || (busy && !replaying));
 };
 const searchWords = search => {
   const from = R.totals(search.from), now = R.totals(app.state.totals);
-  return `${search.word}: ${Math.floor(search.gone)} of ${search.seconds} s, ${W.count(search.turns)} turns, `
+  return `${search.word}: ${Math.floor(search.gone)} of ${search.seconds} s, ${W.turnsWord(search.word, search.turns)}, `
     + `unplaced ${W.count(from.unplaced)} → ${W.count(now.unplaced)}, total ${W.count(from.total)} → ${W.count(now.total)}`
     + (search.idle ? `; nothing better in the last ${search.idle > 1 ? `${search.idle} tries` : "try"}` : "")
     + (search.stopping ? "; stopping" : "");
@@ -79,7 +80,7 @@ const drawSearches = () => {
   const select = $("word"), kinds = offered(), was = select.value;
   if (select.options.length !== kinds.length) {
     select.replaceChildren();
-    for (const [word, words] of kinds) add(select, "option", words).value = word;
+    for (const [word, words] of kinds) add(select, "option", `${words} (${word})`).value = word;
     if (kinds.some(([word]) => word === was)) select.value = was;
   }
   $("wordSays").textContent = kinds.find(([word]) => word === select.value)?.[2] ?? "";
@@ -106,7 +107,7 @@ const publish = async () => {
 const startSearch = async event => {
   event.preventDefault();
   const answer = await request("start", { word: $("word").value, seconds: Number($("seconds").value), seed: Number($("seed").value) });
-  if (answer && !answer.error) { closeMenus(); draw(); $("stop").focus(); }
+  if (answer && !answer.error) { tell(""); closeMenus(); draw(); $("stop").focus(); }
 };
 const stopAtOnce = () => {
   if (confirm("The program is ended and begun anew: the log is carried out again, which takes as long as its searches took. Go on?")) request("stop", { atOnce: true });
@@ -125,19 +126,24 @@ const answerOf = async line => {
   if (word === "publish") return publish();
   return perform([line], line);
 };
+const showReply = (text, className = "") => {
+  $("reply").textContent = text;
+  $("reply").className = className;
+  $("replyGone").hidden = !text;
+};
 const command = async event => {
   event.preventDefault();
-  const line = $("command").value.trim().replace(/\s+/g, " "), reply = $("reply");
+  const line = $("command").value.trim().replace(/\s+/g, " "), elsewhere = ELSEWHERE[line.split(" ")[0]];
   if (!line) return;
-  reply.className = "";
-  reply.textContent = ELSEWHERE[line.split(" ")[0]] || "";
-  if (reply.textContent) return;
+  showReply(elsewhere || "");
+  if (elsewhere) return;
   const answer = await answerOf(line), own = answer?.replies?.[0];
-  if (!own) { reply.textContent = $("told").textContent; return; }
+  if (!own) { showReply($("told").textContent); return; }
   const more = Object.values(answer.left?.[0] || {}).reduce((sum, left) => sum + left, 0);
   const lines = own.slice(0, -1);
-  reply.textContent = [...lines, ...(more ? [`and ${W.count(more)} more lines`] : []), own.at(-1)].map(text => text.slice(0, 300)).join("\n");
-  if (R.refusal(own)) reply.className = "bad"; else $("command").value = "";
+  const refused = R.refusal(own);
+  showReply([...lines, ...(more ? [`and ${W.count(more)} more lines`] : []), own.at(-1)].map(text => text.slice(0, 300)).join("\n"), refused ? "bad" : "");
+  if (!refused) $("command").value = "";
 };
 
 export const setUpBar = () => {
@@ -159,4 +165,6 @@ export const setUpBar = () => {
   $("stop").addEventListener("click", () => request("stop", {}));
   $("stopNow").addEventListener("click", stopAtOnce);
   $("line").addEventListener("submit", command);
+  $("command").addEventListener("keydown", event => { if (event.key === "Escape") showReply(""); });
+  $("replyGone").addEventListener("click", () => { showReply(""); $("command").focus(); });
 };

@@ -115,7 +115,7 @@ const partsOf = course => {
 };
 const optionWords = id => {
   const one = part("class", id), value = valueOf(id);
-  return `${one.name || `class ${id}`}: ${value ? W.when(W.timeOf(id, value)) : "not placed"}, ${W.seats(one, app.shown.explained.get(id).students)}`;
+  return `${one.name || `class ${id}`}: ${value ? W.whenShort(W.timeOf(id, value)) : "not placed"}, ${W.seats(one, app.shown.explained.get(id).students)}`;
 };
 const conflictWords = id => app.shown.student.pairs.filter(pair => pair.includes(id)).map(pair => W.say(pair.find(other => other !== id))).join("; ");
 const sectionRow = (body, course, words, ids, first) => {

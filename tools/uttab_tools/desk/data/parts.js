@@ -56,12 +56,12 @@ export const table = (parent, heads, caption) => {
   return add(made, "tbody");
 };
 
-// What had the focus in a part that is drawn anew gets it again. Where the part is scrolled to isn't asked or set: that stays,
+// What had the focus in a part that is drawn anew gets it again, or, where it is gone, the part that it was in. Where the part is scrolled to isn't asked or set: that stays,
 // as long as nothing asks for the layout in between, which would take as long as the drawing.
 export const keepingFocus = (whole, draw) => {
   const inside = whole.contains(document.activeElement) ? document.activeElement : null;
   const mark = inside && (inside.id ? `#${CSS.escape(inside.id)}` : inside.dataset.key ? `[data-key="${inside.dataset.key}"]`
     : inside.dataset.id ? `[data-id="${inside.dataset.id}"]` : null);
   draw();
-  if (mark) whole.querySelector(mark)?.focus({ preventScroll: true });
+  if (inside && inside !== whole) ((mark && whole.querySelector(mark)) || whole.closest("[tabindex]"))?.focus({ preventScroll: true });
 };

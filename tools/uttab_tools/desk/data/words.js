@@ -5,6 +5,8 @@ import { clock } from "./grid.js";
 const numbers = new Intl.NumberFormat("en");
 export const count = number => numbers.format(number);
 export const many = (number, one, more = one + "s") => `${count(number)} ${number === 1 ? one : more}`;
+// What a search has made, as its command counts it.
+export const turnsWord = (word, turns) => many(turns, ["improve", "deluge"].includes(word) ? "round" : "turn");
 // A difference of two numbers of the program.
 export const signed = number => (number > 0 ? "+" : number < 0 ? "−" : "±") + count(Math.abs(number));
 
@@ -12,12 +14,12 @@ export const say = id => part("class", id)?.label ?? `class ${id}`;
 export const roomWord = room => (room === "-" || room === null ? "no room" : roomLabels.get(room) ?? `Room ${room}`);
 export const labelOf = (kind, id) => (kind === "room" ? roomWord(id) : part(kind, id)?.label ?? `${kind} ${id}`);
 
-export const daysWord = days => {
-  const own = head.days.filter((_, day) => days >> day & 1);
-  return own.length === 1 ? own[0] : own.map(day => day.slice(0, 3)).join(", ");
-};
+const daysOf = days => head.days.filter((_, day) => days >> day & 1);
+const shortDays = days => daysOf(days).map(day => day.slice(0, 3)).join(", ");
+export const daysWord = days => (daysOf(days).length === 1 ? daysOf(days)[0] : shortDays(days));
 export const hours = time => `${clock(time.start)}–${clock(time.end)}`;
 export const when = time => `${daysWord(time.days)} ${hours(time)}`;
+export const whenShort = time => `${shortDays(time.days)} ${hours(time)}`;
 export const weeksWord = time => weekSets[time.weeks].words;
 export const whenLong = time => `${when(time)}, ${weeksWord(time)}`;
 export const timeOf = (id, value) => part("class", id).times[value.t - 1];
