@@ -2,6 +2,7 @@
 
 from collections.abc import Sequence
 from heapq import nlargest
+from operator import add
 
 from uttab_tools.desk.process import Reply
 
@@ -42,7 +43,14 @@ def largest_of(lines: Sequence[str], keys: Sequence[str], most: int) -> list[str
         raise ValueError("the lines have several forms")
     kept = set[int]()
     for key in keys:
-        columns = [map(int, words[form.index(word) + 1::len(form)]) for word in key.split(" ")]
-        numbers = list(map(sum, zip(*columns)))
+        numbers, *others = [numbers_of(words[form.index(word) + 1::len(form)]) for word in key.split(" ")]
+        for more in others:
+            numbers = list(map(add, numbers, more))
         kept.update(nlargest(most, range(len(lines)), key=numbers.__getitem__))
     return [lines[place] for place in sorted(kept)]
+
+
+def numbers_of(words: Sequence[str]) -> list[int]:
+    """The numbers that words are. Few of them are different."""
+    known = {word: int(word) for word in set(words)}
+    return list(map(known.__getitem__, words))

@@ -21,7 +21,7 @@ export const classLink = (parent, id, words) => {
 
 // A class as an item of a list, with what is to be said of it. It can be dragged into the week.
 export const classItem = (list, id, words) => {
-  const item = add(list, "li"), made = button(item, undefined, () => { choose(id, true); showPart("panel"); }, "class");
+  const item = add(list, "li", undefined, "whole"), made = button(item, undefined, () => { choose(id, true); showPart("panel"); }, "class");
   made.dataset.id = id;
   if (id === app.shown.chosen) made.setAttribute("aria-current", "true");
   add(made, "span", W.say(id));
