@@ -206,6 +206,8 @@ def test_a_search_waits_for_a_page_that_asks(tmp_path: Path, monkeypatch: pytest
             assert "ok " in str(server.answer("ask", {"lines": ["totals"]})) and search.turns == turns
             monkeypatch.setattr(web, "PAUSE", 0)
             until(lambda: search.turns > turns, "the next slice")
+            monkeypatch.setattr(web, "PAUSE", 1000)
+            server.answer("ask", {"lines": ["totals"]})
             server.answer("stop", {})
             until(lambda: session.search is None, "the stop")
         finally:

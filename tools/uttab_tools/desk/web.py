@@ -117,8 +117,8 @@ class Server(ThreadingHTTPServer):
 
     def slices(self) -> None:
         """A slice of the running search, and a place behind all who wait for the next."""
-        now = time.monotonic()
-        if now - self.answered < PAUSE and now - self.sliced < LONGEST_PAUSE:
+        now, search = time.monotonic(), self.session.search
+        if search and not search.stopping and now - self.answered < PAUSE and now - self.sliced < LONGEST_PAUSE:
             time.sleep(TICK)
             self.one.submit(self.slices)
         elif self.session.slice():
