@@ -160,6 +160,9 @@ export const setUpBar = () => {
   $("lockAll").addEventListener("click", () => perform(["lock all"], "All placed classes locked"));
   $("unlockAll").addEventListener("click", () => perform(["unlock all"], "All classes unlocked"));
   $("recall").addEventListener("click", () => perform(["recall"], "Back to what is published"));
+  for (const made of document.querySelectorAll("#publishMenu a")) {
+    made.addEventListener("click", () => tell(`“${made.textContent}” is being made. Of a large timetable that takes a while.`));
+  }
   $("word").addEventListener("change", drawSearches);
   $("search").addEventListener("submit", startSearch);
   $("stop").addEventListener("click", () => request("stop", {}));
