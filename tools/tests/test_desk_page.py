@@ -5,7 +5,7 @@ import re
 import subprocess
 import threading
 from collections.abc import Callable, Iterator
-from http.server import BaseHTTPRequestHandler, HTTPServer
+from http.server import BaseHTTPRequestHandler, ThreadingHTTPServer
 from pathlib import Path
 
 import pytest
@@ -376,7 +376,7 @@ def test_another_site_gets_nothing(browser: Browser, begin: Callable[..., Desk])
         def log_message(self, *_: object) -> None:
             """Nothing is told."""
 
-    server = HTTPServer(("127.0.0.1", 0), Stranger)
+    server = ThreadingHTTPServer(("127.0.0.1", 0), Stranger)
     threading.Thread(target=server.serve_forever, daemon=True).start()
     try:
         browser.driver.get(f"http://127.0.0.1:{server.server_port}/")
