@@ -1,3 +1,5 @@
+//! The value that a published timetable gives a class.
+
 ghost use Rattle.std.specs.Prelude.{◌≡◌, ◌<◌, IfSome, length};
 ghost use Rattle.tt_plan.specs.Domain.{IsOfDomain};
 ghost use Rattle.tt_published.specs.Timetable.{IsTimetableOf};
