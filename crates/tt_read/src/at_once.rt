@@ -1,10 +1,10 @@
 //! Reading a file that has no fault: its ids are gathered first, and then all is read once, each
 //! reference looked up at once.
 
-ghost use Rattle.std.specs.Prelude.{◌≡◌, Ok, IfOk, IfSome, IsTrue, map};
+ghost use Rattle.std.specs.Prelude.{◌≡◌, Ok, IfOk, IfSome, IsTrue, length, map};
 ghost use Rattle.tt_problem.specs.Valid.{IsValid, room_ids, course_ids, class_ids};
 ghost use Rattle.tt_fields.specs.Answer.{part_of};
-ghost use Rattle.tt_read.specs.Read.{shape_read, HasLists, HasIdsOf, IsShape};
+ghost use Rattle.tt_read.specs.Read.{shape_read, HasLists, HasIdsOf, IsCourseListOf, IsRoomListOf, IsShape};
 ghost use Rattle.tt_read.specs.Tables.{parts_of};
 
 use crate::passes::{CourseList, RoomList, Shape, read_term, read_weights, second_pass};
@@ -49,6 +49,52 @@ fn ids_below(
     Ok(ids)
 }
 
+// The ids of a list's items, and `None` where one stands twice.
+fn distinct_ids(alloc: Global, items: &PartList<'_>) -> Result<Option<IndexSet<u32>>, FileFault>
+    ensures count { IfOk result (λ found. IfSome found (λ ids. length ids.keys ≡ length items.now.values.now)) }
+{
+    let ids = ids_below(alloc, items, &[])?;
+    if ids.len() == items.len() {
+        Ok(Some(ids))
+    } else {
+        Ok(None)
+    }
+}
+
+// The list of rooms, and `None` where an id stands twice.
+fn likely_rooms<'a>(alloc: Global, object: &'a Field<'a>) -> Result<Option<RoomList<'a>>, FileFault>
+    ensures list { IfOk result (λ found. IfSome found (IsRoomListOf (part_of object.now))) }
+{
+    let items = list_or_none(object, "rooms", 2500)?;
+    match distinct_ids(alloc, &items)? {
+        None => Ok(None),
+        Some(ids) => Ok(Some(RoomList { items, ids })),
+    }
+}
+
+// The list of courses, and `None` where an id of a course stands twice, or there are too many ids of
+// classes.
+fn likely_courses<'a>(
+    alloc: Global,
+    object: &'a Field<'a>,
+) -> Result<Option<CourseList<'a>>, FileFault>
+    ensures list { IfOk result (λ found. IfSome found (IsCourseListOf (part_of object.now))) }
+{
+    let items = list(object, "courses", 0, 20_000)?;
+    let Some(ids) = distinct_ids(alloc, &items)? else {
+        return Ok(None);
+    };
+    let class_ids = ids_below(alloc, &items, &["configs", "subparts", "classes"])?;
+    if class_ids.len() > 20_000 {
+        return Ok(None);
+    }
+    Ok(Some(CourseList {
+        items,
+        ids,
+        class_ids,
+    }))
+}
+
 // The shape that the first pass finds if it finds no fault, and `None` where some id is missing or
 // stands twice, or there are too many.
 fn likely_shape<'a>(alloc: Global, object: &'a Field<'a>) -> Result<Option<Shape<'a>>, FileFault>
@@ -59,34 +105,19 @@ fn likely_shape<'a>(alloc: Global, object: &'a Field<'a>) -> Result<Option<Shape
     let term = read_term(object)?;
     let optimization = required_object(object, "optimization")?;
     let weights = read_weights(&optimization)?;
-    let rooms = list_or_none(object, "rooms", 2500)?;
-    let courses = list(object, "courses", 0, 20_000)?;
     let distributions = list_or_none(object, "distributions", 20_000)?;
     let students = list_or_none(object, "students", 100_000)?;
-    let room_ids = ids_below(alloc, &rooms, &[])?;
-    let course_ids = ids_below(alloc, &courses, &[])?;
-    let class_ids = ids_below(alloc, &courses, &["configs", "subparts", "classes"])?;
-    if room_ids.len() != rooms.len() {
+    let Some(rooms) = likely_rooms(alloc, object)? else {
         return Ok(None);
-    }
-    if course_ids.len() != courses.len() {
+    };
+    let Some(courses) = likely_courses(alloc, object)? else {
         return Ok(None);
-    }
-    if class_ids.len() > 20_000 {
-        return Ok(None);
-    }
+    };
     Ok(Some(Shape {
         term,
         weights,
-        rooms: RoomList {
-            items: rooms,
-            ids: room_ids,
-        },
-        courses: CourseList {
-            items: courses,
-            ids: course_ids,
-            class_ids,
-        },
+        rooms,
+        courses,
         distributions,
         students,
     }))
