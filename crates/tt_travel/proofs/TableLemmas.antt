@@ -1,10 +1,11 @@
 -- What a table of travel has after a pair of rooms is set.
-use Rattle.std.proofs.Common.{◌≡◌, ◌≢◌, ◌⊎◌, ℕ, ◌+◌, ◌*◌, ◌<◌, ◌/◌, ◌%◌, Option, Some, None, length, get_or-set_same, get_or-set_other, ◌≤◌, zero, suc, sym, ap, ◌∙◌, inl, inr, refl, arith}
-use Rattle.std.specs.Prelude.{slice_index, slice_set, replicate, ◌==◌}
+use Rattle.std.proofs.Common.{◌≡◌, ◌≢◌, ◌⊎◌, ℕ, ◌+◌, ◌*◌, ◌<◌, ◌/◌, ◌%◌, List, Option, Some, None, length, get_or-set_same, get_or-set_other, ◌≤◌, zero, suc, max, sym, ap, ◌∙◌, inl, inr, refl, arith}
+use Rattle.std.specs.Prelude.{slice_index, slice_set, replicate, All, ◌==◌}
 use Rattle.std.proofs.lemmas.Nat.{div-mul-add, mod-mul-add, mul-add-lt}
 use Rattle.std.proofs.lemmas.Bool.{cases_eq, cases_Bool}
 use Rattle.std.proofs.lemmas.Bool.Decides.{nat_tests}
 use Rattle.std.proofs.lemmas.List.{length-replicate}
+use Rattle.std.proofs.lemmas.List.Elements.{All-set, All-weaker}
 use Rattle.std.proofs.Math.ListN.{length-set}
 use Rattle.tt_travel.specs.Table.{most_rooms, Table, between, no_travel, with_travel, IsRoomOf, IsTravel, IsPair}
 
@@ -115,6 +116,15 @@ pub between-places_set : (kept t : Table) (a b i j n : ℕ) → kept ≡ t → i
 between-places_set kept t a b i j n e there back ha hb c d hc hd other =
     ap (λ u. between u (Some c) (Some d)) (places_are kept t a b i j n e there back)
     ∙ between-other t a b n c d ha hb hd other
+
+-- with two places set, no slots are more than the most before or what was set
+pub All-places_set : (slots : List ℕ) (i j n most next : ℕ) → All (λ m. m ≤ most) slots → next ≡ max most n
+    → All (λ m. m ≤ next) (slice_set (slice_set slots i n) j n)
+All-places_set slots i j n most next few is =
+    let IsFew : ℕ → Type 0 = λ m. m ≤ next in
+    let before = All-weaker (λ m. m ≤ most) IsFew (λ m h. omega (arith, h, is)) slots few in
+    let set : n ≤ next = omega (arith, is) in
+    All-set IsFew (slice_set slots i n) j n set (All-set IsFew slots i n set before)
 
 pub rooms-no_travel : (n : ℕ) → (no_travel n).rooms ≡ n
 unfolding no_travel

@@ -2,7 +2,7 @@
 //! itself.
 #![tactic(auto)]
 
-ghost use Rattle.std.specs.Prelude.{◌≡◌, ◌≢◌, ℕ, ◌+◌, ◌*◌, ◌<◌, ◌≤◌, Some, IfOk, length};
+ghost use Rattle.std.specs.Prelude.{◌≡◌, ◌≢◌, ℕ, ◌+◌, ◌*◌, ◌<◌, ◌≤◌, Option, Some, IfOk, length};
 ghost use Rattle.tt_travel.specs.Table.{most_rooms, between, no_travel, with_travel, IsRoomOf, IsTravel, IsPair};
 
 use std::alloc::{AllocError, Global};
@@ -15,18 +15,22 @@ use std::marker::Model;
 #[derive(Drop)]
 pub struct Travel {
     rooms: u32,
+    // Between no two rooms are more slots. A later setting to fewer doesn't lower it.
+    most: u16,
     // The slots from room `a` to room `b` stand at `a * rooms + b`.
     slots: Vec<u16>,
 }
 
 impl Model for Travel {
+    ghost use Rattle.std.specs.Prelude.{◌≤◌, All};
     ghost use Rattle.tt_travel.specs.Table.{Table, IsTravel};
 
     ghost Value = { Table };
 
     ghost view = { λ t. record { rooms = t.rooms; slots = t.slots.items } };
 
-    ghost invariant = { λ t. IsTravel (record { rooms = t.rooms; slots = t.slots.items }) };
+    ghost invariant = { λ t. IsTravel (record { rooms = t.rooms; slots = t.slots.items })
+        × All (λ slots. slots ≤ t.most) t.slots.items };
 }
 
 impl Travel {
@@ -40,7 +44,11 @@ impl Travel {
     {
         let places = rooms as usize * rooms as usize;
         let slots = vec![in alloc; 0; places]?;
-        Ok(Travel { rooms, slots })
+        Ok(Travel {
+            rooms,
+            most: 0,
+            slots,
+        })
     }
 
     /// Sets the slots between two rooms, both ways. From a room to itself it stays 0.
@@ -61,6 +69,7 @@ impl Travel {
             let back = self.place(b, a);
             self.slots[there] = slots;
             self.slots[back] = slots;
+            self.most = self.most.max(slots);
         }
     }
 
@@ -75,6 +84,16 @@ impl Travel {
             (Some(a), Some(b)) => self.slots[self.place(a, b)],
             _ => 0,
         }
+    }
+
+    /// Between no two rooms are more slots than these. It may be above all in the table: a later
+    /// setting to fewer doesn't lower it.
+    pub fn most(&self) -> u16
+        ensures most { (a b : Option ℕ) → IsRoomOf self.now a → IsRoomOf self.now b
+            → between self.now a b ≤ result }
+        ensures sound { IsTravel self.now }
+    {
+        self.most
     }
 
     // Where the slots from one room to another stand.
@@ -109,6 +128,26 @@ mod tests {
         assert_eq!(rt; travel.between(Some(1), None), 0);
         assert_eq!(rt; travel.between(None, Some(1)), 0);
         assert_eq!(rt; travel.between(None, None), 0);
+        Ok(())
+    }
+
+    #[test]
+    fn most_is_the_greatest_setting(rt: HostRuntime) -> Result<(), Fail> {
+        let mut travel = Travel::new(rt.alloc(), 3)?;
+        assert_eq!(rt; travel.most(), 0);
+        travel.set(0, 1, 3);
+        assert_eq!(rt; travel.most(), 3);
+        travel.set(1, 2, 65_535);
+        travel.set(2, 0, 4);
+        assert_eq!(rt; travel.most(), 65_535);
+        Ok(())
+    }
+
+    #[test]
+    fn most_counts_no_room_to_itself(rt: HostRuntime) -> Result<(), Fail> {
+        let mut travel = Travel::new(rt.alloc(), 3)?;
+        travel.set(1, 1, 9);
+        assert_eq!(rt; travel.most(), 0);
         Ok(())
     }
 
