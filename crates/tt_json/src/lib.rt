@@ -1,5 +1,7 @@
 //! JSON objects that are built member by member. What an object has is its keys with their values, in
-//! the order of the keys by bytes, whatever the order in which they came.
+//! the order of the keys by bytes, whatever the order in which they came. A law beside it, `read_text`
+//! of `proofs/BackLemmas.antt`: the text of a value whose numbers are integers is read back as that
+//! value.
 #![tactic(auto)]
 
 ghost use Rattle.std.specs.Prelude.{◌≡◌, IfOk, option_map};
