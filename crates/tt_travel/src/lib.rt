@@ -87,36 +87,3 @@ impl Travel {
         a as usize * self.rooms as usize + b as usize
     }
 }
-
-#[cfg(test)]
-mod tests {
-    use super::*;
-    use std::test::Fail;
-
-    #[test]
-    fn last_setting_counts_both_ways(rt: HostRuntime) -> Result<(), Fail> {
-        let mut travel = Travel::new(rt.alloc(), 3)?;
-        assert_eq!(rt; travel.between(Some(0), Some(1)), 0);
-        travel.set(0, 1, 3);
-        travel.set(1, 0, 5);
-        travel.set(1, 2, 65_535);
-        travel.set(2, 2, 7);
-        assert_eq!(rt; travel.between(Some(0), Some(1)), 5);
-        assert_eq!(rt; travel.between(Some(1), Some(0)), 5);
-        assert_eq!(rt; travel.between(Some(2), Some(1)), 65_535);
-        assert_eq!(rt; travel.between(Some(2), Some(2)), 0);
-        assert_eq!(rt; travel.between(Some(0), Some(2)), 0);
-        assert_eq!(rt; travel.between(Some(1), None), 0);
-        assert_eq!(rt; travel.between(None, Some(1)), 0);
-        assert_eq!(rt; travel.between(None, None), 0);
-        Ok(())
-    }
-
-    #[test]
-    fn largest_table_is_made(rt: HostRuntime) -> Result<(), Fail> {
-        let mut travel = Travel::new(rt.alloc(), 2_500)?;
-        travel.set(2_499, 0, 9);
-        assert_eq!(rt; travel.between(Some(0), Some(2_499)), 9);
-        Ok(())
-    }
-}
