@@ -3,6 +3,7 @@
 ghost use Rattle.std.specs.Prelude.{◌≡◌, length, replicate, None};
 ghost use Rattle.tt_score.specs.Fits.{Fits, plan_of};
 
+use std::alloc::{AllocError, Global};
 use std::test::Fail;
 use test_help::value;
 use tt_clash::{Block, Closures, Listing, blocked};
@@ -145,31 +146,40 @@ fn counts_no_further(problem: &Problem, score: &mut Score, listing: &mut Listing
 #[test]
 fn a_value_is_blocked_by_a_closed_room_or_a_rule(rt: HostRuntime) -> Result<(), Fail> {
     let problem = read(rt.alloc(), TEXT.as_bytes())?;
-    assert!(rt; says_why(&problem, &Closures::new(rt.alloc())));
+    let shown = says_why(&problem, &Closures::new(rt.alloc()));
     drop(problem);
+    assert!(rt; shown);
     Ok(())
+}
+
+// Whether it has to go in a score that is made.
+fn makes_room_in_a_score(alloc: Global, problem: &Problem) -> Result<bool, AllocError> {
+    let mut listing = Listing::new(alloc, problem.class_count())?;
+    let mut score = Score::new(alloc, problem)?;
+    Ok(makes_room(problem, &mut score, &mut listing))
 }
 
 #[test]
 fn a_class_in_the_room_has_to_go(rt: HostRuntime) -> Result<(), Fail> {
     let problem = read(rt.alloc(), TEXT.as_bytes())?;
-    let mut score = Score::new(rt.alloc(), &problem).expect(&rt, "memory");
-    let mut listing = Listing::new(rt.alloc(), problem.class_count()).expect(&rt, "memory");
-    assert!(rt; makes_room(&problem, &mut score, &mut listing));
-    drop(listing);
-    drop(score);
+    let shown = makes_room_in_a_score(rt.alloc(), &problem);
     drop(problem);
+    assert_eq!(rt; shown, Ok(true));
     Ok(())
+}
+
+// Whether they have to go in a score that is made.
+fn counts_in_a_score(alloc: Global, problem: &Problem) -> Result<bool, AllocError> {
+    let mut listing = Listing::new(alloc, problem.class_count())?;
+    let mut score = Score::new(alloc, problem)?;
+    Ok(counts_no_further(problem, &mut score, &mut listing))
 }
 
 #[test]
 fn classes_that_break_rules_have_to_go(rt: HostRuntime) -> Result<(), Fail> {
     let problem = read(rt.alloc(), TEXT.as_bytes())?;
-    let mut score = Score::new(rt.alloc(), &problem).expect(&rt, "memory");
-    let mut listing = Listing::new(rt.alloc(), problem.class_count()).expect(&rt, "memory");
-    assert!(rt; counts_no_further(&problem, &mut score, &mut listing));
-    drop(listing);
-    drop(score);
+    let shown = counts_in_a_score(rt.alloc(), &problem);
     drop(problem);
+    assert_eq!(rt; shown, Ok(true));
     Ok(())
 }

@@ -100,41 +100,62 @@ fn sections_in_a_step(state: &mut State) -> bool {
     with == 0 && state.totals().unsectioned == 1 && state.mark_now() == 2
 }
 
+// Whether the second class takes the first one out, which is counted.
+fn takes_out(state: &mut State) -> bool {
+    assigns(state, 0, 1, Some(1))
+        && forces(state, 1, 1, Some(1))
+        && state.taken() == [0].as_slice()
+        && state.score().plan() == [None, Some(FIRST)].as_slice()
+        && count(state, FIRST) == 1
+}
+
+// Whether the first class is back when that is taken back, and nothing is counted.
+fn gives_back(state: &mut State) -> bool {
+    state.undo()
+        && state.score().plan() == [Some(FIRST), None].as_slice()
+        && count(state, FIRST) == 0
+        && state.taken() == [0].as_slice()
+}
+
 #[test]
 fn a_forced_class_takes_another_out_and_gives_it_back(rt: HostRuntime) -> Result<(), Fail> {
     let mut state = state_of(rt.alloc(), TEXT.as_bytes())?;
-    assert!(rt; assigns(&mut state, 0, 1, Some(1)));
-    assert!(rt; forces(&mut state, 1, 1, Some(1)));
-    assert!(rt; state.taken() == [0].as_slice());
-    assert!(rt; state.score().plan() == [None, Some(FIRST)].as_slice());
-    assert!(rt; count(&state, FIRST) == 1);
-    assert!(rt; state.undo());
-    assert!(rt; state.score().plan() == [Some(FIRST), None].as_slice());
-    assert!(rt; count(&state, FIRST) == 0);
-    assert!(rt; state.taken() == [0].as_slice());
-    assert!(rt; forces_in_a_step(&mut state));
-    assert!(rt; tries(&mut state));
+    let shown = [
+        takes_out(&mut state),
+        gives_back(&mut state),
+        forces_in_a_step(&mut state),
+        tries(&mut state),
+    ];
     drop(state);
+    assert_eq!(rt; shown, [true; 4]);
     Ok(())
+}
+
+// Whether the second class pushes out one class, once that has its place, and no more is looked for
+// than is asked.
+fn is_found_up_to_a_number(state: &mut State) -> bool {
+    pushes_out_at_most(state, 0)
+        && assigns(state, 0, 1, Some(1))
+        && pushes_out_at_most(state, 1)
+        && state.taken() == [0].as_slice()
+        && !pushes_out_at_most(state, 0)
+        && state.taken().len() == 0
 }
 
 #[test]
 fn a_conflict_set_is_found_up_to_a_number_of_classes(rt: HostRuntime) -> Result<(), Fail> {
     let mut state = state_of(rt.alloc(), TEXT.as_bytes())?;
-    assert!(rt; pushes_out_at_most(&mut state, 0));
-    assert!(rt; assigns(&mut state, 0, 1, Some(1)));
-    assert!(rt; pushes_out_at_most(&mut state, 1));
-    assert!(rt; state.taken() == [0].as_slice());
-    assert!(rt; !pushes_out_at_most(&mut state, 0));
-    assert!(rt; state.taken().len() == 0);
+    let shown = is_found_up_to_a_number(&mut state);
     drop(state);
+    assert!(rt; shown);
     Ok(())
 }
 
 #[test]
 fn a_student_gets_a_list_within_a_step(rt: HostRuntime) -> Result<(), Fail> {
     let mut state = state_of(rt.alloc(), TEXT.as_bytes())?;
-    assert!(rt; sections_in_a_step(&mut state));
+    let shown = sections_in_a_step(&mut state);
     drop(state);
+    assert!(rt; shown);
     Ok(())
 }

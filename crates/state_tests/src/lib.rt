@@ -4,11 +4,17 @@
 #![tactic(auto)]
 
 #[cfg(test)]
+mod cbs_tests;
+#[cfg(test)]
 mod clash_tests;
 #[cfg(test)]
 mod force_tests;
 #[cfg(test)]
+mod journal_tests;
+#[cfg(test)]
 mod lock_tests;
+#[cfg(test)]
+mod occupancy_tests;
 #[cfg(test)]
 mod plan_tests;
 #[cfg(test)]

@@ -53,62 +53,98 @@ fn unassigns(state: &mut State, class: u32) -> bool
     class < state.problem().class_count() && state.unassign(class) == Ok(true)
 }
 
+// Whether a class is locked once it is placed, and then isn't pushed out.
+fn holds_its_place(state: &mut State) -> bool {
+    state.lock(0) == Ok(Some(LockFault::NotPlaced))
+        && assigns(state, 0, 1, Some(1))
+        && state.lock(0) == Ok(None)
+        && state.lock(0) == Ok(Some(LockFault::Locked))
+        && obstacle(state) == Some(Obstacle::Held { class: 0 })
+        && state.taken() == [0].as_slice()
+        && locked(state) == [true, false, false]
+        && state.score().value(1).is_none()
+}
+
+// Whether the locked class itself moves, and stays locked.
+fn moves_itself(state: &mut State) -> bool {
+    assigns(state, 0, 2, Some(1))
+        && forces(state, 0, 1, Some(1))
+        && locked(state) == [true, false, false]
+}
+
+// Whether the class is pushed out once it is unlocked, and is locked again when both are taken back.
+fn goes_without_its_lock(state: &mut State) -> bool {
+    state.unlock(0) == Ok(true)
+        && state.unlock(0) == Ok(false)
+        && forces(state, 1, 2, Some(1))
+        && state.score().value(0).is_none()
+        && state.undo()
+        && state.undo()
+        && locked(state) == [true, false, false]
+}
+
 #[test]
 fn a_locked_class_keeps_its_place(rt: HostRuntime) -> Result<(), Fail> {
     let mut state = state_of(rt.alloc(), TEXT.as_bytes())?;
-    assert!(rt; state.lock(0) == Ok(Some(LockFault::NotPlaced)));
-    assert!(rt; assigns(&mut state, 0, 1, Some(1)));
-    assert!(rt; state.lock(0) == Ok(None));
-    assert!(rt; state.lock(0) == Ok(Some(LockFault::Locked)));
-    assert!(rt; obstacle(&mut state) == Some(Obstacle::Held { class: 0 }));
-    assert!(rt; state.taken() == [0].as_slice());
-    assert!(rt; locked(&state) == [true, false, false]);
-    assert!(rt; state.score().value(1).is_none());
-    // The class itself moves, and stays locked.
-    assert!(rt; assigns(&mut state, 0, 2, Some(1)));
-    assert!(rt; forces(&mut state, 0, 1, Some(1)));
-    assert!(rt; locked(&state) == [true, false, false]);
-    assert!(rt; state.unlock(0) == Ok(true));
-    assert!(rt; state.unlock(0) == Ok(false));
-    assert!(rt; forces(&mut state, 1, 2, Some(1)));
-    assert!(rt; state.score().value(0).is_none());
-    assert!(rt; state.undo());
-    assert!(rt; state.undo());
-    assert!(rt; locked(&state) == [true, false, false]);
+    let shown = [
+        holds_its_place(&mut state),
+        moves_itself(&mut state),
+        goes_without_its_lock(&mut state),
+    ];
     drop(state);
+    assert_eq!(rt; shown, [true; 3]);
     Ok(())
+}
+
+// Whether just the placed classes that aren't locked become so together.
+fn locks_all(state: &mut State) -> bool {
+    state.lock_all() == Ok(0)
+        && assigns(state, 0, 1, Some(1))
+        && assigns(state, 2, 1, None)
+        && state.lock(2) == Ok(None)
+        && state.lock_all() == Ok(1)
+        && locked(state) == [true, false, true]
+        && state.lock_all() == Ok(0)
+}
+
+// Whether both locks come off together, and are back when that is taken back.
+fn unlocks_all(state: &mut State) -> bool {
+    state.unlock_all() == Ok(2)
+        && locked(state) == [false, false, false]
+        && state.unlock_all() == Ok(0)
+        && state.undo()
+        && state.undo()
+        && locked(state) == [true, false, true]
 }
 
 #[test]
 fn all_placed_classes_are_locked_and_unlocked(rt: HostRuntime) -> Result<(), Fail> {
     let mut state = state_of(rt.alloc(), TEXT.as_bytes())?;
-    assert!(rt; state.lock_all() == Ok(0));
-    assert!(rt; assigns(&mut state, 0, 1, Some(1)));
-    assert!(rt; assigns(&mut state, 2, 1, None));
-    assert!(rt; state.lock(2) == Ok(None));
-    assert!(rt; state.lock_all() == Ok(1));
-    assert!(rt; locked(&state) == [true, false, true]);
-    assert!(rt; state.lock_all() == Ok(0));
-    assert!(rt; unlocks_in_a_step(&mut state, 2));
-    assert!(rt; state.unlock_all() == Ok(2));
-    assert!(rt; locked(&state) == [false, false, false]);
-    assert!(rt; state.unlock_all() == Ok(0));
-    assert!(rt; state.undo());
-    assert!(rt; state.undo());
-    assert!(rt; locked(&state) == [true, false, true]);
+    let shown = [
+        locks_all(&mut state),
+        unlocks_in_a_step(&mut state, 2),
+        unlocks_all(&mut state),
+    ];
     drop(state);
+    assert_eq!(rt; shown, [true; 3]);
     Ok(())
+}
+
+// Whether a locked class that loses its value loses its lock with it, until that is taken back.
+fn loses_its_lock(state: &mut State) -> bool {
+    assigns(state, 0, 1, Some(1))
+        && state.lock(0) == Ok(None)
+        && unassigns(state, 0)
+        && locked(state) == [false, false, false]
+        && state.undo()
+        && locked(state) == [true, false, false]
 }
 
 #[test]
 fn a_class_without_its_value_is_not_locked(rt: HostRuntime) -> Result<(), Fail> {
     let mut state = state_of(rt.alloc(), TEXT.as_bytes())?;
-    assert!(rt; assigns(&mut state, 0, 1, Some(1)));
-    assert!(rt; state.lock(0) == Ok(None));
-    assert!(rt; unassigns(&mut state, 0));
-    assert!(rt; locked(&state) == [false, false, false]);
-    assert!(rt; state.undo());
-    assert!(rt; locked(&state) == [true, false, false]);
+    let shown = loses_its_lock(&mut state);
     drop(state);
+    assert!(rt; shown);
     Ok(())
 }

@@ -78,12 +78,15 @@ fn tells_enrolments(problem: &Problem) -> bool {
 #[test]
 fn values_and_enrolments_are_told_apart(rt: HostRuntime) -> Result<(), Fail> {
     let problem = problem(rt.alloc())?;
-    assert!(rt; has_domain(&problem));
-    assert!(rt; has_value(&problem));
-    assert!(rt; has_value_without_room(&problem));
-    assert!(rt; refuses_times(&problem));
-    assert!(rt; refuses_rooms(&problem));
-    assert!(rt; tells_enrolments(&problem));
+    let shown = [
+        has_domain(&problem),
+        has_value(&problem),
+        has_value_without_room(&problem),
+        refuses_times(&problem),
+        refuses_rooms(&problem),
+        tells_enrolments(&problem),
+    ];
     drop(problem);
+    assert_eq!(rt; shown, [true; 6]);
     Ok(())
 }

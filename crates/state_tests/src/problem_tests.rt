@@ -160,21 +160,29 @@ fn has_seats(alloc: Global, problem: &Problem) -> Result<bool, AllocError> {
     Ok(seats == [2].as_slice() && sums::seats_of(parts, seats) == 4 && most == [2, 2])
 }
 
+// Whether each of these is as the text has it.
+fn has_all(alloc: Global, problem: &Problem) -> Result<[bool; 12], AllocError> {
+    Ok([
+        has_counts(problem),
+        has_numbers(problem),
+        has_ids(problem),
+        has_class(problem),
+        has_room_and_student(problem),
+        has_spans(problem),
+        has_rules(problem),
+        has_rules_of(problem),
+        has_travel(problem),
+        has_cells(alloc, problem)?,
+        has_members(problem),
+        has_seats(alloc, problem)?,
+    ])
+}
+
 #[test]
 fn a_problem_has_the_parts_of_its_text_and_sums_over_them(rt: HostRuntime) -> Result<(), Fail> {
     let problem = problem(rt.alloc())?;
-    assert!(rt; has_counts(&problem));
-    assert!(rt; has_numbers(&problem));
-    assert!(rt; has_ids(&problem));
-    assert!(rt; has_class(&problem));
-    assert!(rt; has_room_and_student(&problem));
-    assert!(rt; has_spans(&problem));
-    assert!(rt; has_rules(&problem));
-    assert!(rt; has_rules_of(&problem));
-    assert!(rt; has_travel(&problem));
-    assert!(rt; has_cells(rt.alloc(), &problem)?);
-    assert!(rt; has_members(&problem));
-    assert!(rt; has_seats(rt.alloc(), &problem)?);
+    let shown = has_all(rt.alloc(), &problem);
     drop(problem);
+    assert_eq!(rt; shown, Ok([true; 12]));
     Ok(())
 }

@@ -3,6 +3,7 @@
 ghost use Rattle.std.specs.Prelude.{◌≡◌, length, replicate, None, []};
 ghost use Rattle.tt_roster.specs.Kept.{IsRosterOf};
 
+use std::alloc::{AllocError, Global};
 use std::test::Fail;
 use test_help::{problem, value};
 use tt_plan::spot;
@@ -66,32 +67,47 @@ fn counts_a_common_student(problem: &Problem, roster: &mut Roster) -> bool
     met == 1 && row == [0, 0, 1] && touched[0] == 2 && roster.spots().len() == 3
 }
 
+// Whether a student gets a class in a roster that is made, and leaves it.
+fn seats_in_a_roster(alloc: Global, problem: &Problem) -> Result<bool, AllocError> {
+    let mut roster = Roster::new(alloc, problem)?;
+    Ok(seats_a_student(problem, &mut roster))
+}
+
 #[test]
 fn a_student_gets_a_class_and_leaves_it(rt: HostRuntime) -> Result<(), Fail> {
     let problem = problem(rt.alloc())?;
-    let mut roster = Roster::new(rt.alloc(), &problem).expect(&rt, "memory");
-    assert!(rt; seats_a_student(&problem, &mut roster));
-    drop(roster);
+    let shown = seats_in_a_roster(rt.alloc(), &problem);
     drop(problem);
+    assert_eq!(rt; shown, Ok(true));
     Ok(())
+}
+
+// Whether a class takes a spot in a roster that is made, and leaves it.
+fn places_in_a_roster(alloc: Global, problem: &Problem) -> Result<bool, AllocError> {
+    let mut roster = Roster::new(alloc, problem)?;
+    Ok(places_a_class(problem, &mut roster))
 }
 
 #[test]
 fn a_class_takes_a_spot_and_leaves_it(rt: HostRuntime) -> Result<(), Fail> {
     let problem = problem(rt.alloc())?;
-    let mut roster = Roster::new(rt.alloc(), &problem).expect(&rt, "memory");
-    assert!(rt; places_a_class(&problem, &mut roster));
-    drop(roster);
+    let shown = places_in_a_roster(rt.alloc(), &problem);
     drop(problem);
+    assert_eq!(rt; shown, Ok(true));
     Ok(())
+}
+
+// Whether a roster that is made has the students in common.
+fn counts_in_a_roster(alloc: Global, problem: &Problem) -> Result<bool, AllocError> {
+    let mut roster = Roster::new(alloc, problem)?;
+    Ok(counts_a_common_student(problem, &mut roster))
 }
 
 #[test]
 fn joint_row_has_the_common_students(rt: HostRuntime) -> Result<(), Fail> {
     let problem = problem(rt.alloc())?;
-    let mut roster = Roster::new(rt.alloc(), &problem).expect(&rt, "memory");
-    assert!(rt; counts_a_common_student(&problem, &mut roster));
-    drop(roster);
+    let shown = counts_in_a_roster(rt.alloc(), &problem);
     drop(problem);
+    assert_eq!(rt; shown, Ok(true));
     Ok(())
 }

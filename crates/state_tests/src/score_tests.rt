@@ -3,6 +3,7 @@
 ghost use Rattle.std.specs.Prelude.{◌≡◌, length, replicate, None, []};
 ghost use Rattle.tt_score.specs.Fits.{Fits, plan_of, closures_of};
 
+use std::alloc::{AllocError, Global};
 use std::test::Fail;
 use test_help::{problem, value};
 use tt_bits::{Days, Time, Value, Weeks};
@@ -113,38 +114,58 @@ fn hard_with_closures(problem: &Problem, score: &mut Score, times: [Time; 2]) ->
     Some([first, score.totals().hard])
 }
 
+// Whether a score that is made starts empty, and then two classes cost what their rules say.
+fn costs_in_a_score(alloc: Global, problem: &Problem) -> Result<[bool; 3], AllocError> {
+    let mut score = Score::new(alloc, problem)?;
+    Ok([
+        starts_empty(&score),
+        places_two_classes(problem, &mut score),
+        has_costs(problem, &score),
+    ])
+}
+
 #[test]
 fn two_classes_cost_what_their_rules_say(rt: HostRuntime) -> Result<(), Fail> {
     let problem = problem(rt.alloc())?;
-    let mut score = Score::new(rt.alloc(), &problem).expect(&rt, "memory");
-    assert!(rt; starts_empty(&score));
-    assert!(rt; places_two_classes(&problem, &mut score));
-    assert!(rt; has_costs(&problem, &score));
-    drop(score);
+    let shown = costs_in_a_score(rt.alloc(), &problem);
     drop(problem);
+    assert_eq!(rt; shown, Ok([true; 3]));
     Ok(())
+}
+
+// Whether a class in a closed room is hard in a score that is made.
+fn closes_in_a_score(alloc: Global, problem: &Problem) -> Result<bool, AllocError> {
+    let mut score = Score::new(alloc, problem)?;
+    Ok(places_in_a_closed_room(problem, &mut score))
 }
 
 #[test]
 fn a_closed_room_is_a_hard_conflict(rt: HostRuntime) -> Result<(), Fail> {
     let problem = problem(rt.alloc())?;
-    let mut score = Score::new(rt.alloc(), &problem).expect(&rt, "memory");
-    assert!(rt; places_in_a_closed_room(&problem, &mut score));
-    drop(score);
+    let shown = closes_in_a_score(rt.alloc(), &problem);
     drop(problem);
+    assert_eq!(rt; shown, Ok(true));
     Ok(())
+}
+
+// The hard conflicts of a score that is made.
+fn hard_in_a_score(
+    alloc: Global,
+    problem: &Problem,
+    times: [Time; 2],
+) -> Result<Option<[u64; 2]>, AllocError> {
+    let mut score = Score::new(alloc, problem)?;
+    Ok(hard_with_closures(problem, &mut score, times))
 }
 
 #[test]
 fn closures_that_overlap_a_class_count_it_once(rt: HostRuntime) -> Result<(), Fail> {
+    let touching = on_the_first_day(14, 5).ok_or("a time")?;
+    let within = on_the_first_day(13, 1).ok_or("a time")?;
     let problem = problem(rt.alloc())?;
-    let touching = on_the_first_day(14, 5).expect(&rt, "a time");
-    let within = on_the_first_day(13, 1).expect(&rt, "a time");
-    for (times, hard) in [([touching, within], [0, 1]), ([within, within], [1, 1])] {
-        let mut score = Score::new(rt.alloc(), &problem).expect(&rt, "memory");
-        assert!(rt; hard_with_closures(&problem, &mut score, times) == Some(hard));
-        drop(score);
-    }
+    let first = hard_in_a_score(rt.alloc(), &problem, [touching, within]);
+    let both = hard_in_a_score(rt.alloc(), &problem, [within, within]);
     drop(problem);
+    assert_eq!(rt; [first, both], [Ok(Some([0, 1])), Ok(Some([1, 1]))]);
     Ok(())
 }

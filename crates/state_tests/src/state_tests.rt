@@ -121,60 +121,98 @@ fn hard_with_closures(state: &mut State) -> Option<[u64; 3]> {
     Some([closed, reopened, state.totals().hard])
 }
 
+// Whether the class that needs no room gets its value and loses it, once.
+fn gets_and_loses(state: &mut State) -> bool {
+    assigns(state, 1, 1, None)
+        && state.totals().time == 8
+        && unassigns(state)
+        && refuses_to_unassign(state)
+}
+
+// Whether both steps are taken back, and no third.
+fn takes_both_back(state: &mut State) -> bool {
+    state.undo()
+        && state.totals().time == 8
+        && state.undo()
+        && state.score().plan() == [None, None, None].as_slice()
+        && !state.undo()
+}
+
 #[test]
 fn a_class_gets_a_value_and_loses_it(rt: HostRuntime) -> Result<(), Fail> {
     let mut state = State::start(rt.alloc(), problem(rt.alloc())?).expect(&rt, "memory");
-    assert!(rt; assigns(&mut state, 1, 1, None));
-    assert!(rt; state.totals().time == 8);
-    assert!(rt; unassigns(&mut state));
-    assert!(rt; refuses_to_unassign(&mut state));
-    assert!(rt; state.undo());
-    assert!(rt; state.totals().time == 8);
-    assert!(rt; state.undo());
-    assert!(rt; state.score().plan() == [None, None, None].as_slice());
-    assert!(rt; !state.undo());
-    assert!(rt; rolls_back(&mut state));
+    let shown = [
+        gets_and_loses(&mut state),
+        takes_both_back(&mut state),
+        rolls_back(&mut state),
+    ];
     drop(state);
+    assert_eq!(rt; shown, [true; 3]);
     Ok(())
+}
+
+// Whether the first student gets a list, and the second finds no seat.
+fn gets_a_list(state: &mut State) -> bool {
+    refuses_a_list(state)
+        && sections(state, 0, None)
+        && first_classes(state, 0) == Some([Some(0), Some(2), None])
+        && sections(state, 1, Some(SectionFault::Full { class: 2 }))
+}
+
+// Whether two classes of the list conflict; without the pair the total is 109.
+fn has_a_conflict(state: &mut State) -> bool {
+    assigns(state, 0, 1, Some(71))
+        && assigns(state, 2, 1, Some(72))
+        && has_totals(state)
+        && trials_below(state, 71, [109, 116, 117]) == Some([None, None, Some(116)])
+        && trials_below(state, 72, [0, 44, 45]) == Some([None, None, Some(44)])
+}
+
+// Whether the first student has classes to drop, once.
+fn drops_the_list(state: &mut State) -> bool {
+    drops(state, 0) && !drops(state, 0) && first_classes(state, 0) == Some([None; 3])
 }
 
 #[test]
 fn a_student_gets_a_list_and_drops_it(rt: HostRuntime) -> Result<(), Fail> {
     let mut state = State::start(rt.alloc(), problem(rt.alloc())?).expect(&rt, "memory");
-    assert!(rt; refuses_a_list(&mut state));
-    assert!(rt; sections(&mut state, 0, None));
-    assert!(rt; first_classes(&state, 0) == Some([Some(0), Some(2), None]));
-    assert!(rt; sections(&mut state, 1, Some(SectionFault::Full { class: 2 })));
-    assert!(rt; assigns(&mut state, 0, 1, Some(71)));
-    assert!(rt; assigns(&mut state, 2, 1, Some(72)));
-    assert!(rt; has_totals(&state));
-    // Without the pair that conflicts the total is 109.
-    assert!(rt; trials_below(&mut state, 71, [109, 116, 117]) == Some([None, None, Some(116)]));
-    assert!(rt; trials_below(&mut state, 72, [0, 44, 45]) == Some([None, None, Some(44)]));
-    assert!(rt; drops(&mut state, 0));
-    assert!(rt; !drops(&mut state, 0));
-    assert!(rt; first_classes(&state, 0) == Some([None; 3]));
+    let shown = [
+        gets_a_list(&mut state),
+        has_a_conflict(&mut state),
+        drops_the_list(&mut state),
+    ];
     drop(state);
+    assert_eq!(rt; shown, [true; 3]);
     Ok(())
+}
+
+// Whether the first room has no closure to lift, where two classes stand, and then closes and opens.
+fn closes_and_reopens(state: &mut State) -> bool {
+    assigns(state, 0, 1, Some(71))
+        && assigns(state, 2, 1, Some(72))
+        && state.reopen(0) == Ok(false)
+        && hard_with_closures(state) == Some([2, 1, 2])
 }
 
 #[test]
 fn a_room_is_closed_and_reopened(rt: HostRuntime) -> Result<(), Fail> {
     let mut state = State::start(rt.alloc(), problem(rt.alloc())?).expect(&rt, "memory");
-    assert!(rt; assigns(&mut state, 0, 1, Some(71)));
-    assert!(rt; assigns(&mut state, 2, 1, Some(72)));
-    assert!(rt; state.reopen(0) == Ok(false));
-    assert!(rt; hard_with_closures(&mut state) == Some([2, 1, 2]));
+    let shown = closes_and_reopens(&mut state);
     drop(state);
+    assert!(rt; shown);
     Ok(())
+}
+
+// Whether the desk is ready once its one class is placed.
+fn becomes_ready(state: &mut State) -> bool {
+    !state.ready() && assigns(state, 0, 1, None) && state.ready()
 }
 
 #[test]
 fn a_desk_with_all_in_place_is_ready(rt: HostRuntime) -> Result<(), Fail> {
     let mut state = State::start(rt.alloc(), small_problem(rt.alloc())?).expect(&rt, "memory");
-    assert!(rt; !state.ready());
-    assert!(rt; assigns(&mut state, 0, 1, None));
-    assert!(rt; state.ready());
+    let shown = becomes_ready(&mut state);
     drop(state);
+    assert!(rt; shown);
     Ok(())
 }

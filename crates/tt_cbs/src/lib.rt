@@ -7,9 +7,6 @@ ghost use Rattle.std.specs.FinMap as map;
 ghost use Rattle.tt_cbs.specs.Counts.{count_at, bumped, dropped};
 ghost use Rattle.tt_cbs.specs.Listed.{listed, of_class};
 
-#[cfg(test)]
-mod tests;
-
 use std::alloc::{AllocError, Global};
 use std::collections::{BTreeMap, btree_map};
 use std::marker::Model;

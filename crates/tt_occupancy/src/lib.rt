@@ -9,9 +9,6 @@ ghost use Rattle.tt_bits.specs.Spots.{spot_at, IsEmptyAt};
 ghost use Rattle.tt_occupancy.specs.Rooms.{classes_in, AreListed};
 ghost use Rattle.tt_occupancy.specs.Clashes.{clash, clashes_in_room, clash_pairs, clash_count};
 
-#[cfg(test)]
-mod tests;
-
 use std::alloc::{AllocError, Global};
 use std::marker::Model;
 use tt_bits::Spot;

@@ -12,8 +12,6 @@ ghost use Rattle.tt_pool.specs.Pools.{Pooled, list_at, lists_of};
 mod chain;
 mod order;
 mod places;
-#[cfg(test)]
-mod tests;
 
 use chain::{Chain, Link, Node, put, take};
 pub use order::place_in_order;

@@ -96,27 +96,3 @@ impl Reply {
         self.bytes.clear();
     }
 }
-
-#[cfg(test)]
-mod tests {
-    use super::*;
-    use std::test::Fail;
-
-    #[test]
-    fn grows_by_texts_and_numbers(rt: HostRuntime) -> Result<(), Fail> {
-        let mut reply = Reply::new(rt.alloc())?;
-        assert_eq!(rt; reply.bytes(), b"".as_slice());
-        reply.field("ok time ", 0)?;
-        reply.text(" room ")?;
-        reply.number(340282366920938463463374607431768211455)?;
-        assert_eq!(rt;
-            reply.bytes(),
-            b"ok time 0 room 340282366920938463463374607431768211455".as_slice()
-        );
-        reply.clear();
-        assert_eq!(rt; reply.bytes(), b"".as_slice());
-        reply.text("bye\n")?;
-        assert_eq!(rt; reply.bytes(), b"bye\n".as_slice());
-        Ok(())
-    }
-}

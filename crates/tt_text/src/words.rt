@@ -83,39 +83,3 @@ impl<'a> Iterator for Words<'a> {
         Some(word)
     }
 }
-
-#[cfg(test)]
-mod tests {
-    use super::*;
-    use std::alloc::{AllocError, Global};
-    use std::test::Fail;
-
-    // The words of a line, each with a bar after it.
-    fn with_bars(alloc: Global, line: &[u8]) -> Result<Vec<u8>, AllocError> {
-        let mut out = Vec::new(alloc);
-        for word in Words::new(line) {
-            out.extend_from_slice(word)?;
-            out.push(b'|')?;
-        }
-        Ok(out)
-    }
-
-    #[test]
-    fn parts_at_spaces_and_tabs(rt: HostRuntime) -> Result<(), Fail> {
-        let cases = [
-            ("", ""),
-            (" \t ", ""),
-            ("quit", "quit|"),
-            ("assign 1\t2 -", "assign|1|2|-|"),
-            ("\t undo \r\t", "undo|\r|"),
-        ];
-        for (line, want) in cases {
-            assert_eq!(rt;
-                with_bars(rt.alloc(), line.as_bytes())?.as_slice(),
-                want.as_bytes(),
-                "{line}"
-            );
-        }
-        Ok(())
-    }
-}

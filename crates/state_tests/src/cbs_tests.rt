@@ -1,9 +1,9 @@
 //! Tests of the counts of the conflict-based statistics.
 
-use crate::Cbs;
 use std::alloc::AllocError;
 use std::test::Fail;
 use tt_bits::{Key, Value};
+use tt_cbs::Cbs;
 
 // The key of a class at the first of its values, for which another lost a value in this room.
 fn key(class: u32, other: u32, room: u16) -> Key {

@@ -1,0 +1,114 @@
+//! Tests of where classes stand and clash.
+
+ghost use Rattle.std.specs.Prelude.{◌≡◌, ◌≤◌, None, IfSome, replicate};
+
+use std::alloc::{AllocError, Global};
+use std::test::Fail;
+use tt_bits::{Days, Spot, Time, Weeks};
+use tt_occupancy::{Occupancy, clashes_in_room};
+
+// A spot of 5 slots on both of two days.
+fn spot(weeks: &str, start: u16, room: Option<u32>) -> Option<Spot>
+    ensures { IfSome result (λ x. x.room ≡ room) }
+{
+    let (days, weeks) = (Days::read("11", 2)?, Weeks::read(weeks, 2)?);
+    let time = Time::new(days, weeks, start, 5)?;
+    Some(Spot { time, room })
+}
+
+// The clashes of two classes that share several cells, of one of them alone, and of that one and a class
+// right after it.
+fn clashes_of_pairs(occupancy: &mut Occupancy) -> Option<[u64; 3]>
+    requires spots { occupancy.old.spots ≡ replicate 3 None }
+    requires rooms { occupancy.old.rooms ≡ 2 }
+{
+    let early = spot("11", 10, Some(1))?;
+    let late = spot("11", 14, Some(1))?;
+    let after = spot("01", 15, Some(1))?;
+    occupancy.put(0, early);
+    occupancy.put(2, late);
+    let both = occupancy.clashes();
+    if occupancy.take(2) != late || occupancy.spots().len() != 3 {
+        return None;
+    }
+    let one = occupancy.clashes();
+    occupancy.put(1, after);
+    Some([both, one, occupancy.clashes()])
+}
+
+#[test]
+fn a_pair_that_shares_several_cells_is_one_pair(rt: HostRuntime) -> Result<(), Fail> {
+    let mut occupancy = Occupancy::new(rt.alloc(), 3, 2)?;
+    let clashes = clashes_of_pairs(&mut occupancy);
+    drop(occupancy);
+    assert!(rt; clashes == Some([1, 0, 0]));
+    Ok(())
+}
+
+// The clashes of two classes without a room and two in one each.
+fn clashes_apart(occupancy: &mut Occupancy) -> Option<u64>
+    requires spots { occupancy.old.spots ≡ replicate 4 None }
+    requires rooms { occupancy.old.rooms ≡ 2 }
+{
+    let nowhere = spot("11", 10, None)?;
+    let first = spot("11", 10, Some(0))?;
+    let second = spot("11", 10, Some(1))?;
+    occupancy.put(0, nowhere);
+    occupancy.put(1, nowhere);
+    occupancy.put(2, first);
+    occupancy.put(3, second);
+    Some(occupancy.clashes())
+}
+
+#[test]
+fn classes_in_other_rooms_or_in_none_do_not_clash(rt: HostRuntime) -> Result<(), Fail> {
+    let mut occupancy = Occupancy::new(rt.alloc(), 4, 2)?;
+    let clashes = clashes_apart(&mut occupancy);
+    drop(occupancy);
+    assert!(rt; clashes == Some(0));
+    Ok(())
+}
+
+// How many of two classes in a room clash with a spot there, but for one that isn't placed, and but for
+// one that is; and whether the other one and that one clash with it but for the latter.
+fn clashes_but_one(occupancy: &mut Occupancy) -> Option<([u64; 2], [bool; 2])>
+    requires spots { occupancy.old.spots ≡ replicate 4 None }
+    requires rooms { occupancy.old.rooms ≡ 2 }
+{
+    let spot = spot("10", 10, Some(0))?;
+    occupancy.put(1, spot);
+    occupancy.put(3, spot);
+    let counts = [
+        occupancy.clashes_with(spot, 0),
+        occupancy.clashes_with(spot, 3),
+    ];
+    let told = [
+        clashes_in_room(occupancy.spots(), 3, &spot, 1),
+        clashes_in_room(occupancy.spots(), 3, &spot, 3),
+    ];
+    Some((counts, told))
+}
+
+#[test]
+fn the_class_that_is_left_out_is_not_counted(rt: HostRuntime) -> Result<(), Fail> {
+    let mut occupancy = Occupancy::new(rt.alloc(), 4, 2)?;
+    let shown = clashes_but_one(&mut occupancy);
+    drop(occupancy);
+    assert!(rt; shown == Some(([2, 1], [true, false])));
+    Ok(())
+}
+
+// The clashes and the classes of an occupancy that is made.
+fn made(alloc: Global, classes: u32, rooms: u32) -> Result<(u64, usize), AllocError>
+    requires { rooms ≤ 2500 }
+{
+    let occupancy = Occupancy::new(alloc, classes, rooms)?;
+    Ok((occupancy.clashes(), occupancy.spots().len()))
+}
+
+#[test]
+fn largest_occupancy_and_one_without_rooms_are_made(rt: HostRuntime) -> Result<(), Fail> {
+    assert!(rt; made(rt.alloc(), 20_000, 2_500)? == (0, 20_000));
+    assert!(rt; made(rt.alloc(), 1, 0)? == (0, 1));
+    Ok(())
+}
