@@ -8,6 +8,7 @@ from collections.abc import Callable
 
 import cases
 import theorem
+import times
 import uses
 import wide
 from repository import CRATES, TOP, Stop, folder_of
@@ -88,6 +89,14 @@ def wide_clauses(given: argparse.Namespace) -> int:
     return wide.wide(given.crate, given.list)
 
 
+def timed(given: argparse.Namespace) -> int:
+    """proves the crate from nothing, and tells which functions take the prover longest
+
+    The first function has what comes before it too: reading the crates below, which are built first where they changed.
+    With --tests the crate's tests are proved as well. What ./dev check kept is put back."""
+    return times.times(given.crate, given.tests, given.most)
+
+
 def gate(_: argparse.Namespace) -> int:
     """runs the gate, .ci/run
 
@@ -122,6 +131,10 @@ def add_words(parser: Words) -> None:
     words = add("wide", wide_clauses)
     words.add_argument("crate", metavar="CRATE", nargs="?", help="counts those of this crate alone")
     words.add_argument("--list", action="store_true", help="lists them, the widest of a crate first")
+    words = add("times", timed)
+    with_crate(words)
+    words.add_argument("--tests", action="store_true", help="proves the crate with its tests")
+    words.add_argument("--most", type=int, default=15, metavar="N", help="how many functions are listed (15)")
     add("gate", gate)
 
 

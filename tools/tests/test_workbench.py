@@ -1,5 +1,6 @@
 """Tests of the words of ./dev that read the sources, over a house of three crates."""
 
+import os
 import shutil
 import subprocess
 from pathlib import Path
@@ -85,3 +86,40 @@ def test_wide_clauses_are_counted(house: Path) -> None:
 
 def test_the_help_of_a_word_is_in_sentences(house: Path) -> None:
     assert "runs the gate, .ci/run. It proves, " in " ".join(dev(house, "gate", "--help")[1])
+
+
+RT = """#!/usr/bin/env python3
+import sys, time
+print(" ".join(sys.argv[1:]), flush=True)
+for name, seconds in ("two::add", 0.1), ("two::sum", 0.5), ("one::other", 0.0), ("two::put", 0.2):
+    time.sleep(seconds)
+    print(f"checked {name}, 1 of 3", flush=True)
+sys.exit(len(list(__import__("pathlib").Path("out/incremental").glob("*"))))
+"""
+
+
+@pytest.fixture
+def kit(house: Path, monkeypatch: pytest.MonkeyPatch) -> Path:
+    """A kit whose check takes known times, and fails where there is kept work."""
+    folder = house / "kit"
+    folder.mkdir()
+    (folder / "rt").write_text(RT, encoding="utf-8")
+    (folder / "rt").chmod(0o755)
+    monkeypatch.setenv("PATH", f"{folder}:{os.environ['PATH']}")
+    return folder
+
+
+def test_the_functions_that_take_longest_come_first(house: Path, kit: Path) -> None:
+    kept = house / "crates/two/out/incremental/kept"
+    kept.mkdir(parents=True)
+    status, lines = dev(house, "times", "two")
+    assert status == 0 and lines[0].startswith("two: 3 functions in ")
+    # The first function has what comes before it too, however long that is.
+    assert [name for line in lines[1:] if (name := line.split()[-1]) != "two::add"] == ["two::sum", "two::put"]
+    assert len(dev(house, "times", "two", "--most", "1")[1]) == 2
+    assert kept.is_dir() and not (house / "crates/two/out/incremental.aside").exists()
+
+
+def test_a_check_that_fails_says_why(house: Path, kit: Path) -> None:
+    (kit / "rt").write_text(RT.replace("sys.exit(", "sys.exit(7 + "), encoding="utf-8")
+    assert dev(house, "times", "two", "--tests") == (7, ["check --jobs 1 --test", "checked one::other, 1 of 3"])
