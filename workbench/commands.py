@@ -5,6 +5,7 @@ import os
 import subprocess
 import sys
 from collections.abc import Callable
+from contextlib import nullcontext
 
 import cases
 import theorem
@@ -12,6 +13,7 @@ import times
 import uses
 import wide
 from repository import CRATES, TOP, Stop, folder_of
+from wrong_bodies import GATE, SHELF, edits_in, taken_from_the_shelf
 
 Words = argparse.ArgumentParser
 
@@ -43,13 +45,15 @@ def check_crate(given: argparse.Namespace) -> int:
 
 
 def edits(given: argparse.Namespace) -> int:
-    """tries the crate's must-fail edits
+    """tries the crate's wrong bodies
 
-    The prover must refuse each. It begins with what ./dev check kept, and tries again only what changed."""
-    folder_of(given.crate)
-    if not any((CRATES / given.crate).glob("must-fail/*.edit")):
-        raise Stop(f"{given.crate} has no must-fail edit; docs/PLANTS.md says why where that is meant")
-    return rt(given.crate, "must-fail", given.crate)
+    The prover must refuse each. It begins with what ./dev check kept, and tries again only what changed. Those in must-fail/
+    are tried, as the gate does; with --shelf those in wrong-bodies/ too, which the gate leaves out for their time."""
+    folder = folder_of(given.crate)
+    if not edits_in(folder, GATE) and not (given.shelf and edits_in(folder, SHELF)):
+        raise Stop(f"{given.crate} has no wrong body there; docs/PLANTS.md says why where that is meant")
+    with taken_from_the_shelf(folder) if given.shelf else nullcontext():
+        return rt(given.crate, "must-fail", given.crate)
 
 
 def case(given: argparse.Namespace) -> int:
@@ -118,8 +122,11 @@ def add_words(parser: Words) -> None:
         words.set_defaults(does=does)
         return words
 
-    for name, does in (("try", try_crate), ("check", check_crate), ("edits", edits)):
+    for name, does in (("try", try_crate), ("check", check_crate)):
         with_crate(add(name, does))
+    words = add("edits", edits)
+    with_crate(words)
+    words.add_argument("--shelf", action="store_true", help="tries those on the shelf too")
     add("case", case).add_argument("name", metavar="NAME", help="its name in crates/worked_cases/data/cases.txt")
     add("cases", all_cases).add_argument("--write", action="store_true", help="writes worked_cases/stdout anew")
     words = add("theorem", reached)
