@@ -89,8 +89,9 @@ def used(given: argparse.Namespace) -> int:
 def wide_clauses(given: argparse.Namespace) -> int:
     """counts the clauses of contracts that are wider than 100 columns, by crate
 
-    A clause may stand on several lines, each of which is measured. It reads the sources alone."""
-    return wide.wide(given.crate, given.list)
+    A clause may stand on several lines, each of which is measured. It reads the sources alone. --write breaks those that are
+    wider, at blanks alone; ./dev edits then says where an edit named such a line."""
+    return wide.wide(given.crate, given.list, given.write)
 
 
 def timed(given: argparse.Namespace) -> int:
@@ -138,6 +139,7 @@ def add_words(parser: Words) -> None:
     words = add("wide", wide_clauses)
     words.add_argument("crate", metavar="CRATE", nargs="?", help="counts those of this crate alone")
     words.add_argument("--list", action="store_true", help="lists them, the widest of a crate first")
+    words.add_argument("--write", action="store_true", help="breaks them into lines")
     words = add("times", timed)
     with_crate(words)
     words.add_argument("--tests", action="store_true", help="proves the crate with its tests")

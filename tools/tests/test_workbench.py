@@ -126,6 +126,27 @@ def test_a_check_that_fails_says_why(house: Path, kit: Path) -> None:
     assert dev(house, "times", "two", "--tests") == (7, ["check --jobs 1 --test", "checked one::other, 1 of 3"])
 
 
+def test_a_wide_clause_is_broken(house: Path) -> None:
+    """It is broken at blanks alone, once; what isn't wide stays as it is, and so do the files that the toolchain made."""
+    code = house / "crates/three/src/lib.rt"
+    record = "record { first = made; rest = all_of (those_of made); middle = some_of (those_of made); last = none_of made }"
+    long = f"OnOk result (λ made. first_of made (second_of made (third_of made)) ≡ {record})"
+    code.write_text(f"fn f()\n    ensures short {{ 1 ≡ 1 }}\n    ensures long {{ {long} }}\n{{\n}}\n", encoding="utf-8")
+    made = house / "crates/three/out/src/lib.rt"
+    made.parent.mkdir(parents=True)
+    shutil.copy(code, made)
+    assert dev(house, "wide", "three", "--write") == (0, ["0 of 2 clauses are wider than 100 columns"])
+    lines = code.read_text(encoding="utf-8").splitlines()
+    assert lines[1:5] == [
+        "    ensures short { 1 ≡ 1 }", "    ensures long { OnOk result (λ made.",
+        "        first_of made (second_of made (third_of made))", "            ≡ record {"]
+    assert " ".join(" ".join(lines[2:-2]).split()) == f"ensures long {{ {long} }}"
+    assert "λ made. first_of" in made.read_text(encoding="utf-8")
+    again = code.read_text(encoding="utf-8")
+    dev(house, "wide", "three", "--write")
+    assert code.read_text(encoding="utf-8") == again
+
+
 def test_each_wrong_body_applies() -> None:
     """An edit whose line is gone shows nothing, and those on the shelf no gate tries."""
     words = "import wrong_bodies; print(*wrong_bodies.faults(), sep='\\n', end='')"
