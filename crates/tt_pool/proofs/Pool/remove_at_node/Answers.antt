@@ -1,8 +1,8 @@
-use Rattle.std.proofs.Common.{◌≡◌, ◌∙◌, ap, List, [], ℕ, ◌<◌, arith}
-use Rattle.std.specs.Prelude.{◌==◌, slice_set, slice_index, slice_index_or}
+use Rattle.std.proofs.Common.{◌≡◌, ◌∙◌, ap, List, [], ℕ}
+use Rattle.std.specs.Prelude.{◌==◌, slice_set, slice_index_or}
 use Rattle.std.specs.List.{remove, position_or_len}
 use Rattle.std.proofs.lemmas.List.{with_items_is}
-use Rattle.tt_pool.specs.Chains.{after, chain_of}
+use Rattle.tt_pool.specs.Chains.{chain_of}
 use Rattle.tt_pool.specs.Pools.{Pooled, chain_at, place_in, chains_of, lists_of}
 use Rattle.tt_pool.proofs.KeptLemmas.{IsKept-taken, take_asks, taken_place, seen_lt, known_lt, known_is, known_within, known_item}
 use Rattle.tt_pool.proofs.Pool.remove_at_node.Goals as goal
