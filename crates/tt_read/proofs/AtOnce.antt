@@ -21,7 +21,7 @@ use Rattle.tt_lists.specs.Tables.{rules_in, students_in}
 use Rattle.tt_lists.proofs.Unknown.{rules_alike, students_alike}
 use Rattle.tt_read.specs.declared.passes as passes
 use Rattle.tt_read.specs.declared.term.Term.{Term}
-use Rattle.tt_read.specs.Read.{shape_read, HasLists, HasIdsOf, HasAllClasses}
+use Rattle.tt_read.specs.Read.{shape_read, HasLists, HasIdsOf, HasAllClasses, IsLinked, ArePartsOf}
 use Rattle.tt_read.specs.Tables.{term_of, weights_of, term_context, room_list_of, course_list_of, checked_list, Shape, file_shape, shape_context, parts_with, linked_of, summed, parts_of}
 
 -- the value that is read where the other is
@@ -110,13 +110,18 @@ shape_found o s p lists linked ids =
 -- ---- what reading at once cites
 
 -- the courses have as many classes as there are ids
-pub all_classes : (s : passes.Shape.Shape) (p : Parts) → linked_of (shape_read s) ≡ Ok p → HasIdsOf (shape_read s) p → HasAllClasses s
+all_classes : (s : passes.Shape.Shape) (p : Parts) → linked_of (shape_read s) ≡ Ok p → HasIdsOf (shape_read s) p → HasAllClasses s
 all_classes s p linked ids =
     let l : Links (shape_read s) p = links (shape_read s) p linked in
     classes_whole (shape_context (shape_read s)) (items_of s.courses.items) l.tree s.courses.class_ids.keys l.tree_is (sym ids.classes ∙ ap (λ (q : Parts). class_ids q.classes) l.parts)
 
+-- so the parts are linked
+pub all_linked : (s : passes.Shape.Shape) (p : Parts) → ArePartsOf s p → IsLinked p
+all_linked s p parts = parts.linked (all_classes s p parts.read parts.ids)
+
 -- the parts are those of the whole value
-pub parts_are : (o : Field) (s : Shape) (p : Parts) → HasLists o s → linked_of s ≡ Ok p → HasIdsOf s p → summed o p ≡ Ok p → parts_of o ≡ Ok p
+pub parts_are : (o : Field) (s : passes.Shape.Shape) (p : Parts) → HasLists o (shape_read s) → ArePartsOf s p → summed o p ≡ Ok p → parts_of o ≡ Ok p
 unfolding parts_of
-parts_are o s p lists linked ids sums =
-    then (file_shape o) s _ _ (shape_found o s p lists linked ids) (then (linked_of s) p _ _ linked sums)
+parts_are o s p lists parts sums =
+    then (file_shape o) (shape_read s) _ _ (shape_found o (shape_read s) p lists parts.read parts.ids)
+    (then (linked_of (shape_read s)) p _ _ parts.read sums)

@@ -4,7 +4,7 @@
 ghost use Rattle.std.specs.Prelude.{◌≡◌, Ok, IfOk, IfSome, IsTrue, length, map};
 ghost use Rattle.tt_problem.specs.Valid.{IsValid, room_ids, course_ids, class_ids};
 ghost use Rattle.tt_fields.specs.Answer.{part_of};
-ghost use Rattle.tt_read.specs.Read.{shape_read, HasLists, HasIdsOf, IsCourseListOf, IsRoomListOf, IsShape};
+ghost use Rattle.tt_read.specs.Read.{shape_read, HasLists, HasIdsOf, ArePartsOf, IsCourseListOf, IsRoomListOf, IsShape};
 ghost use Rattle.tt_read.specs.Tables.{parts_of};
 
 use crate::passes::{CourseList, RoomList, Shape, read_term, read_weights, second_pass};
@@ -165,20 +165,47 @@ fn has_ids(alloc: Global, shape: &Shape<'_>, parts: &Parts) -> Result<bool, Allo
     )
 }
 
+// The parts of a shape, each reference looked up, and `None` where their ids aren't those of the
+// shape.
+fn linked_parts(alloc: Global, shape: &Shape<'_>) -> Result<Option<Parts>, FileFault>
+    requires { IsShape shape.now }
+    ensures { IfOk result (λ found. IfSome found (ArePartsOf shape.now)) }
+{
+    let parts = second_pass(alloc, shape)?;
+    if has_ids(alloc, shape, &parts)? {
+        Ok(Some(parts))
+    } else {
+        Ok(None)
+    }
+}
+
+// The parts of a shape of the whole value, with their sums within the limits.
+#[tactic(auto, using(crate::proofs::AtOnce::all_linked, crate::proofs::AtOnce::parts_are))]
+fn parts_of_shape(
+    alloc: Global,
+    shape: &Shape<'_>,
+    object: &Field<'_>,
+) -> Result<Option<Parts>, FileFault>
+    requires lists { HasLists (part_of object.now) (shape_read shape.now) }
+    requires valid { IsShape shape.now }
+    ensures reads { IfOk result (λ found. IfSome found (λ parts. parts_of (part_of object.now) ≡ Ok parts)) }
+    ensures valid { IfOk result (λ found. IfSome found IsValid) }
+{
+    let Some(parts) = linked_parts(alloc, shape)? else {
+        return Ok(None);
+    };
+    third_pass(alloc, &parts, object)?;
+    Ok(Some(parts))
+}
+
 /// The parts that a file has in which no fault is found so; `None` or a fault where the passes must
 /// tell.
-#[tactic(auto, using(crate::proofs::AtOnce::all_classes, crate::proofs::AtOnce::parts_are))]
 pub fn read_at_once(alloc: Global, object: &Field<'_>) -> Result<Option<Parts>, FileFault>
     ensures reads { IfOk result (λ found. IfSome found (λ parts. parts_of (part_of object.now) ≡ Ok parts)) }
     ensures valid { IfOk result (λ found. IfSome found IsValid) }
 {
-    let Some(shape) = likely_shape(alloc, &*object)? else {
-        return Ok(None);
-    };
-    let parts = second_pass(alloc, &shape)?;
-    if !has_ids(alloc, &shape, &parts)? {
-        return Ok(None);
+    match likely_shape(alloc, &*object)? {
+        None => Ok(None),
+        Some(shape) => parts_of_shape(alloc, &shape, object),
     }
-    third_pass(alloc, &parts, &*object)?;
-    Ok(Some(parts))
 }

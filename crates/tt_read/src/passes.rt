@@ -9,7 +9,7 @@ ghost use Rattle.tt_tree.specs.Context.{context_of, IsContext};
 ghost use Rattle.tt_tree.specs.Read.{rooms_read, tree_read};
 ghost use Rattle.tt_tree.specs.Whole.{HasClasses};
 ghost use Rattle.tt_lists.specs.Tables.{rules_in, students_in};
-ghost use Rattle.tt_read.specs.Read.{room_list_read, course_list_read, shape_read, IsShape, HasAllClasses, IsLinked};
+ghost use Rattle.tt_read.specs.Read.{room_list_read, course_list_read, shape_read, lists_of, IsShape, HasAllClasses, IsLinked};
 ghost use Rattle.tt_read.specs.Tables.{most_weeks as most_weeks_of, term_of, weights_of, term_context, room_list_of, course_list_of, checked_list, file_shape, shape_context, parts_with as parts_of_all, linked_of};
 
 use crate::term::Term;
@@ -178,17 +178,20 @@ pub struct Shape<'a> {
     pub students: PartList<'a>,
 }
 
-/// The first pass: the whole value, with no reference looked up.
-#[tactic(auto, unfolding(crate::specs::Tables::file_shape))]
-pub fn first_pass<'a>(alloc: Global, object: &'a Field<'a>) -> Result<Shape<'a>, FileFault>
-    ensures reads { Gives shape_read result (file_shape (part_of object.now)) }
+// The lists of the whole value, with no reference looked up.
+#[tactic(auto, unfolding(crate::specs::Read::lists_of))]
+fn read_lists<'a>(
+    alloc: Global,
+    term: Term,
+    weights: Weights,
+    object: &'a Field<'a>,
+) -> Result<Shape<'a>, FileFault>
+    requires term { IsValidTerm term.nr_days term.nr_weeks }
+    requires weights { AreValidWeights weights }
+    ensures reads { Gives shape_read result (lists_of term weights (part_of object.now)) }
     ensures valid { IfOk result IsShape }
     ensures classes { IfOk result HasAllClasses }
 {
-    as_object(object)?;
-    let term = read_term(object)?;
-    let optimization = required_object(object, "optimization")?;
-    let weights = read_weights(&optimization)?;
     let rooms = read_room_list(alloc, term, object)?;
     let courses = read_course_list(alloc, term, object)?;
     let distributions = read_rule_list(alloc, term.version, object)?;
@@ -201,6 +204,20 @@ pub fn first_pass<'a>(alloc: Global, object: &'a Field<'a>) -> Result<Shape<'a>,
         distributions,
         students,
     })
+}
+
+/// The first pass: the whole value, with no reference looked up.
+#[tactic(auto, unfolding(crate::specs::Tables::file_shape))]
+pub fn first_pass<'a>(alloc: Global, object: &'a Field<'a>) -> Result<Shape<'a>, FileFault>
+    ensures reads { Gives shape_read result (file_shape (part_of object.now)) }
+    ensures valid { IfOk result IsShape }
+    ensures classes { IfOk result HasAllClasses }
+{
+    as_object(object)?;
+    let term = read_term(object)?;
+    let optimization = required_object(object, "optimization")?;
+    let weights = read_weights(&optimization)?;
+    read_lists(alloc, term, weights, object)
 }
 
 // What the second pass reads with: the ids of the first.
