@@ -51,7 +51,8 @@ fn ids_below(
 
 // The ids of a list's items, and `None` where one stands twice.
 fn distinct_ids(alloc: Global, items: &PartList<'_>) -> Result<Option<IndexSet<u32>>, FileFault>
-    ensures count { IfOk result (λ found. IfSome found (λ ids. length ids.keys ≡ length items.now.values.now)) }
+    ensures count { IfOk result
+        (λ found. IfSome found (λ ids. length ids.keys ≡ length items.now.values.now)) }
 {
     let ids = ids_below(alloc, items, &[])?;
     if ids.len() == items.len() {
@@ -98,7 +99,8 @@ fn likely_courses<'a>(
 // The shape that the first pass finds if it finds no fault, and `None` where some id is missing or
 // stands twice, or there are too many.
 fn likely_shape<'a>(alloc: Global, object: &'a Field<'a>) -> Result<Option<Shape<'a>>, FileFault>
-    ensures lists { IfOk result (λ found. IfSome found (λ shape. HasLists (part_of object.now) (shape_read shape))) }
+    ensures lists { IfOk result
+        (λ found. IfSome found (λ shape. HasLists (part_of object.now) (shape_read shape))) }
     ensures valid { IfOk result (λ found. IfSome found IsShape) }
 {
     as_object(object)?;
@@ -188,7 +190,8 @@ fn parts_of_shape(
 ) -> Result<Option<Parts>, FileFault>
     requires lists { HasLists (part_of object.now) (shape_read shape.now) }
     requires valid { IsShape shape.now }
-    ensures reads { IfOk result (λ found. IfSome found (λ parts. parts_of (part_of object.now) ≡ Ok parts)) }
+    ensures reads { IfOk result
+        (λ found. IfSome found (λ parts. parts_of (part_of object.now) ≡ Ok parts)) }
     ensures valid { IfOk result (λ found. IfSome found IsValid) }
 {
     let Some(parts) = linked_parts(alloc, shape)? else {
@@ -201,7 +204,8 @@ fn parts_of_shape(
 /// The parts that a file has in which no fault is found so; `None` or a fault where the passes must
 /// tell.
 pub fn read_at_once(alloc: Global, object: &Field<'_>) -> Result<Option<Parts>, FileFault>
-    ensures reads { IfOk result (λ found. IfSome found (λ parts. parts_of (part_of object.now) ≡ Ok parts)) }
+    ensures reads { IfOk result
+        (λ found. IfSome found (λ parts. parts_of (part_of object.now) ≡ Ok parts)) }
     ensures valid { IfOk result (λ found. IfSome found IsValid) }
 {
     match likely_shape(alloc, &*object)? {
