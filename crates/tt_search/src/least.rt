@@ -32,9 +32,11 @@ fn total_up_to(state: &mut State, class: u32, value: Value, others: u64, most: u
     requires value { IsOfDomain state.old.problem class value }
     requires others { others ≡ conflicts_without state.old.problem state.old.present class }
     ensures same { state.new ≡ state.old }
-    ensures total { IfSome result (λ total. total ≡ total_with state.old.problem state.old.present class value) }
+    ensures total { IfSome result
+        (λ total. total ≡ total_with state.old.problem state.old.present class value) }
     ensures most { IfSome result (λ total. total ≤ most) }
-    ensures none { IfNone result (most < total_with state.old.problem state.old.present class value) }
+    ensures none { IfNone result
+        (most < total_with state.old.problem state.old.present class value) }
 {
     match most.checked_add(1) {
         None => Some(state.trial(class, value)),
@@ -91,7 +93,8 @@ impl LeastValues {
             → IsPriced state.old.problem state.old.present class numbers offer
             → IsPriceOf state.old.problem state.old.present class numbers offer.value first.price
             → AreLeast state.old.problem state.old.present class numbers xs self.old
-            → AreLeast state.old.problem state.old.present class numbers (xs ++ offer.value ∷ []) self.new) }
+            → AreLeast state.old.problem state.old.present class numbers (xs ++ offer.value ∷ [])
+            self.new) }
     {
         let least = first.total(state, class);
         self.first = Some(Offer {
@@ -128,7 +131,8 @@ impl LeastValues {
         ensures least { OnOk result ((numbers : Value → List ℕ) (xs : List Value)
             → IsPriced state.old.problem state.old.present class numbers offer
             → AreLeast state.old.problem state.old.present class numbers xs self.old
-            → AreLeast state.old.problem state.old.present class numbers (xs ++ offer.value ∷ []) self.new) }
+            → AreLeast state.old.problem state.old.present class numbers (xs ++ offer.value ∷ [])
+            self.new) }
     {
         let Some(first) = self.first else {
             return self.set(offer);
@@ -160,9 +164,16 @@ impl LeastValues {
         ensures present { state.new.present ≡ state.old.present }
         ensures entries { state.new.entries ≡ state.old.entries }
         ensures known { IfSome self.new.first (IsKnown state.old.problem state.old.present class) }
-        ensures least { OnOk result ((xs : List Value) → AreLeast state.old.problem state.old.present class (burden_by state.old.problem state.old.present weights.now.outs.items class) xs self.old
-            → AreLeast state.old.problem state.old.present class (burden_by state.old.problem state.old.present weights.now.outs.items class) (xs ++ filter (is_available state.old.problem state.old.present class) (value ∷ [])) self.new) }
-        ensures memory { OnErr result (is_available state.old.problem state.old.present class value ≡ true) }
+        ensures least { OnOk result ((xs : List Value)
+            → AreLeast state.old.problem state.old.present class
+            (burden_by state.old.problem state.old.present weights.now.outs.items class) xs
+            self.old
+            → AreLeast state.old.problem state.old.present class
+            (burden_by state.old.problem state.old.present weights.now.outs.items class)
+            (xs ++ filter (is_available state.old.problem state.old.present class) (value ∷ []))
+            self.new) }
+        ensures memory { OnErr result
+            (is_available state.old.problem state.old.present class value ≡ true) }
     {
         if !may_be_offered(state, class, value, self.first) {
             return Ok(());
@@ -193,9 +204,12 @@ impl LeastValues {
         ensures problem { state.new.problem ≡ state.old.problem }
         ensures present { state.new.present ≡ state.old.present }
         ensures entries { state.new.entries ≡ state.old.entries }
-        ensures least { OnOk result (AreLeast state.old.problem state.old.present class (burden_by state.old.problem state.old.present weights.now.outs.items class) (available_values state.old.problem state.old.present class) self.new) }
+        ensures least { OnOk result (AreLeast state.old.problem state.old.present class
+            (burden_by state.old.problem state.old.present weights.now.outs.items class)
+            (available_values state.old.problem state.old.present class) self.new) }
         ensures few { OnOk result (length self.new.values.items ≤ 1000000) }
-        ensures memory { OnErr result (available_values state.old.problem state.old.present class ≢ []) }
+        ensures memory { OnErr result
+            (available_values state.old.problem state.old.present class ≢ []) }
     {
         self.clear();
         let others = state.conflicts_without(class);

@@ -25,7 +25,8 @@ impl Offer {
     // The total with the class at the value, asked for where it isn't known.
     pub(crate) fn total(&self, state: &mut State, class: u32) -> u128
         requires known { IsKnown state.old.problem state.old.present class self.now }
-        ensures total { result ≡ total_with state.old.problem state.old.present class self.now.value }
+        ensures total { result
+            ≡ total_with state.old.problem state.old.present class self.now.value }
         ensures same { state.new ≡ state.old }
     {
         match self.total {
@@ -40,8 +41,11 @@ impl Offer {
 fn find_lighter(state: &mut State, class: u32, value: Value, best: Option<Offer>) -> bool
     requires value { IsOfDomain state.old.problem class value }
     requires open { blocked_of state.old.problem state.old.present.closures class value ≡ None }
-    ensures found { IsTrue result → state.new ≡ with_taken state.old (conflicts_of state.old.problem state.old.present class value) }
-    ensures heavier { result ≡ false → WeighsLess best (length (conflicts_of state.old.problem state.old.present class value)) }
+    ensures found { IsTrue result
+        → state.new
+        ≡ with_taken state.old (conflicts_of state.old.problem state.old.present class value) }
+    ensures heavier { result ≡ false
+        → WeighsLess best (length (conflicts_of state.old.problem state.old.present class value)) }
     ensures problem { state.new.problem ≡ state.old.problem }
     ensures present { state.new.present ≡ state.old.present }
     ensures entries { state.new.entries ≡ state.old.entries }
@@ -68,9 +72,15 @@ pub(crate) fn may_be_offered(
     best: Option<Offer>,
 ) -> bool
     requires { IsOfDomain state.old.problem class value }
-    ensures found { IsTrue result → state.new ≡ with_taken state.old (conflicts_of state.old.problem state.old.present class value) }
-    ensures available { IsTrue result → is_available state.old.problem state.old.present class value ≡ true }
-    ensures passed { result ≡ false → (is_available state.old.problem state.old.present class value ≡ false) ⊎ WeighsLess best (length (conflicts_of state.old.problem state.old.present class value)) }
+    ensures found { IsTrue result
+        → state.new
+        ≡ with_taken state.old (conflicts_of state.old.problem state.old.present class value) }
+    ensures available { IsTrue result
+        → is_available state.old.problem state.old.present class value ≡ true }
+    ensures passed { result ≡ false
+        → (is_available state.old.problem state.old.present class value ≡ false)
+        ⊎ WeighsLess best
+        (length (conflicts_of state.old.problem state.old.present class value)) }
     ensures problem { state.new.problem ≡ state.old.problem }
     ensures present { state.new.present ≡ state.old.present }
     ensures entries { state.new.entries ≡ state.old.entries }

@@ -38,7 +38,8 @@ fn lower_offer(state: &mut State, class: u32, others: u64, first: Offer, offer: 
         → IsPriced state.old.problem state.old.present class numbers first
         → IsPriced state.old.problem state.old.present class numbers offer
         → IsPriceOf state.old.problem state.old.present class numbers offer.value first.price
-        → IsBetter state.old.problem state.old.present class numbers (Some first) offer.value result }
+        → IsBetter state.old.problem state.old.present class numbers (Some first) offer.value
+        result }
 {
     let least = first.total(state, class);
     let Some(total) = state.trial_below(class, offer.value, others, least) else {
@@ -97,12 +98,18 @@ fn look_at(
     requires belongs { ForSome (option_copied published) (IsTimetableOf state.old.problem) }
     requires value { IsOfDomain state.old.problem class value }
     requires others { others ≡ conflicts_without state.old.problem state.old.present class }
-    requires priced { IfSome best (IsOffer state.old.problem state.old.present class (price_of state.old.problem (option_copied published) state.old.present class)) }
+    requires priced { IfSome best (IsOffer state.old.problem state.old.present class
+        (price_of state.old.problem (option_copied published) state.old.present class)) }
     ensures problem { state.new.problem ≡ state.old.problem }
     ensures present { state.new.present ≡ state.old.present }
     ensures entries { state.new.entries ≡ state.old.entries }
-    ensures priced { IfSome result (IsOffer state.old.problem state.old.present class (price_of state.old.problem (option_copied published.entry) state.old.present class)) }
-    ensures better { offered result ≡ least_after (price_of state.old.problem (option_copied published.entry) state.old.present class) (offered best) (filter (is_available state.old.problem state.old.present class) (value ∷ [])) }
+    ensures priced { IfSome result (IsOffer state.old.problem state.old.present class
+        (price_of state.old.problem (option_copied published.entry) state.old.present class)) }
+    ensures better { offered result
+        ≡ least_after
+        (price_of state.old.problem (option_copied published.entry) state.old.present class)
+        (offered best)
+        (filter (is_available state.old.problem state.old.present class) (value ∷ [])) }
 {
     if !may_be_offered(state, class, value, best) {
         return best;
@@ -125,7 +132,8 @@ fn choice(state: &mut State, published: Option<&Published>, class: u32) -> Optio
     ensures problem { state.new.problem ≡ state.old.problem }
     ensures present { state.new.present ≡ state.old.present }
     ensures entries { state.new.entries ≡ state.old.entries }
-    ensures choice { result ≡ chosen_value state.old.problem (option_copied published.entry) state.old.present class }
+    ensures choice { result
+        ≡ chosen_value state.old.problem (option_copied published.entry) state.old.present class }
     ensures available { IfSome result (IsAvailable state.old.problem state.old.present class) }
 {
     let others = state.conflicts_without(class);
@@ -151,7 +159,8 @@ pub(crate) fn next_move(
     ensures problem { state.new.problem ≡ state.old.problem }
     ensures present { state.new.present ≡ state.old.present }
     ensures entries { state.new.entries ≡ state.old.entries }
-    ensures turn { turn_of state.old.problem (option_copied published.entry) word state.old.present ≡ option_map (after_move state.old.problem state.old.present) result }
+    ensures turn { turn_of state.old.problem (option_copied published.entry) word state.old.present
+        ≡ option_map (after_move state.old.problem state.old.present) result }
     ensures may { IfSome result (MayMake state.old.problem state.old.present) }
 {
     let class = candidates.drawn(word)?;
