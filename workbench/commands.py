@@ -5,6 +5,7 @@ import os
 import subprocess
 import sys
 from collections.abc import Callable
+from contextlib import nullcontext
 
 import cases
 import theorem
@@ -12,6 +13,7 @@ import times
 import uses
 import wide
 from repository import CRATES, TOP, Stop, folder_of
+from wrong_bodies import GATE, SHELF, edits_in, taken_from_the_shelf
 
 Words = argparse.ArgumentParser
 
@@ -43,13 +45,15 @@ def check_crate(given: argparse.Namespace) -> int:
 
 
 def edits(given: argparse.Namespace) -> int:
-    """tries the crate's must-fail edits
+    """tries the crate's wrong bodies
 
-    The prover must refuse each. It begins with what ./dev check kept, and tries again only what changed."""
-    folder_of(given.crate)
-    if not any((CRATES / given.crate).glob("must-fail/*.edit")):
-        raise Stop(f"{given.crate} has no must-fail edit; docs/PLANTS.md says why where that is meant")
-    return rt(given.crate, "must-fail", given.crate)
+    The prover must refuse each. It begins with what ./dev check kept, and tries again only what changed. Those in must-fail/
+    are tried, as the gate does; with --shelf those in wrong-bodies/ too, which the gate leaves out for their time."""
+    folder = folder_of(given.crate)
+    if not edits_in(folder, GATE) and not (given.shelf and edits_in(folder, SHELF)):
+        raise Stop(f"{given.crate} has no wrong body there; docs/PLANTS.md says why where that is meant")
+    with taken_from_the_shelf(folder) if given.shelf else nullcontext():
+        return rt(given.crate, "must-fail", given.crate)
 
 
 def case(given: argparse.Namespace) -> int:
@@ -85,8 +89,9 @@ def used(given: argparse.Namespace) -> int:
 def wide_clauses(given: argparse.Namespace) -> int:
     """counts the clauses of contracts that are wider than 100 columns, by crate
 
-    A clause may stand on several lines, each of which is measured. It reads the sources alone."""
-    return wide.wide(given.crate, given.list)
+    A clause may stand on several lines, each of which is measured. It reads the sources alone. --write breaks those that are
+    wider, at blanks alone; ./dev edits then says where an edit named such a line."""
+    return wide.wide(given.crate, given.list, given.write)
 
 
 def timed(given: argparse.Namespace) -> int:
@@ -118,8 +123,11 @@ def add_words(parser: Words) -> None:
         words.set_defaults(does=does)
         return words
 
-    for name, does in (("try", try_crate), ("check", check_crate), ("edits", edits)):
+    for name, does in (("try", try_crate), ("check", check_crate)):
         with_crate(add(name, does))
+    words = add("edits", edits)
+    with_crate(words)
+    words.add_argument("--shelf", action="store_true", help="tries those on the shelf too")
     add("case", case).add_argument("name", metavar="NAME", help="its name in crates/worked_cases/data/cases.txt")
     add("cases", all_cases).add_argument("--write", action="store_true", help="writes worked_cases/stdout anew")
     words = add("theorem", reached)
@@ -131,6 +139,7 @@ def add_words(parser: Words) -> None:
     words = add("wide", wide_clauses)
     words.add_argument("crate", metavar="CRATE", nargs="?", help="counts those of this crate alone")
     words.add_argument("--list", action="store_true", help="lists them, the widest of a crate first")
+    words.add_argument("--write", action="store_true", help="breaks them into lines")
     words = add("times", timed)
     with_crate(words)
     words.add_argument("--tests", action="store_true", help="proves the crate with its tests")

@@ -1,4 +1,5 @@
-"""The clauses of contracts that have a line wider than 100 columns, which is the toolchain's own measure.
+"""The clauses of contracts that have a line wider than 100 columns, which is the toolchain's own measure, and how they are
+broken into lines.
 
 A clause is what stands behind `requires` or `ensures`, up to the brace that closes it."""
 
@@ -7,6 +8,7 @@ from collections import Counter
 from dataclasses import dataclass
 from pathlib import Path
 
+from breaking import broken
 from repository import CRATES, TOP, listed_crates
 
 MOST = 100
@@ -40,11 +42,27 @@ def clauses_of(path: Path) -> list[Clause]:
     return found
 
 
-def wide(crate: str | None, listed: bool) -> int:
-    """Writes how many clauses of each crate are wide, and with `listed` each of them, the widest of a crate first."""
+def break_in(path: Path) -> None:
+    """Breaks the wide clauses of a file of code."""
+    lines = path.read_text(encoding="utf-8").split("\n")
+    for clause in reversed([clause for clause in clauses_of(path) if clause.width > MOST]):
+        lines[clause.at - 1:clause.at - 1 + len(clause.lines)] = broken(list(clause.lines), MOST)
+    path.write_text("\n".join(lines), encoding="utf-8")
+
+
+def files_of(crate: str) -> list[Path]:
+    """The files of code of a crate."""
+    return sorted((CRATES / crate / "src").rglob("*.rt"))
+
+
+def wide(crate: str | None, listed: bool, write: bool) -> int:
+    """Writes how many clauses of each crate are wide, and with `listed` each of them, the widest of a crate first. With `write`
+    it breaks them before."""
     all_of, wide_of = Counter[str](), Counter[str]()
     for name in listed_crates() if crate is None else [crate]:
-        clauses = [clause for path in sorted((CRATES / name).rglob("src/**/*.rt")) for clause in clauses_of(path)]
+        for path in files_of(name) if write else []:
+            break_in(path)
+        clauses = [clause for path in files_of(name) for clause in clauses_of(path)]
         wide_ones = sorted((one for one in clauses if one.width > MOST), key=lambda one: -one.width)
         all_of[name], wide_of[name] = len(clauses), len(wide_ones)
         if wide_ones:

@@ -17,7 +17,9 @@ def start(folder: Path, kit: str, *words: str) -> subprocess.CompletedProcess[st
     (folder / "bin").mkdir()
     (folder / "temporary").mkdir()
     shutil.copy(TOP / "uttab", folder)
-    (folder / "crates.txt").touch()
+    (folder / "crates/uttab/src").mkdir()
+    (folder / "crates.txt").write_text("# run: words\nuttab: std\n\n# tests: of what is public\nsome_tests: uttab\n")
+    (folder / "HANDLES").touch()
     (folder / "problem.json").touch()
     (folder / "bin/rt").write_text(f"#!/bin/sh\n{kit}\n")
     (folder / "bin/rt").chmod(0o755)
@@ -69,8 +71,9 @@ def test_what_cannot_be_built_ends_with_a_status_of_its_own(tmp_path: Path, word
 
 
 def test_what_is_built_is_run(tmp_path: Path) -> None:
-    """The kit builds a program, and runs it without words, which ends with 2; a second run builds nothing."""
-    kit = "mkdir -p out; printf '#!/bin/sh\\necho \"$@\"\\nexit 3\\n' > out/uttab; chmod +x out/uttab; exit 2"
+    """The kit builds a program out of its crates alone; a second run builds nothing."""
+    kit = "[ \"$(ls crates) $1\" = 'uttab ci' ] && mkdir crates/uttab/out && cd crates/uttab/out || exit 1\n" \
+        "printf '#!/bin/sh\\necho \"$@\"\\nexit 3\\n' > uttab; chmod +x uttab"
     done = start(tmp_path, kit, "check", "problem.json")
     assert (done.returncode, done.stdout) == (3, "check problem.json\n")
     (tmp_path / "bin/rt").unlink()

@@ -3,6 +3,7 @@
 import os
 import shutil
 import subprocess
+import sys
 from pathlib import Path
 
 import pytest
@@ -123,3 +124,60 @@ def test_the_functions_that_take_longest_come_first(house: Path, kit: Path) -> N
 def test_a_check_that_fails_says_why(house: Path, kit: Path) -> None:
     (kit / "rt").write_text(RT.replace("sys.exit(", "sys.exit(7 + "), encoding="utf-8")
     assert dev(house, "times", "two", "--tests") == (7, ["check --jobs 1 --test", "checked one::other, 1 of 3"])
+
+
+def test_a_wide_clause_is_broken(house: Path) -> None:
+    """It is broken at blanks alone, once; what isn't wide stays as it is, and so do the files that the toolchain made."""
+    code = house / "crates/three/src/lib.rt"
+    record = "record { first = made; rest = all_of (those_of made); middle = some_of (those_of made); last = none_of made }"
+    long = f"OnOk result (λ made. first_of made (second_of made (third_of made)) ≡ {record})"
+    code.write_text(f"fn f()\n    ensures short {{ 1 ≡ 1 }}\n    ensures long {{ {long} }}\n{{\n}}\n", encoding="utf-8")
+    made = house / "crates/three/out/src/lib.rt"
+    made.parent.mkdir(parents=True)
+    shutil.copy(code, made)
+    assert dev(house, "wide", "three", "--write") == (0, ["0 of 2 clauses are wider than 100 columns"])
+    lines = code.read_text(encoding="utf-8").splitlines()
+    assert lines[1:5] == [
+        "    ensures short { 1 ≡ 1 }", "    ensures long { OnOk result (λ made.",
+        "        first_of made (second_of made (third_of made))", "            ≡ record {"]
+    assert " ".join(" ".join(lines[2:-2]).split()) == f"ensures long {{ {long} }}"
+    assert "λ made. first_of" in made.read_text(encoding="utf-8")
+    again = code.read_text(encoding="utf-8")
+    dev(house, "wide", "three", "--write")
+    assert code.read_text(encoding="utf-8") == again
+
+
+def test_each_wrong_body_applies() -> None:
+    """An edit whose line is gone shows nothing, and those on the shelf no gate tries."""
+    words = "import wrong_bodies; print(*wrong_bodies.faults(), sep='\\n', end='')"
+    done = subprocess.run([sys.executable, "-B", "-c", words], cwd=TOP / "workbench", capture_output=True, encoding="utf-8", check=True)
+    assert done.stdout == ""
+
+
+def test_what_an_edit_lacks_is_told(house: Path) -> None:
+    shelf = house / "crates/one/wrong-bodies"
+    shelf.mkdir()
+    (house / "crates/one/must-fail").mkdir()
+    for name, text in {"a": "file: src/lib.rt\nold: The first\nnew: The last\n", "b": "file: src/lib.rt\nold: The second\nnew:\n",
+                       "c": "file: src/main.rt\nold: The\nnew: A\n", "d": "file: src/lib.rt\n"}.items():
+        (shelf / f"{name}.edit").write_text(text, encoding="utf-8")
+    shutil.copy(shelf / "a.edit", house / "crates/one/must-fail")
+    words = "import wrong_bodies; print(*wrong_bodies.faults(), sep='\\n')"
+    done = subprocess.run([sys.executable, "-B", "-c", words], cwd=house / "workbench", capture_output=True, encoding="utf-8", check=True)
+    assert done.stdout.splitlines() == [
+        "one: a.edit stands twice", "one/wrong-bodies/b.edit: its old text stands 0 times in src/lib.rt",
+        "one/wrong-bodies/c.edit: there is no file src/main.rt", "one/wrong-bodies/d.edit: it has no pair of texts"]
+
+
+def test_the_shelf_is_tried_and_put_back(house: Path) -> None:
+    shelf = house / "crates/one/wrong-bodies"
+    shelf.mkdir()
+    (shelf / "a.edit").write_text("file: src/lib.rt\nold: The first\nnew: The last\n", encoding="utf-8")
+    (house / "bin").mkdir()
+    (house / "bin/rt").write_text("#!/bin/sh\necho $* $(ls must-fail)\n", encoding="utf-8")
+    (house / "bin/rt").chmod(0o755)
+    told = os.environ | {"PATH": f"{house}/bin:{os.environ['PATH']}"}
+    done = subprocess.run([house / "dev", "edits", "one", "--shelf"], env=told, capture_output=True, encoding="utf-8", check=False)
+    assert (done.returncode, done.stdout) == (0, "must-fail one a.edit\n")
+    assert sorted(path.name for path in (house / "crates/one").iterdir()) == ["src", "wrong-bodies"]
+    assert dev(house, "edits", "one")[0] != 0

@@ -1,6 +1,5 @@
 //! Tests of sets, times, and the conditions on a pair of spots.
 
-use std::test::Fail;
 use tt_bits::{BitWord, Days, PairKind, Spot, Time, Weeks, holds};
 
 // A spot with no room, at the days and weeks of two texts.
@@ -41,12 +40,15 @@ fn a_text_of_zeros_and_ones_is_a_set(rt: HostRuntime) {
 
 const ONE_AT_THE_END: &str = "0000000000000000000000000000000000000000000000000000000000000001";
 
+// The first place of a set of 64 weeks, and whether it has the places 63, 0 and 127.
+fn last_of_64(text: &str) -> Option<(u8, [bool; 3])> {
+    let weeks = Weeks::read(text, 64)?;
+    Some((weeks.first(), [weeks.has(63), weeks.has(0), weeks.has(127)]))
+}
+
 #[test]
-fn a_set_of_weeks_has_the_last_of_64_places(rt: HostRuntime) -> Result<(), Fail> {
-    let weeks = Weeks::read(ONE_AT_THE_END, 64).ok_or("weeks")?;
-    assert_eq!(rt; weeks.first(), 63);
-    assert!(rt; weeks.has(63) && !weeks.has(0) && !weeks.has(127));
-    Ok(())
+fn a_set_of_weeks_has_the_last_of_64_places(rt: HostRuntime) {
+    assert!(rt; last_of_64(ONE_AT_THE_END) == Some((63, [true, false, false])));
 }
 
 static OTHER_TEXTS: [&str; 8] = [
@@ -109,11 +111,14 @@ fn sets_share_and_contain(rt: HostRuntime) {
     }
 }
 
+// How many cells three days of three weeks have.
+fn nine_cells() -> Option<u16> {
+    Some(spot("1010100", "1101", 10, 4)?.cells())
+}
+
 #[test]
-fn a_spot_has_a_cell_for_each_day_of_each_week(rt: HostRuntime) -> Result<(), Fail> {
-    let spot = spot("1010100", "1101", 10, 4).ok_or("spot")?;
-    assert_eq!(rt; spot.cells(), 9);
-    Ok(())
+fn a_spot_has_a_cell_for_each_day_of_each_week(rt: HostRuntime) {
+    assert!(rt; nine_cells() == Some(9));
 }
 
 // The first slot, how many, and the slot after the last, where that is a time.
@@ -322,16 +327,19 @@ fn are_of_one_text(text: &str) -> bool {
         && weeks == Weeks::read(text, 4)
 }
 
-#[test]
-fn a_word_of_as_many_characters_is_a_set(rt: HostRuntime) -> Result<(), Fail> {
-    assert!(rt; are_of_one_text("0110"));
+// The first place of the set of 128 weeks that has the last alone.
+fn last_of_128() -> Option<u8> {
     let last = BitWord {
         count: 128,
         bits: 1 << 127,
     };
-    let weeks = Weeks::of_word(last, 128).ok_or("weeks")?;
-    assert_eq!(rt; weeks.first(), 127);
-    Ok(())
+    Some(Weeks::of_word(last, 128)?.first())
+}
+
+#[test]
+fn a_word_of_as_many_characters_is_a_set(rt: HostRuntime) {
+    assert!(rt; are_of_one_text("0110"));
+    assert!(rt; last_of_128() == Some(127));
 }
 
 static OTHER_WORDS: [BitWord; 5] = [

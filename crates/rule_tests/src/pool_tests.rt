@@ -1,8 +1,8 @@
 //! Tests of the lists of a pool.
 
-ghost use Rattle.std.specs.Prelude.{◌≡◌, ◌<◌, [], ◌∷◌, length, replicate};
+ghost use Rattle.std.specs.Prelude.{◌≡◌, ◌<◌, ◌≤◌, [], ◌∷◌, length, replicate};
 
-use std::test::Fail;
+use std::alloc::{AllocError, Global};
 use tt_pool::{Pool, place_in_order};
 
 // The first items of a list.
@@ -33,31 +33,41 @@ fn move_an_item(pool: &mut Pool) -> ([u32; 3], [Option<u32>; 4])
     ([full, item, free], items)
 }
 
-#[test]
-fn lists_share_the_nodes(rt: HostRuntime) -> Result<(), Fail> {
-    let mut pool = Pool::new(rt.alloc(), 2, 3)?;
+// The same of two lists, with the length of each then, and how many items find room.
+fn share_nodes(alloc: Global) -> Result<([u32; 3], [Option<u32>; 4], [u32; 3]), AllocError> {
+    let mut pool = Pool::new(alloc, 2, 3)?;
     let (moved, items) = move_an_item(&mut pool);
-    let counts = [pool.len(1), pool.len(0), pool.spare()];
-    drop(pool);
-    assert_eq!(rt; moved, [0, 7, 1]);
-    assert_eq!(rt; items, [Some(9), Some(5), None, None]);
-    assert_eq!(rt; counts, [1, 1, 1]);
-    Ok(())
+    Ok((moved, items, [pool.len(1), pool.len(0), pool.spare()]))
 }
 
 #[test]
-fn items_go_into_their_order(rt: HostRuntime) -> Result<(), Fail> {
-    let mut pool = Pool::new(rt.alloc(), 1, 4)?;
+fn lists_share_the_nodes(rt: HostRuntime) {
+    let items = [Some(9), Some(5), None, None];
+    assert!(rt; share_nodes(rt.alloc()) == Ok(([0, 7, 1], items, [1, 1, 1])));
+}
+
+// Puts four items into an empty list: these, and how many there are.
+fn put_in_order(pool: &mut Pool) -> ([Option<u32>; 4], u32)
+    requires lists { pool.old.lists ≡ [] ∷ [] }
+    requires spare { pool.old.spare ≡ 4 }
+{
     pool.insert_in_order(0, 5);
     pool.insert_in_order(0, 9);
     pool.insert_in_order(0, 2);
     pool.insert_in_order(0, 7);
-    let items = first_items(&pool, 0);
-    let count = pool.len(0);
-    drop(pool);
-    assert_eq!(rt; items, [Some(2), Some(5), Some(7), Some(9)]);
-    assert_eq!(rt; count, 4);
-    Ok(())
+    (first_items(pool, 0), pool.len(0))
+}
+
+// The same of a new list.
+fn ordered(alloc: Global) -> Result<([Option<u32>; 4], u32), AllocError> {
+    let mut pool = Pool::new(alloc, 1, 4)?;
+    Ok(put_in_order(&mut pool))
+}
+
+#[test]
+fn items_go_into_their_order(rt: HostRuntime) {
+    let items = [Some(2), Some(5), Some(7), Some(9)];
+    assert!(rt; ordered(rt.alloc()) == Ok((items, 4)));
 }
 
 // Puts items into the first list, and takes the last one out again and again, with one item in the
@@ -78,49 +88,76 @@ fn come_and_go(pool: &mut Pool)
     pool.insert_in_order(0, 3);
 }
 
-#[test]
-fn items_come_and_go_at_the_end(rt: HostRuntime) -> Result<(), Fail> {
-    let mut pool = Pool::new(rt.alloc(), 2, 5)?;
-    come_and_go(&mut pool);
-    let items = first_items(&pool, 0);
+// Empties the second list and fills it again: the first list, how long the second one was between, and
+// the second one.
+fn empty_and_fill(pool: &mut Pool) -> ([Option<u32>; 4], u32, [Option<u32>; 4])
+    requires lists { pool.old.lists ≡ (2 ∷ 3 ∷ 5 ∷ []) ∷ (4 ∷ []) ∷ [] }
+    requires spare { pool.old.spare ≡ 1 }
+{
+    let items = first_items(pool, 0);
     pool.remove_item(1, 4);
     let emptied = pool.len(1);
     pool.insert_in_order(1, 6);
-    let filled = first_items(&pool, 1);
-    drop(pool);
-    assert_eq!(rt; items, [Some(2), Some(3), Some(5), None]);
-    assert_eq!(rt; emptied, 0);
-    assert_eq!(rt; filled, [Some(6), None, None, None]);
-    Ok(())
+    (items, emptied, first_items(pool, 1))
+}
+
+// The same of two new lists to which items came and from which they went.
+fn emptied_and_filled(
+    alloc: Global,
+) -> Result<([Option<u32>; 4], u32, [Option<u32>; 4]), AllocError> {
+    let mut pool = Pool::new(alloc, 2, 5)?;
+    come_and_go(&mut pool);
+    Ok(empty_and_fill(&mut pool))
 }
 
 #[test]
-fn a_list_out_of_order_is_walked(rt: HostRuntime) -> Result<(), Fail> {
-    let mut pool = Pool::new(rt.alloc(), 1, 5)?;
+fn items_come_and_go_at_the_end(rt: HostRuntime) {
+    let items = [Some(2), Some(3), Some(5), None];
+    let filled = [Some(6), None, None, None];
+    assert!(rt; emptied_and_filled(rt.alloc()) == Ok((items, 0, filled)));
+}
+
+// The items of an empty list after some that are in no order, and one that goes into it.
+fn walk(pool: &mut Pool) -> [Option<u32>; 4]
+    requires lists { pool.old.lists ≡ [] ∷ [] }
+    requires spare { pool.old.spare ≡ 5 }
+{
     pool.insert(0, 0, 2);
     pool.insert(0, 0, 9);
     pool.insert(0, 0, 2);
     pool.insert_in_order(0, 5);
     pool.remove_item(0, 2);
-    let items = first_items(&pool, 0);
-    drop(pool);
-    assert_eq!(rt; items, [Some(5), Some(9), Some(2), None]);
-    Ok(())
+    first_items(pool, 0)
+}
+
+// The same of a new list.
+fn walked(alloc: Global) -> Result<[Option<u32>; 4], AllocError> {
+    let mut pool = Pool::new(alloc, 1, 5)?;
+    Ok(walk(&mut pool))
 }
 
 #[test]
-fn largest_and_smallest_pool_are_made(rt: HostRuntime) -> Result<(), Fail> {
-    let largest = Pool::new(rt.alloc(), 20_000, 4_000_000)?;
-    assert_eq!(rt; largest.spare(), 4_000_000);
-    let smallest = Pool::new(rt.alloc(), 0, 0)?;
-    assert_eq!(rt; smallest.spare(), 0);
-    Ok(())
+fn a_list_out_of_order_is_walked(rt: HostRuntime) {
+    assert!(rt; walked(rt.alloc()) == Ok([Some(5), Some(9), Some(2), None]));
+}
+
+// How many items find room in a new pool.
+fn spare_of(alloc: Global, lists: u32, most: u32) -> Result<u32, AllocError>
+    requires lists { lists ≤ 20000 }
+    requires most { most ≤ 4000000 }
+{
+    Ok(Pool::new(alloc, lists, most)?.spare())
 }
 
 #[test]
-fn an_item_goes_before_the_first_that_is_above_it(rt: HostRuntime) -> Result<(), Fail> {
+fn largest_and_smallest_pool_are_made(rt: HostRuntime) {
+    assert!(rt; spare_of(rt.alloc(), 20_000, 4_000_000) == Ok(4_000_000));
+    assert!(rt; spare_of(rt.alloc(), 0, 0) == Ok(0));
+}
+
+#[test]
+fn an_item_goes_before_the_first_that_is_above_it(rt: HostRuntime) {
     assert_eq!(rt; place_in_order(&[2, 5, 9], 5), 2);
     assert_eq!(rt; place_in_order(&[2, 5, 9], 1), 0);
     assert_eq!(rt; place_in_order(&[2, 5, 9], 10), 3);
-    Ok(())
 }

@@ -31,7 +31,8 @@ impl Weeks {
         ensures set { option_map week_set result ≡ read_set text.now n }
         ensures weeks { result ≡ weeks_text text.now n }
         // A week is in the set exactly where its character is 1.
-        ensures places { IfSome result (λ weeks. (week : ℕ) → has (week_set weeks) week ≡ (slice_index text.now week == 49)) }
+        ensures places { IfSome result
+            (λ weeks. (week : ℕ) → has (week_set weeks) week ≡ (slice_index text.now week == 49)) }
         ensures in_range { IfSome result (λ weeks. week_set weeks < 2 ^ n) }
     {
         let bits = read_bits(text, n)?;
@@ -45,7 +46,8 @@ impl Weeks {
         ensures set { option_map week_set result ≡ word_set word n }
         ensures weeks { result ≡ weeks_word word n }
         // A week is in the set exactly where it is below n and its character is 1.
-        ensures places { IfSome result (λ weeks. (week : ℕ) → has (week_set weeks) week ≡ (nat_lt week n && has word.bits week)) }
+        ensures places { IfSome result (λ weeks.
+            (week : ℕ) → has (week_set weeks) week ≡ (nat_lt week n && has word.bits week)) }
         ensures in_range { IfSome result (λ weeks. week_set weeks < 2 ^ n) }
     {
         let bits = word_bits(word, n)?;

@@ -43,7 +43,9 @@ pub(crate) fn may_come(standing: &Standing, front: &[u32], rest: &[Span], class:
 
 // Whether a subpart has a class that may come.
 fn can_be_filled(standing: &Standing, front: &[u32], rest: &[Span], span: Span) -> bool
-    ensures { result ≡ list_any (may_come (situation_in standing.now) front.now rest.now) (places_between span.first span.after) }
+    ensures { result
+        ≡ list_any (may_come (situation_in standing.now) front.now rest.now)
+        (places_between span.first span.after) }
 {
     for class in span.first..span.after {
         if may_come(standing, front, rest, class) {

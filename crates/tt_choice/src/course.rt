@@ -85,12 +85,14 @@ fn pairs_through(
     found: Option<Found>,
 ) -> Option<u64>
     requires some { 0 < length front.now }
-    requires pairs { pairs ≡ pairs_added (situation_in standing.now) (take (length front.now - 1) front.now) }
+    requires pairs { pairs
+        ≡ pairs_added (situation_in standing.now) (take (length front.now - 1) front.now) }
     requires sure { IsSure (situation_in standing.now) rest.now ahead }
     requires few_front { length front.now ≤ 20000 }
     requires few_rest { length rest.now ≤ 20000 }
     requires few_ahead { ahead ≤ 16400000000 }
-    ensures some { IfSome result (λ more. more ≡ pairs_added (situation_in standing.now) front.now) }
+    ensures some { IfSome result
+        (λ more. more ≡ pairs_added (situation_in standing.now) front.now) }
     ensures none { IfNone result (IsInVain (situation_in standing.now) found front.now rest.now) }
 {
     let last = front.len() - 1;
@@ -117,7 +119,8 @@ fn keep(
     requires pairs { pairs ≡ pairs_added (situation_in standing.now) choice.now }
     requires room { length choice.now ≤ length best.old }
     requires found { IfSome found (IsFoundIn (situation_in standing.now) best.old) }
-    ensures best { chosen best.new result ≡ better (situation_in standing.now) (chosen best.old found) choice.now }
+    ensures best { chosen best.new result
+        ≡ better (situation_in standing.now) (chosen best.old found) choice.now }
     ensures found { IfSome result (IsFoundIn (situation_in standing.now) best.new) }
 {
     if is_fewer(found, pairs) && standing.is_allowed(choice) {
@@ -147,7 +150,9 @@ fn pass(
     requires room { HasRoomFor (length subparts.now) buffers.old }
     requires found { IfSome found (IsFoundIn (situation_in standing.now) buffers.old.best.items) }
     ensures room { (count : ℕ) → HasRoomFor count buffers.old → HasRoomFor count buffers.new }
-    ensures best { chosen buffers.new.best.items result ≡ passed (situation_in standing.now) (chosen buffers.old.best.items found) (choices_of subparts.now) }
+    ensures best { chosen buffers.new.best.items result
+        ≡ passed (situation_in standing.now) (chosen buffers.old.best.items found)
+        (choices_of subparts.now) }
     ensures found { IfSome result (IsFoundIn (situation_in standing.now) buffers.new.best.items) }
 {
     let ahead = buffers.ahead.as_slice();
@@ -205,7 +210,9 @@ fn pass_open(
     requires room { HasRoomFor (length subparts.now) buffers.old }
     requires found { IfSome found (IsFoundIn (situation_in standing.now) buffers.old.best.items) }
     ensures room { (count : ℕ) → HasRoomFor count buffers.old → HasRoomFor count buffers.new }
-    ensures best { chosen buffers.new.best.items result ≡ passed (situation_in standing.now) (chosen buffers.old.best.items found) (choices_of subparts.now) }
+    ensures best { chosen buffers.new.best.items result
+        ≡ passed (situation_in standing.now) (chosen buffers.old.best.items found)
+        (choices_of subparts.now) }
     ensures found { IfSome result (IsFoundIn (situation_in standing.now) buffers.new.best.items) }
 {
     if !is_open(standing, &[], subparts) {
@@ -238,7 +245,9 @@ fn least_choice(
     requires room { HasRoomFor (length subparts.now) buffers.old }
     ensures room { HasRoomFor (length subparts.now) buffers.new }
     ensures within { IfSome result (λ count. count ≤ length buffers.new.best.items) }
-    ensures choice { chosen_by buffers.new.best.items result ≡ least_choice (situation_in standing.now) (choices_of_course configs.now subparts.now course) }
+    ensures choice { chosen_by buffers.new.best.items result
+        ≡ least_choice (situation_in standing.now)
+        (choices_of_course configs.now subparts.now course) }
 {
     let mut found = None;
     for place in course.first..course.after {
@@ -282,7 +291,9 @@ pub fn least_of_course(
     requires room { HasRoom state.now.problem buffers.old }
     ensures room { HasRoom state.now.problem buffers.new }
     ensures choice { chosen_by buffers.new.best.items result
-        ≡ least_choice (situation_of state.now.problem state.now.present student wanting.now taken.now) (choices_at state.now.problem course) }
+        ≡ least_choice
+        (situation_of state.now.problem state.now.present student wanting.now taken.now)
+        (choices_at state.now.problem course) }
     ensures within { IfSome result (λ count. count ≤ length buffers.new.best.items) }
     ensures few { IfSome result (λ count. count ≤ length state.now.problem.subparts) }
 {
@@ -305,7 +316,9 @@ pub fn pairs_of(state: &State, student: u32, taken: &[u32], choice: &[u32]) -> u
     requires student { student < length state.now.problem.students }
     requires few_taken { length taken.now ≤ 800000 }
     requires few { length choice.now ≤ 20000 }
-    ensures { result ≡ pairs_added (situation_of state.now.problem state.now.present student [] taken.now) choice.now }
+    ensures { result
+        ≡ pairs_added (situation_of state.now.problem state.now.present student [] taken.now)
+        choice.now }
 {
     let standing = Standing::new(state, student, &[], taken);
     pairs_in(&standing, choice)

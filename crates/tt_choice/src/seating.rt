@@ -14,7 +14,8 @@ pub fn seat(state: &mut State, student: u32, classes: &[u32]) -> Result<(), Allo
     requires student { student < length state.old.problem.students }
     requires may { MayGet state.old.problem state.old.present.lists student classes.now }
     requires step { 0 < length (earlier state.old) }
-    ensures now { OnOk result (state.new.present ≡ with_list state.old.present student (classes_in_order classes.now)) }
+    ensures now { OnOk result
+        (state.new.present ≡ with_list state.old.present student (classes_in_order classes.now)) }
     ensures step { IsWithinStep state.old state.new }
     ensures err { OnErr result (state.new ≡ state.old) }
 {

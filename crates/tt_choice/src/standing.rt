@@ -39,7 +39,8 @@ impl<'a> Standing<'a> {
         requires student { student < length state.now.problem.students }
         requires few_taken { length taken.now ≤ 800000 }
         ensures problem { result.problem.now ≡ state.now.problem }
-        ensures situation { situation_in result ≡ situation_of state.now.problem state.now.present student wanting.now taken.now }
+        ensures situation { situation_in result
+            ≡ situation_of state.now.problem state.now.present student wanting.now taken.now }
     {
         state.soundness();
         let problem = state.problem();
@@ -86,8 +87,10 @@ impl<'a> Standing<'a> {
 
     // The spot of a class, if it is placed.
     fn spot_of(&self, class: u32) -> Option<&Spot>
-        ensures none { IfNone result (spot_at (occupancy_of self.now.score.now).spots class ≡ None) }
-        ensures some { IfSome result (λ spot. spot_at (occupancy_of self.now.score.now).spots class ≡ Some spot.now) }
+        ensures none { IfNone result
+            (spot_at (occupancy_of self.now.score.now).spots class ≡ None) }
+        ensures some { IfSome result
+            (λ spot. spot_at (occupancy_of self.now.score.now).spots class ≡ Some spot.now) }
     {
         match self.score.occupancy().spots().get(class as usize) {
             None => None,
@@ -118,7 +121,8 @@ impl<'a> Standing<'a> {
 
     /// How many classes of a list conflict with a later class.
     pub fn pairs_with(&self, classes: &[u32], class: u32) -> usize
-        ensures { result ≡ count_by (λ other. (situation_in self.now).conflicts other class) classes.now }
+        ensures { result
+            ≡ count_by (λ other. (situation_in self.now).conflicts other class) classes.now }
     {
         classes
             .iter()
@@ -146,7 +150,8 @@ impl<'a> Standing<'a> {
 
     // Whether each class whose parent may be missing has it with a choice.
     fn brings_parents(&self, choice: &[u32]) -> bool
-        ensures { result ≡ list_all (has_parent_with (situation_in self.now) choice.now) self.now.wanting.now }
+        ensures { result
+            ≡ list_all (has_parent_with (situation_in self.now) choice.now) self.now.wanting.now }
     {
         self.wanting
             .iter()

@@ -51,7 +51,8 @@ impl Listing {
     pub fn add(&mut self, class: u32)
         requires within { class < self.old.classes }
         requires new { is_listed class self.old.list ≡ false }
-        ensures { self.new ≡ record { classes = self.old.classes; list = self.old.list ++ class ∷ [] } }
+        ensures { self.new
+            ≡ record { classes = self.old.classes; list = self.old.list ++ class ∷ [] } }
     {
         self.marks[class as usize] = true;
         self.order.push(class).unwrap();
@@ -63,7 +64,8 @@ impl Listing {
         requires within { class < self.old.classes }
         requires order { AreInOrder self.old }
         ensures classes { self.new.classes ≡ self.old.classes }
-        ensures each { (d : ℕ) → is_listed d self.new.list ≡ (is_listed d self.old.list || d == class) }
+        ensures each { (d : ℕ)
+            → is_listed d self.new.list ≡ (is_listed d self.old.list || d == class) }
         ensures order { AreInOrder self.new }
     {
         if self.has(class) {

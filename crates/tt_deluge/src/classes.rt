@@ -40,7 +40,8 @@ fn next_free(state: &mut State, class: u32, place: u32) -> Option<Value>
     requires place { place < length (domain_of state.old.problem class) }
     ensures value { result ≡ next_free state.old.problem state.old.present class place }
     ensures domain { IfSome result (IsOfDomain state.old.problem class) }
-    ensures free { IfSome result (λ value. is_free state.old.problem state.old.present class value ≡ true) }
+    ensures free { IfSome result
+        (λ value. is_free state.old.problem state.old.present class value ≡ true) }
     ensures problem { state.new.problem ≡ state.old.problem }
     ensures present { state.new.present ≡ state.old.present }
     ensures entries { state.new.entries ≡ state.old.entries }
@@ -64,7 +65,9 @@ fn move_within(state: &mut State, class: u32, value: Value, level: u128) -> Resu
     requires level { level < 2 ^ 127 }
     requires step { 0 < length (earlier state.old) }
     ensures step { IsWithinStep (with_taken state.old []) (with_taken state.new []) }
-    ensures round { IfOk result (IsClassRound level (Some (with_value state.old.present class (Some value))) (with_taken state.old []) (with_taken state.new [])) }
+    ensures round { IfOk result (IsClassRound level
+        (Some (with_value state.old.present class (Some value))) (with_taken state.old [])
+        (with_taken state.new [])) }
 {
     state.problem().validity();
     state.soundness();
@@ -83,7 +86,9 @@ fn move_to_next(state: &mut State, class: u32, place: u32, level: u128) -> Resul
     requires level { level < 2 ^ 127 }
     requires step { 0 < length (earlier state.old) }
     ensures step { IsWithinStep (with_taken state.old []) (with_taken state.new []) }
-    ensures round { IfOk result (IsClassRound level (moved_to_next state.old.problem state.old.present class place) (with_taken state.old []) (with_taken state.new [])) }
+    ensures round { IfOk result (IsClassRound level
+        (moved_to_next state.old.problem state.old.present class place) (with_taken state.old [])
+        (with_taken state.new [])) }
 {
     match next_free(state, class, place) {
         None => Ok(false),
@@ -114,7 +119,9 @@ fn move_to_value(
     requires level { level < 2 ^ 127 }
     requires step { 0 < length (earlier state.old) }
     ensures step { IsWithinStep (with_taken state.old []) (with_taken state.new []) }
-    ensures round { IfOk result (IsClassRound level (moved_to_value state.old.problem state.old.present class value) (with_taken state.old []) (with_taken state.new [])) }
+    ensures round { IfOk result (IsClassRound level
+        (moved_to_value state.old.problem state.old.present class value) (with_taken state.old [])
+        (with_taken state.new [])) }
 {
     if has_value(state, class, value) || state.blocked(class, value).is_some() {
         return Ok(false);
@@ -144,7 +151,10 @@ pub(crate) fn class_round(
     requires level { level < 2 ^ 127 }
     requires step { 0 < length (earlier state.old) }
     ensures step { IsWithinStep (with_taken state.old []) (with_taken state.new []) }
-    ensures made { IfOk result (λ made. made_within state.old.problem level (class_change state.old.problem state.old.present kind class place) ≡ cond made (Some state.new.present) None) }
+    ensures made { IfOk result (λ made.
+        made_within state.old.problem level
+        (class_change state.old.problem state.old.present kind class place)
+        ≡ cond made (Some state.new.present) None) }
     ensures same { IfOk result (λ made. made ≡ false → state.new.present ≡ state.old.present) }
     ensures still { IfOk result (λ made. made ≡ false → trail state.new ≡ trail state.old) }
     ensures trail { OnOk result (BeginsWith (trail state.old) (trail state.new)) }

@@ -105,8 +105,15 @@ fn exchange_steps(
     requires free { is_locked_in state.old.present other ≡ false }
     requires step { 0 < length (earlier state.old) }
     ensures step { IsWithinStep (with_taken state.old []) (with_taken state.new []) }
-    ensures free { IfOk result (λ free. free ≡ is_free state.old.problem (with_value state.old.present other None) class value && is_free state.old.problem (half_exchanged state.old.present class value other) other to) }
-    ensures present { IfOk result (λ free. free ≡ true → state.new.present ≡ with_value (half_exchanged state.old.present class value other) other (Some to)) }
+    ensures free { IfOk result (λ free.
+        free
+        ≡ is_free state.old.problem (with_value state.old.present other None) class value
+        && is_free state.old.problem (half_exchanged state.old.present class value other)
+        other to) }
+    ensures present { IfOk result (λ free.
+        free ≡ true
+        → state.new.present
+        ≡ with_value (half_exchanged state.old.present class value other) other (Some to)) }
     ensures trail { OnOk result (BeginsWith (trail state.old) (trail state.new)) }
 {
     state.place_step(other, None)?;
@@ -136,7 +143,9 @@ pub(crate) fn exchange(
     requires other { other < length state.old.problem.classes }
     requires step { 0 < length (earlier state.old) }
     ensures step { IsWithinStep (with_taken state.old []) (with_taken state.new []) }
-    ensures round { IfOk result (IsClassRound level (moved_by_conflicts state.old.problem state.old.present class value (other ∷ [])) (with_taken state.old []) (with_taken state.new [])) }
+    ensures round { IfOk result (IsClassRound level
+        (moved_by_conflicts state.old.problem state.old.present class value (other ∷ []))
+        (with_taken state.old []) (with_taken state.new [])) }
 {
     state.problem().validity();
     state.soundness();

@@ -50,7 +50,8 @@ struct Work {
 impl Work {
     // Before the first round.
     fn new(alloc: Global, state: &State) -> Result<Work, AllocError>
-        ensures targets { IfOk result (λ work. targets_in work.targets ≡ targets_at state.now.problem state.now.present) }
+        ensures targets { IfOk result
+            (λ work. targets_in work.targets ≡ targets_at state.now.problem state.now.present) }
         ensures few_classes { IfOk result (λ work. length work.targets.classes.items ≤ 2 ^ 32) }
         ensures few_choices { IfOk result (λ work. length work.targets.choices.items ≤ 2 ^ 32) }
     {
@@ -128,8 +129,12 @@ fn round_on_class(
     requires level { level < 2 ^ 127 }
     requires step { 0 < length (earlier state.old) }
     ensures step { IsWithinStep (with_taken state.old []) (with_taken state.new []) }
-    ensures words { OnOk result (words_of words.new ≡ (class_round state.old.problem classes.now state.old.present kind (words_of words.old)).1) }
-    ensures round { IfOk result (IsRound level (class_round state.old.problem classes.now state.old.present kind (words_of words.old)).0 (with_taken state.old []) (with_taken state.new [])) }
+    ensures words { OnOk result (words_of words.new
+        ≡ (class_round state.old.problem classes.now state.old.present kind
+        (words_of words.old)).1) }
+    ensures round { IfOk result (IsRound level
+        (class_round state.old.problem classes.now state.old.present kind (words_of words.old)).0
+        (with_taken state.old []) (with_taken state.new [])) }
 {
     state.soundness();
     let class = classes[draw_below(words, classes.len() as u64) as usize];
@@ -152,8 +157,12 @@ fn round_on_student(
     requires few { length choices.now ≤ 2 ^ 32 }
     requires step { 0 < length (earlier state.old) }
     ensures step { IsWithinStep (with_taken state.old []) (with_taken state.new []) }
-    ensures words { OnOk result (words_of words.new ≡ (student_round state.old.problem (map target_of choices.now) state.old.present (words_of words.old)).1) }
-    ensures round { IfOk result (IsRound level (student_round state.old.problem (map target_of choices.now) state.old.present (words_of words.old)).0 (with_taken state.old []) (with_taken state.new [])) }
+    ensures words { OnOk result (words_of words.new
+        ≡ (student_round state.old.problem (map target_of choices.now) state.old.present
+        (words_of words.old)).1) }
+    ensures round { IfOk result (IsRound level
+        (student_round state.old.problem (map target_of choices.now) state.old.present
+        (words_of words.old)).0 (with_taken state.old []) (with_taken state.new [])) }
 {
     let choice = choices[draw_below(words, choices.len() as u64) as usize];
     student_round(state, choice, words, level, buffers)
@@ -166,7 +175,8 @@ fn make_round(
     words: &mut Lcg64Xsh32,
     level: u128,
 ) -> Result<bool, AllocError>
-    requires targets { targets_in work.old.targets ≡ targets_at state.old.problem state.old.present }
+    requires targets { targets_in work.old.targets
+        ≡ targets_at state.old.problem state.old.present }
     requires some { are_none (targets_in work.old.targets) ≡ false }
     requires few_classes { length work.old.targets.classes.items ≤ 2 ^ 32 }
     requires few_choices { length work.old.targets.choices.items ≤ 2 ^ 32 }
@@ -174,8 +184,12 @@ fn make_round(
     requires step { 0 < length (earlier state.old) }
     ensures targets { work.new.targets ≡ work.old.targets }
     ensures step { IsWithinStep (with_taken state.old []) (with_taken state.new []) }
-    ensures words { OnOk result (words_of words.new ≡ (found_by state.old.problem (targets_in work.old.targets) state.old.present (words_of words.old)).1) }
-    ensures round { IfOk result (IsRound level (found_by state.old.problem (targets_in work.old.targets) state.old.present (words_of words.old)).0 (with_taken state.old []) (with_taken state.new [])) }
+    ensures words { OnOk result (words_of words.new
+        ≡ (found_by state.old.problem (targets_in work.old.targets) state.old.present
+        (words_of words.old)).1) }
+    ensures round { IfOk result (IsRound level
+        (found_by state.old.problem (targets_in work.old.targets) state.old.present
+        (words_of words.old)).0 (with_taken state.old []) (with_taken state.new [])) }
 {
     let kind = draw_below(words, 32) as u32;
     if is_on_class(&work.targets, kind) {
@@ -200,13 +214,16 @@ fn pour<W: Watcher>(
     seed: u64,
     watcher: &mut W,
 ) -> Result<Moment, AllocError>
-    requires targets { targets_in work.old.targets ≡ targets_at state.old.problem state.old.present }
+    requires targets { targets_in work.old.targets
+        ≡ targets_at state.old.problem state.old.present }
     requires some { are_none (targets_in work.old.targets) ≡ false }
     requires few_classes { length work.old.targets.classes.items ≤ 2 ^ 32 }
     requires few_choices { length work.old.targets.choices.items ≤ 2 ^ 32 }
     requires step { 0 < length (earlier state.old) }
     ensures step { IsWithinStep (with_taken state.old []) (with_taken state.new []) }
-    ensures way { IfOk result (λ best. IsPouring state.old.problem state.old.present (trail state.new) [] best (best_moment state.old.problem rounds seed state.old.present)) }
+    ensures way { IfOk result (λ best.
+        IsPouring state.old.problem state.old.present (trail state.new) [] best
+        (best_moment state.old.problem rounds seed state.old.present)) }
 {
     let mut words = Lcg64Xsh32::new(seed, 1);
     let start = moment_now(state, 0);
@@ -236,8 +253,11 @@ fn deluge_in_step<W: Watcher>(
 ) -> Result<Deluged, AllocError>
     ensures problem { state.new.problem ≡ state.old.problem }
     ensures earlier { OnOk result (earlier state.new ≡ state.old.present ∷ earlier state.old) }
-    ensures end { IfOk result (λ n. ended_at state.new.present n.rounds n.changed ≡ deluged state.old.problem rounds seed state.old.present) }
-    ensures total { OnOk result (total_of state.old.problem state.new.present ≤ total_of state.old.problem state.old.present) }
+    ensures end { IfOk result (λ n.
+        ended_at state.new.present n.rounds n.changed
+        ≡ deluged state.old.problem rounds seed state.old.present) }
+    ensures total { OnOk result (total_of state.old.problem state.new.present
+        ≤ total_of state.old.problem state.old.present) }
     ensures changed { IfOk result (λ n. (n.changed ≡ 0) ↔ (state.new.present ≡ state.old.present)) }
     ensures stands { OnOk result (StandsAs state.old.problem state.old.present state.new.present) }
     ensures present { OnErr result (state.new.present ≡ state.old.present) }
@@ -284,15 +304,21 @@ pub fn deluge<W: Watcher>(
     watcher: &mut W,
 ) -> Result<Deluged, AllocError>
     ensures desk { OnOk result (desk_of state.new ≡ stepped (desk_of state.old) state.new.present) }
-    ensures end { IfOk result (λ n. ended_at state.new.present n.rounds n.changed ≡ deluged state.old.problem rounds seed state.old.present) }
-    ensures total { OnOk result ((totals_in state.old.problem state.new.present).total ≤ (totals_in state.old.problem state.old.present).total) }
-    ensures hard { OnOk result ((totals_in state.old.problem state.new.present).hard ≤ (totals_in state.old.problem state.old.present).hard) }
-    ensures unplaced { OnOk result ((totals_in state.old.problem state.new.present).unplaced ≤ (totals_in state.old.problem state.old.present).unplaced) }
+    ensures end { IfOk result (λ n.
+        ended_at state.new.present n.rounds n.changed
+        ≡ deluged state.old.problem rounds seed state.old.present) }
+    ensures total { OnOk result ((totals_in state.old.problem state.new.present).total
+        ≤ (totals_in state.old.problem state.old.present).total) }
+    ensures hard { OnOk result ((totals_in state.old.problem state.new.present).hard
+        ≤ (totals_in state.old.problem state.old.present).hard) }
+    ensures unplaced { OnOk result ((totals_in state.old.problem state.new.present).unplaced
+        ≤ (totals_in state.old.problem state.old.present).unplaced) }
     ensures changed { IfOk result (λ n. (n.changed ≡ 0) ↔ (state.new.present ≡ state.old.present)) }
     ensures statistics { OnOk result (state.new.present.statistics ≡ state.old.present.statistics) }
     ensures closures { OnOk result (state.new.present.closures ≡ state.old.present.closures) }
     ensures locks { OnOk result (state.new.present.locks ≡ state.old.present.locks) }
-    ensures locked { OnOk result ((class : ℕ) → StaysLocked state.old.present state.new.present class) }
+    ensures locked { OnOk result
+        ((class : ℕ) → StaysLocked state.old.present state.new.present class) }
     ensures err { OnErr result (with_taken state.new [] ≡ with_taken state.old []) }
 {
     deluge_in_step(alloc, state, rounds, seed, watcher)

@@ -67,7 +67,8 @@ fn fitting_at(
     place: u64,
 ) -> Option<u32>
     requires { IsSpanWithin (length problem.now.classes) subpart }
-    ensures class { result ≡ slice_get (fitting problem.now (rest.now ++ so_far.now) subpart) place }
+    ensures class { result
+        ≡ slice_get (fitting problem.now (rest.now ++ so_far.now) subpart) place }
     ensures below { IfSome result (λ class. class < length problem.now.classes) }
 {
     let mut before = place;
@@ -91,7 +92,9 @@ fn draw_class(
     words: &mut Lcg64Xsh32,
 ) -> Option<u32>
     requires { IsSpanWithin (length problem.now.classes) subpart }
-    ensures class { result ≡ drawn (next_u32 (words_of words.old)).0 (fitting problem.now (rest.now ++ so_far.now) subpart) }
+    ensures class { result
+        ≡ drawn (next_u32 (words_of words.old)).0
+        (fitting problem.now (rest.now ++ so_far.now) subpart) }
     ensures below { IfSome result (λ class. class < length problem.now.classes) }
     ensures next { IfSome result (λ class. words_of words.new ≡ (next_u32 (words_of words.old)).1) }
     ensures same { IfNone result (words_of words.new ≡ words_of words.old) }
@@ -114,9 +117,12 @@ fn draw_classes(
     words: &mut Lcg64Xsh32,
 ) -> Result<bool, AllocError>
     requires { IsSpanWithin (length problem.now.subparts) config }
-    ensures choice { IfOk result (λ found. drawn_choice problem.now rest.now [] (spans_at problem.now.subparts config) (words_of words.old)
+    ensures choice { IfOk result (λ found.
+        drawn_choice problem.now rest.now [] (spans_at problem.now.subparts config)
+        (words_of words.old)
         ≡ (cond found (Some choice.new.items) None, words_of words.new)) }
-    ensures below { OnOk result (All (λ class. class < length problem.now.classes) choice.new.items) }
+    ensures below { OnOk result
+        (All (λ class. class < length problem.now.classes) choice.new.items) }
     ensures few { OnOk result (length choice.new.items ≤ 20000) }
 {
     problem.validity();
@@ -134,7 +140,8 @@ fn draw_classes(
 // The configuration of a course that the next random word draws.
 fn draw_config(problem: &Problem, course: u32, words: &mut Lcg64Xsh32) -> Span
     requires { course < length problem.now.courses }
-    ensures config { drawn (next_u32 (words_of words.old)).0 (configurations_of problem.now course) ≡ Some (spans_at problem.now.subparts result) }
+    ensures config { drawn (next_u32 (words_of words.old)).0 (configurations_of problem.now course)
+        ≡ Some (spans_at problem.now.subparts result) }
     ensures within { IsSpanWithin (length problem.now.subparts) result }
     ensures words { words_of words.new ≡ (next_u32 (words_of words.old)).1 }
 {
@@ -165,8 +172,10 @@ impl StudentBuffers {
     // Parts the list of a student by a course.
     fn part(&mut self, state: &State, student: u32, course: u32) -> Result<(), AllocError>
         requires { student < length state.now.problem.students }
-        ensures own { OnOk result (self.new.own.items ≡ own_of state.now.problem course (list_in state.now.present student)) }
-        ensures rest { OnOk result (self.new.rest.items ≡ rest_of state.now.problem course (list_in state.now.present student)) }
+        ensures own { OnOk result (self.new.own.items
+            ≡ own_of state.now.problem course (list_in state.now.present student)) }
+        ensures rest { OnOk result (self.new.rest.items
+            ≡ rest_of state.now.problem course (list_in state.now.present student)) }
     {
         state.soundness();
         self.own.clear();
@@ -192,10 +201,15 @@ fn is_within(
     level: u128,
 ) -> bool
     requires target { IsSeatedIn state.now.problem state.now.present student course }
-    requires own { buffers.now.own.items ≡ own_of state.now.problem course (list_in state.now.present student) }
-    requires rest { buffers.now.rest.items ≡ rest_of state.now.problem course (list_in state.now.present student) }
+    requires own { buffers.now.own.items
+        ≡ own_of state.now.problem course (list_in state.now.present student) }
+    requires rest { buffers.now.rest.items
+        ≡ rest_of state.now.problem course (list_in state.now.present student) }
     requires few { length buffers.now.choice.items ≤ 20000 }
-    ensures { result ≡ nat_le (total_of state.now.problem (with_list state.now.present student (classes_in_order (buffers.now.rest.items ++ buffers.now.choice.items)))) level }
+    ensures { result
+        ≡ nat_le
+        (total_of state.now.problem (with_list state.now.present student
+        (classes_in_order (buffers.now.rest.items ++ buffers.now.choice.items)))) level }
 {
     state.soundness();
     state.problem().validity();
@@ -217,13 +231,19 @@ fn replace(
     level: u128,
 ) -> Result<bool, AllocError>
     requires target { IsSeatedIn state.old.problem state.old.present student course }
-    requires own { buffers.old.own.items ≡ own_of state.old.problem course (list_in state.old.present student) }
-    requires rest { buffers.old.rest.items ≡ rest_of state.old.problem course (list_in state.old.present student) }
-    requires below { All (λ class. class < length state.old.problem.classes) buffers.old.choice.items }
+    requires own { buffers.old.own.items
+        ≡ own_of state.old.problem course (list_in state.old.present student) }
+    requires rest { buffers.old.rest.items
+        ≡ rest_of state.old.problem course (list_in state.old.present student) }
+    requires below { All (λ class. class < length state.old.problem.classes)
+        buffers.old.choice.items }
     requires few { length buffers.old.choice.items ≤ 20000 }
     requires step { 0 < length (earlier state.old) }
     ensures step { IsWithinStep state.old state.new }
-    ensures made { IfOk result (λ made. made_within state.old.problem level (replaced state.old.problem state.old.present student buffers.old.rest.items buffers.old.own.items buffers.old.choice.items) ≡ cond made (Some state.new.present) None) }
+    ensures made { IfOk result (λ made.
+        made_within state.old.problem level (replaced state.old.problem state.old.present student
+        buffers.old.rest.items buffers.old.own.items buffers.old.choice.items)
+        ≡ cond made (Some state.new.present) None) }
     ensures same { IfOk result (λ made. made ≡ false → state.new.present ≡ state.old.present) }
     ensures trail { OnOk result (BeginsWith (trail state.old) (trail state.new)) }
     ensures stands { OnOk result (StandsAs state.old.problem state.old.present state.new.present) }
@@ -260,8 +280,13 @@ pub(crate) fn student_round(
     requires target { IsSeatedIn state.old.problem state.old.present choice.student choice.course }
     requires step { 0 < length (earlier state.old) }
     ensures step { IsWithinStep state.old state.new }
-    ensures words { OnOk result (words_of words.new ≡ (choice_drawn state.old.problem state.old.present (Course choice.student choice.course) (words_of words.old)).1) }
-    ensures made { IfOk result (λ made. made_within state.old.problem level (choice_drawn state.old.problem state.old.present (Course choice.student choice.course) (words_of words.old)).0 ≡ cond made (Some state.new.present) None) }
+    ensures words { OnOk result (words_of words.new
+        ≡ (choice_drawn state.old.problem state.old.present (Course choice.student choice.course)
+        (words_of words.old)).1) }
+    ensures made { IfOk result (λ made.
+        made_within state.old.problem level (choice_drawn state.old.problem state.old.present
+        (Course choice.student choice.course) (words_of words.old)).0
+        ≡ cond made (Some state.new.present) None) }
     ensures same { IfOk result (λ made. made ≡ false → state.new.present ≡ state.old.present) }
     ensures trail { OnOk result (BeginsWith (trail state.old) (trail state.new)) }
     ensures stands { OnOk result (StandsAs state.old.problem state.old.present state.new.present) }

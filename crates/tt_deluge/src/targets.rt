@@ -16,7 +16,9 @@ use tt_state::State;
 // Whether each subpart of a configuration has at most one class.
 fn is_single(problem: &Problem, config: Span) -> bool
     requires { IsSpanWithin (length problem.now.subparts) config }
-    ensures { result ≡ list_all (λ subpart. nat_le (span_length subpart) 1) (spans_at problem.now.subparts config) }
+    ensures { result
+        ≡ list_all (λ subpart. nat_le (span_length subpart) 1)
+        (spans_at problem.now.subparts config) }
 {
     for place in config.first..config.after {
         let subpart = problem.subpart(place);
@@ -68,8 +70,11 @@ impl Targets {
     fn add(&mut self, problem: &Problem, flags: &[bool], target: Target) -> Result<(), AllocError>
         requires flags { AreFlagsOf problem.now flags.now }
         requires within { IsCourseWithin problem.now target }
-        ensures classes { OnOk result (self.new.classes.items ≡ self.old.classes.items ++ class_of target) }
-        ensures choices { OnOk result (map target_of self.new.choices.items ≡ map target_of self.old.choices.items ++ filter (is_choice problem.now) (target ∷ [])) }
+        ensures classes { OnOk result
+            (self.new.classes.items ≡ self.old.classes.items ++ class_of target) }
+        ensures choices { OnOk result (map target_of self.new.choices.items
+            ≡ map target_of self.old.choices.items
+            ++ filter (is_choice problem.now) (target ∷ [])) }
     {
         match target {
             Target::Class { class } => self.classes.push(class)?,
@@ -84,7 +89,8 @@ impl Targets {
 
     // The targets of the present snapshot.
     pub(crate) fn new(alloc: Global, state: &State) -> Result<Targets, AllocError>
-        ensures targets { IfOk result (λ targets. targets_in targets ≡ targets_at state.now.problem state.now.present) }
+        ensures targets { IfOk result
+            (λ targets. targets_in targets ≡ targets_at state.now.problem state.now.present) }
         ensures few_classes { IfOk result (λ targets. length targets.classes.items ≤ 2 ^ 32) }
         ensures few_choices { IfOk result (λ targets. length targets.choices.items ≤ 2 ^ 32) }
     {

@@ -27,7 +27,9 @@ fn enrol_one(state: &mut State, buffers: &mut Buffers, student: u32) -> Result<b
     requires student { student < length state.old.problem.students }
     requires step { 0 < length (earlier state.old) }
     requires room { HasRoom state.old.problem buffers.old }
-    ensures now { IfOk result (λ found. enrolled state.old.problem state.old.present student ≡ cond found (Some state.new.present) None) }
+    ensures now { IfOk result (λ found.
+        enrolled state.old.problem state.old.present student
+        ≡ cond found (Some state.new.present) None) }
     ensures same { IfOk result (λ found. found ≡ false → state.new.present ≡ state.old.present) }
     ensures room { HasRoom state.old.problem buffers.new }
     ensures step { IsWithinStep state.old state.new }
@@ -58,12 +60,15 @@ fn enrol_next(
     requires step { 0 < length (earlier state.old) }
     requires room { HasRoom state.old.problem buffers.old }
     requires few { so_far.enrolled + so_far.left ≤ student }
-    ensures next { IfOk result (λ n. with_counts state.new.present n.enrolled n.left
-        ≡ with_student state.old.problem (with_counts state.old.present so_far.enrolled so_far.left) student) }
+    ensures next { IfOk result (λ n.
+        with_counts state.new.present n.enrolled n.left
+        ≡ with_student state.old.problem
+        (with_counts state.old.present so_far.enrolled so_far.left) student) }
     ensures few { IfOk result (λ n. n.enrolled + n.left ≤ student + 1) }
     ensures room { HasRoom state.old.problem buffers.new }
     ensures step { IsWithinStep state.old state.new }
-    ensures lacking { OnErr result (lacks_classes state.old.problem state.old.present student ≡ true) }
+    ensures lacking { OnErr result
+        (lacks_classes state.old.problem state.old.present student ≡ true) }
     ensures memory { OnErr result (IsSome (enrolled state.old.problem state.old.present student)) }
 {
     state.problem().validity();
@@ -92,9 +97,12 @@ fn enrol_each<W: Watcher>(
 ) -> Result<Enrolled, AllocError>
     requires step { 0 < length (earlier state.old) }
     requires room { HasRoom state.old.problem buffers.old }
-    ensures all { IfOk result (λ n. with_counts state.new.present n.enrolled n.left ≡ all_enrolled state.old.problem state.old.present) }
+    ensures all { IfOk result (λ n.
+        with_counts state.new.present n.enrolled n.left
+        ≡ all_enrolled state.old.problem state.old.present) }
     ensures step { IsWithinStep state.old state.new }
-    ensures memory { OnErr result (0 < (all_enrolled state.old.problem state.old.present).enrolled) }
+    ensures memory { OnErr result
+        (0 < (all_enrolled state.old.problem state.old.present).enrolled) }
 {
     let mut so_far = Enrolled {
         enrolled: 0,
@@ -119,10 +127,14 @@ pub fn enrol_all<W: Watcher>(
     state: &mut State,
     watcher: &mut W,
 ) -> Result<Enrolled, AllocError>
-    ensures desk { OnOk result (desk_of state.new ≡ stepped (desk_of state.old) (all_enrolled state.old.problem state.old.present).snapshot) }
-    ensures enrolled { IfOk result (λ n. n.enrolled ≡ (all_enrolled state.old.problem state.old.present).enrolled) }
-    ensures left { IfOk result (λ n. n.left ≡ (all_enrolled state.old.problem state.old.present).left) }
-    ensures locked { OnOk result ((class : ℕ) → StaysLocked state.old.present state.new.present class) }
+    ensures desk { OnOk result (desk_of state.new
+        ≡ stepped (desk_of state.old) (all_enrolled state.old.problem state.old.present).snapshot) }
+    ensures enrolled { IfOk result
+        (λ n. n.enrolled ≡ (all_enrolled state.old.problem state.old.present).enrolled) }
+    ensures left { IfOk result
+        (λ n. n.left ≡ (all_enrolled state.old.problem state.old.present).left) }
+    ensures locked { OnOk result
+        ((class : ℕ) → StaysLocked state.old.present state.new.present class) }
     ensures taken { OnOk result (state.new.taken ≡ state.old.taken) }
     ensures err { OnErr result (state.new ≡ state.old) }
 {

@@ -15,8 +15,11 @@ use tt_state::State;
 // has no allowed choice.
 fn classes_found(alloc: Global, state: &State, student: u32) -> Result<Option<Vec<u32>>, AllocError>
     requires { student < length state.now.problem.students }
-    ensures found { IfOk result (λ list. MatchOption list (classes_found state.now.problem state.now.present student ≡ None) (λ list. classes_found state.now.problem state.now.present student ≡ Some list.items)) }
-    ensures valid { IfOk result (λ list. IfSome list (λ list. MayGet state.now.problem state.now.present.lists student list.items)) }
+    ensures found { IfOk result (λ list.
+        MatchOption list (classes_found state.now.problem state.now.present student ≡ None)
+        (λ list. classes_found state.now.problem state.now.present student ≡ Some list.items)) }
+    ensures valid { IfOk result (λ list.
+        IfSome list (λ list. MayGet state.now.problem state.now.present.lists student list.items)) }
 {
     state.problem().validity();
     let mut buffers = Buffers::new(alloc, state.problem())?;
@@ -39,9 +42,13 @@ fn classes_found(alloc: Global, state: &State, student: u32) -> Result<Option<Ve
 #[tactic(auto, using(crate::proofs::LockLemmas::one_stays))]
 pub fn enrol(alloc: Global, state: &mut State, student: u32) -> Result<bool, AllocError>
     requires { student < length state.old.problem.students }
-    ensures desk { result ≡ Ok true → desk_of state.new ≡ stepped (desk_of state.old) state.new.present }
-    ensures enrolled { result ≡ Ok true → enrolled state.old.problem state.old.present student ≡ Some state.new.present }
-    ensures locked { result ≡ Ok true → (class : ℕ) → StaysLocked state.old.present state.new.present class }
+    ensures desk { result ≡ Ok true
+        → desk_of state.new ≡ stepped (desk_of state.old) state.new.present }
+    ensures enrolled { result ≡ Ok true
+        → enrolled state.old.problem state.old.present student ≡ Some state.new.present }
+    ensures locked { result ≡ Ok true
+        → (class : ℕ)
+        → StaysLocked state.old.present state.new.present class }
     ensures trail { result ≡ Ok true → trail state.new ≡ state.new.present ∷ [] }
     ensures taken { result ≡ Ok true → state.new.taken ≡ state.old.taken }
     ensures same { result ≡ Ok false → state.new ≡ state.old }

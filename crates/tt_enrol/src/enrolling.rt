@@ -39,7 +39,8 @@ impl Buffers {
 pub fn find(state: &State, student: u32, buffers: &mut Buffers) -> Option<usize>
     requires student { student < length state.now.problem.students }
     requires room { HasRoom state.now.problem buffers.old }
-    ensures found { chosen_by buffers.new.taken.items result ≡ classes_found state.now.problem state.now.present student }
+    ensures found { chosen_by buffers.new.taken.items result
+        ≡ classes_found state.now.problem state.now.present student }
     ensures within { IfSome result (λ count. count ≤ length buffers.new.taken.items) }
     ensures room { HasRoom state.now.problem buffers.new }
 {

@@ -31,7 +31,9 @@ pub fn take_courses(
     requires student { student < length state.now.problem.students }
     requires room { HasRoom state.now.problem choices.old }
     requires taken { 40 * length state.now.problem.subparts ≤ length taken.old }
-    ensures found { chosen_by taken.new result ≡ taken_in (situation_of state.now.problem state.now.present student []) (map (choices_at state.now.problem) (courses_of state.now.problem student)) }
+    ensures found { chosen_by taken.new result
+        ≡ taken_in (situation_of state.now.problem state.now.present student [])
+        (map (choices_at state.now.problem) (courses_of state.now.problem student)) }
     ensures within { IfSome result (λ count. count ≤ length taken.new) }
     ensures room { HasRoom state.now.problem choices.new }
 {

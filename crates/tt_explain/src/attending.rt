@@ -25,7 +25,8 @@ fn add_class_line(out: &mut Reply, problem: &Problem, class: u32) -> Result<(), 
 // Appends a line for each class of a student.
 fn add_class_lines(out: &mut Reply, state: &State, student: u32) -> Result<(), AllocError>
     requires { student < length state.now.problem.students }
-    ensures { OnOk result (out.new ≡ out.old ++ class_lines state.now.problem (list_in state.now.present student)) }
+    ensures { OnOk result
+        (out.new ≡ out.old ++ class_lines state.now.problem (list_in state.now.present student)) }
 {
     for class in state.classes_of(student) {
         add_class_line(out, state.problem(), class)?;
@@ -50,7 +51,11 @@ fn add_pair_line(
 
 // Appends the line on two classes, where nobody can attend both.
 fn add_pair(out: &mut Reply, state: &State, class: u32, other: u32) -> Result<(), AllocError>
-    ensures { OnOk result (out.new ≡ out.old ++ (if conflict_between state.now.problem state.now.present class other then pair_line state.now.problem (class, other) else [])) }
+    ensures { OnOk result (out.new
+        ≡ out.old
+        ++ (if conflict_between state.now.problem state.now.present class other
+        then pair_line state.now.problem (class, other)
+        else [])) }
 {
     if conflict_between(state, class, other) {
         add_pair_line(out, state.problem(), class, other)
@@ -66,7 +71,10 @@ fn add_pairs_with(
     class: u32,
     later: Attendance<'_>,
 ) -> Result<(), AllocError>
-    ensures { OnOk result (out.new ≡ out.old ++ pair_lines state.now.problem (pairs_with (conflict_between state.now.problem state.now.present) class later.entry)) }
+    ensures { OnOk result (out.new
+        ≡ out.old
+        ++ pair_lines state.now.problem (pairs_with
+        (conflict_between state.now.problem state.now.present) class later.entry)) }
 {
     for other in later {
         add_pair(out, state, class, other)?;
@@ -89,7 +97,10 @@ pub fn classes_behind(state: &State, student: u32, count: u32) -> Attendance<'_>
 // Appends a line for each pair of a student's classes that nobody can attend both.
 fn add_pair_lines(out: &mut Reply, state: &State, student: u32) -> Result<(), AllocError>
     requires { student < length state.now.problem.students }
-    ensures { OnOk result (out.new ≡ out.old ++ pair_lines state.now.problem (student_pairs state.now.problem state.now.present student)) }
+    ensures { OnOk result (out.new
+        ≡ out.old
+        ++ pair_lines state.now.problem
+        (student_pairs state.now.problem state.now.present student)) }
 {
     state.problem().validity();
     state.soundness();
@@ -103,7 +114,8 @@ fn add_pair_lines(out: &mut Reply, state: &State, student: u32) -> Result<(), Al
 
 // The pairs of a student are those that are counted, and those of all students add up.
 fn pairs_add_up(state: &State, student: u32)
-    ensures { AreCounted state.now.problem state.now.present student (totals_of state.now.problem state.now.present.closures state.now.present.plan state.now.present.lists) }
+    ensures { AreCounted state.now.problem state.now.present student (totals_of state.now.problem
+        state.now.present.closures state.now.present.plan state.now.present.lists) }
 {
     state.soundness();
 }
@@ -114,8 +126,11 @@ fn pairs_add_up(state: &State, student: u32)
 #[tactic(auto, using(std::proofs::Common::append_assoc), unfolding(crate::specs::Student::student_lines))]
 pub fn student(state: &State, student: u32, out: &mut Reply) -> Result<(), AllocError>
     requires { student < length state.now.problem.students }
-    ensures lines { OnOk result (out.new ≡ out.old ++ student_lines state.now.problem state.now.present student) }
-    ensures pairs { AreCounted state.now.problem state.now.present student (totals_of state.now.problem state.now.present.closures state.now.present.plan state.now.present.lists) }
+    ensures lines { OnOk result
+        (out.new ≡ out.old ++ student_lines state.now.problem state.now.present student) }
+    ensures pairs { AreCounted state.now.problem state.now.present student (totals_of
+        state.now.problem state.now.present.closures state.now.present.plan
+        state.now.present.lists) }
 {
     pairs_add_up(state, student);
     add_class_lines(out, state, student)?;

@@ -37,7 +37,13 @@ impl ClassCosts {
 #[tactic(auto, unfolding(crate::specs::Explain::line_at, crate::specs::Explain::rule_line, crate::specs::Costs::is_costly_rule))]
 fn add_costly_rule(out: &mut Reply, state: &State, place: u32) -> Result<(), AllocError>
     requires { place < length state.now.problem.rules }
-    ensures { OnOk result (out.new ≡ out.old ++ (if is_costly_place state.now.problem (spots_of state.now.problem state.now.present.plan) place then line_at state.now.problem (spots_of state.now.problem state.now.present.plan) place else [])) }
+    ensures { OnOk result (out.new
+        ≡ out.old
+        ++ (if is_costly_place state.now.problem
+        (spots_of state.now.problem state.now.present.plan) place
+        then line_at state.now.problem (spots_of state.now.problem state.now.present.plan)
+        place
+        else [])) }
 {
     if state.problem().rule(place).required {
         return Ok(());
@@ -48,7 +54,10 @@ fn add_costly_rule(out: &mut Reply, state: &State, place: u32) -> Result<(), All
 // Appends a line for each soft rule with an amount above 0.
 #[tactic(auto, unfolding(crate::specs::Costs::costly_rule_lines))]
 fn add_costly_rules(out: &mut Reply, state: &State) -> Result<(), AllocError>
-    ensures { OnOk result (out.new ≡ out.old ++ costly_rule_lines state.now.problem (spots_of state.now.problem state.now.present.plan)) }
+    ensures { OnOk result (out.new
+        ≡ out.old
+        ++ costly_rule_lines state.now.problem
+        (spots_of state.now.problem state.now.present.plan)) }
 {
     for place in 0..state.problem().rule_count() {
         add_costly_rule(out, state, place)?;
@@ -101,7 +110,12 @@ fn add_costly_class(
     pairs: u64,
 ) -> Result<(), AllocError>
     requires { pairs ≡ pair_count state.now.problem state.now.present class }
-    ensures { OnOk result (out.new ≡ out.old ++ (if is_costly_class state.now.problem state.now.present class then class_cost_line state.now.problem class (class_costs state.now.problem state.now.present class) else [])) }
+    ensures { OnOk result (out.new
+        ≡ out.old
+        ++ (if is_costly_class state.now.problem state.now.present class
+        then class_cost_line state.now.problem class
+        (class_costs state.now.problem state.now.present class)
+        else [])) }
 {
     let costs = class_costs(state, class, pairs);
     if costs.costs_something() {
@@ -114,7 +128,8 @@ fn add_costly_class(
 // Appends a line for each class that costs something.
 #[tactic(auto, unfolding(crate::specs::Costs::costly_class_lines))]
 fn add_costly_classes(alloc: Global, state: &State, out: &mut Reply) -> Result<(), AllocError>
-    ensures { OnOk result (out.new ≡ out.old ++ costly_class_lines state.now.problem state.now.present) }
+    ensures { OnOk result
+        (out.new ≡ out.old ++ costly_class_lines state.now.problem state.now.present) }
 {
     let pairs = pair_counts(alloc, state)?;
     for class in 0..state.problem().class_count() {
@@ -125,7 +140,8 @@ fn add_costly_classes(alloc: Global, state: &State, out: &mut Reply) -> Result<(
 
 // What costs something adds up to the totals.
 fn costs_add_up(state: &State)
-    ensures { AddUp state.now.problem state.now.present (totals_of state.now.problem state.now.present.closures state.now.present.plan state.now.present.lists) }
+    ensures { AddUp state.now.problem state.now.present (totals_of state.now.problem
+        state.now.present.closures state.now.present.plan state.now.present.lists) }
 {
     state.problem().validity();
     state.soundness();
@@ -139,8 +155,10 @@ fn costs_add_up(state: &State)
 /// appended.
 #[tactic(auto, using(std::proofs::Common::append_assoc), unfolding(crate::specs::Costs::costs_lines))]
 pub fn costs(alloc: Global, state: &State, out: &mut Reply) -> Result<(), AllocError>
-    ensures lines { OnOk result (out.new ≡ out.old ++ costs_lines state.now.problem state.now.present) }
-    ensures sums { AddUp state.now.problem state.now.present (totals_of state.now.problem state.now.present.closures state.now.present.plan state.now.present.lists) }
+    ensures lines { OnOk result
+        (out.new ≡ out.old ++ costs_lines state.now.problem state.now.present) }
+    ensures sums { AddUp state.now.problem state.now.present (totals_of state.now.problem
+        state.now.present.closures state.now.present.plan state.now.present.lists) }
 {
     costs_add_up(state);
     add_costly_rules(out, state)?;

@@ -14,7 +14,9 @@ use tt_text::Reply;
 // How many students a class has in common with each other class.
 fn joint_row(alloc: Global, state: &State, class: u32) -> Result<Vec<u32>, AllocError>
     ensures whole { IfOk result (λ row. length row.items ≡ length state.now.problem.classes) }
-    ensures row { IfOk result (λ row. (other : ℕ) → slice_index row.items other ≡ joint_students state.now.present.lists class other) }
+    ensures row { IfOk result (λ row.
+        (other : ℕ)
+        → slice_index row.items other ≡ joint_students state.now.present.lists class other) }
 {
     let count = state.problem().class_count() as usize;
     let mut row = vec![in alloc; 0; count]?;
@@ -65,7 +67,11 @@ fn add_meeting(
     common: u32,
 ) -> Result<(), AllocError>
     requires { common ≡ joint_students state.now.present.lists class other }
-    ensures { OnOk result (out.new ≡ out.old ++ (if is_met state.now.problem state.now.present class other then met_line state.now.problem state.now.present class other else [])) }
+    ensures { OnOk result (out.new
+        ≡ out.old
+        ++ (if is_met state.now.problem state.now.present class other
+        then met_line state.now.problem state.now.present class other
+        else [])) }
 {
     let students = met_students(state, class, other, common);
     if students > 0 {
@@ -77,7 +83,8 @@ fn add_meeting(
 
 // The students who are counted are the conflicting pairs with the class.
 fn meetings_add_up(state: &State, class: u32)
-    ensures { all_met state.now.problem state.now.present class ≡ pair_count state.now.problem state.now.present class }
+    ensures { all_met state.now.problem state.now.present class
+        ≡ pair_count state.now.problem state.now.present class }
 {
     state.soundness();
 }
@@ -88,8 +95,10 @@ fn meetings_add_up(state: &State, class: u32)
 /// Where memory is wanting, some of the lines may have been appended.
 #[tactic(auto, unfolding(crate::specs::Meets::meets_lines))]
 pub fn meets(alloc: Global, state: &State, class: u32, out: &mut Reply) -> Result<(), AllocError>
-    ensures lines { OnOk result (out.new ≡ out.old ++ meets_lines state.now.problem state.now.present class) }
-    ensures conflicts { all_met state.now.problem state.now.present class ≡ pair_count state.now.problem state.now.present class }
+    ensures lines { OnOk result
+        (out.new ≡ out.old ++ meets_lines state.now.problem state.now.present class) }
+    ensures conflicts { all_met state.now.problem state.now.present class
+        ≡ pair_count state.now.problem state.now.present class }
 {
     meetings_add_up(state, class);
     let row = joint_row(alloc, state, class)?;

@@ -19,7 +19,11 @@ fn count_pair(counts: &mut [u64], state: &State, class: u32, other: u32)
     requires class { class < length counts.old }
     requires other { other < length counts.old }
     requires few { (x : ℕ) → slice_index counts.old x ≤ 4000000 }
-    ensures { (x : ℕ) → slice_index counts.new x ≡ slice_index counts.old x + cond (conflict_between state.now.problem state.now.present class other) (cond (class == x) 1 0 + cond (other == x) 1 0) 0 }
+    ensures { (x : ℕ)
+        → slice_index counts.new x
+        ≡ slice_index counts.old x
+        + cond (conflict_between state.now.problem state.now.present class other)
+        (cond (class == x) 1 0 + cond (other == x) 1 0) 0 }
 {
     if conflict_between(state, class, other) {
         counts[class as usize] += 1;
@@ -31,8 +35,16 @@ fn count_pair(counts: &mut [u64], state: &State, class: u32, other: u32)
 fn count_pairs_with(counts: &mut [u64], state: &State, class: u32, later: Attendance<'_>)
     requires class { class < length counts.old }
     requires later { Ascends 0 (length counts.old) later }
-    requires few { (x : ℕ) → slice_index counts.old x + times_in x (pairs_with (conflict_between state.now.problem state.now.present) class later) ≤ 4000000 }
-    ensures { (x : ℕ) → slice_index counts.new x ≡ slice_index counts.old x + times_in x (pairs_with (conflict_between state.now.problem state.now.present) class later.entry) }
+    requires few { (x : ℕ)
+        → slice_index counts.old x
+        + times_in x
+        (pairs_with (conflict_between state.now.problem state.now.present) class later)
+        ≤ 4000000 }
+    ensures { (x : ℕ)
+        → slice_index counts.new x
+        ≡ slice_index counts.old x
+        + times_in x (pairs_with (conflict_between state.now.problem state.now.present)
+        class later.entry) }
 {
     for other in later {
         count_pair(counts, state, class, other);
@@ -43,8 +55,13 @@ fn count_pairs_with(counts: &mut [u64], state: &State, class: u32, later: Attend
 fn count_student(counts: &mut [u64], state: &State, student: u32)
     requires student { student < length state.now.problem.students }
     requires whole { length counts.old ≡ length state.now.problem.classes }
-    requires few { (class : ℕ) → slice_index counts.old class + pairs_of state.now.problem state.now.present class student ≤ 4000000 }
-    ensures { (class : ℕ) → slice_index counts.new class ≡ slice_index counts.old class + pairs_of state.now.problem state.now.present class student }
+    requires few { (class : ℕ)
+        → slice_index counts.old class + pairs_of state.now.problem state.now.present class student
+        ≤ 4000000 }
+    ensures { (class : ℕ)
+        → slice_index counts.new class
+        ≡ slice_index counts.old class
+        + pairs_of state.now.problem state.now.present class student }
 {
     state.problem().validity();
     state.soundness();
@@ -57,7 +74,10 @@ fn count_student(counts: &mut [u64], state: &State, student: u32)
 
 // All students together have the conflicting pairs with a class, no more than there may be seats.
 fn counts_add_up(state: &State)
-    ensures all { (class : ℕ) → sum_by (pairs_of state.now.problem state.now.present class) (range_with_len 0 (length state.now.problem.students)) ≡ pair_count state.now.problem state.now.present class }
+    ensures all { (class : ℕ)
+        → sum_by (pairs_of state.now.problem state.now.present class)
+        (range_with_len 0 (length state.now.problem.students))
+        ≡ pair_count state.now.problem state.now.present class }
     ensures few { (class : ℕ) → pair_count state.now.problem state.now.present class ≤ 4000000 }
 {
     state.problem().validity();
@@ -69,7 +89,9 @@ fn counts_add_up(state: &State)
 /// where it isn't placed. It takes memory for them, and goes once over each list.
 pub fn pair_counts(alloc: Global, state: &State) -> Result<Vec<u64>, AllocError>
     ensures whole { IfOk result (λ counts. length counts.items ≡ length state.now.problem.classes) }
-    ensures counts { IfOk result (λ counts. (class : ℕ) → slice_index counts.items class ≡ pair_count state.now.problem state.now.present class) }
+    ensures counts { IfOk result (λ counts.
+        (class : ℕ)
+        → slice_index counts.items class ≡ pair_count state.now.problem state.now.present class) }
 {
     counts_add_up(state);
     let mut counts = vec![in alloc; 0; state.problem().class_count() as usize]?;

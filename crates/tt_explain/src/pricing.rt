@@ -27,7 +27,8 @@ pub struct ValueCosts {
 #[tactic(auto, unfolding(crate::specs::Values::value_costs))]
 fn value_costs(state: &mut State, class: u32, value: Value) -> ValueCosts
     requires value { IsOfDomain state.old.problem class value }
-    requires taken { state.old.taken ≡ conflicts_of state.old.problem state.old.present class value }
+    requires taken { state.old.taken
+        ≡ conflicts_of state.old.problem state.old.present class value }
     ensures costs { result ≡ value_costs state.old.problem state.old.present class value }
     ensures same { state.new ≡ state.old }
 {
@@ -52,7 +53,8 @@ fn add_costs(out: &mut Reply, costs: ValueCosts) -> Result<(), AllocError>
 #[tactic(auto, using(tt_state::proofs::ObstacleLemmas::not_blocked), unfolding(crate::specs::Values::price_by))]
 fn add_price(out: &mut Reply, state: &mut State, class: u32, value: Value) -> Result<(), AllocError>
     requires { IsOfDomain state.old.problem class value }
-    ensures lines { OnOk result (out.new ≡ out.old ++ price_text state.old.problem state.old.present class value) }
+    ensures lines { OnOk result
+        (out.new ≡ out.old ++ price_text state.old.problem state.old.present class value) }
     ensures same { with_taken state.new [] ≡ with_taken state.old [] }
 {
     match state.find_obstacle(class, value) {
@@ -73,7 +75,8 @@ fn add_priced_line(
     value: Value,
 ) -> Result<(), AllocError>
     requires { IsOfDomain state.old.problem class value }
-    ensures lines { OnOk result (out.new ≡ out.old ++ priced_line state.old.problem state.old.present class value) }
+    ensures lines { OnOk result
+        (out.new ≡ out.old ++ priced_line state.old.problem state.old.present class value) }
     ensures same { with_taken state.new [] ≡ with_taken state.old [] }
 {
     out.text("value ")?;
@@ -91,7 +94,8 @@ fn add_priced_line(
 /// is wanting, some of the lines may have been appended.
 pub fn values(state: &mut State, class: u32, out: &mut Reply) -> Result<(), AllocError>
     requires { class < length state.old.problem.classes }
-    ensures lines { OnOk result (out.new ≡ out.old ++ values_lines state.old.problem state.old.present class) }
+    ensures lines { OnOk result
+        (out.new ≡ out.old ++ values_lines state.old.problem state.old.present class) }
     ensures same { with_taken state.new [] ≡ with_taken state.old [] }
     ensures why { (v : Value) → IsToldByWhy state.old.problem state.old.present class v }
 {

@@ -18,7 +18,8 @@ fn add_unplaced_fault(
     class: u32,
     found: &mut Vec<Violation>,
 ) -> Result<(), AllocError>
-    ensures { OnOk result (found.new.items ≡ found.old.items ++ unplaced_fault state.now.present class) }
+    ensures { OnOk result
+        (found.new.items ≡ found.old.items ++ unplaced_fault state.now.present class) }
 {
     if value_in(state, class).is_none() {
         found.push(Violation::Missing { class })?;
@@ -29,7 +30,8 @@ fn add_unplaced_fault(
 // Adds each class that has no value.
 #[tactic(auto, using(tt_verify::proofs::WalkLemmas::pieces_more, std::proofs::Common::append_assoc))]
 fn add_unplaced_faults(state: &State, found: &mut Vec<Violation>) -> Result<(), AllocError>
-    ensures { OnOk result (found.new.items ≡ found.old.items ++ unplaced_faults state.now.problem state.now.present) }
+    ensures { OnOk result
+        (found.new.items ≡ found.old.items ++ unplaced_faults state.now.problem state.now.present) }
 {
     for class in 0..state.problem().class_count() {
         add_unplaced_fault(state, class, found)?;
@@ -46,7 +48,8 @@ fn add_enrolment_fault(
     found: &mut Vec<Violation>,
 ) -> Result<(), AllocError>
     requires { student < length state.now.problem.students }
-    ensures { OnOk result (found.new.items ≡ found.old.items ++ enrolment_fault state.now.problem state.now.present student) }
+    ensures { OnOk result (found.new.items
+        ≡ found.old.items ++ enrolment_fault state.now.problem state.now.present student) }
 {
     state.soundness();
     if state.lacks_classes(student) {
@@ -58,7 +61,8 @@ fn add_enrolment_fault(
 // Adds each student whose list is no valid enrolment.
 #[tactic(auto, using(tt_verify::proofs::WalkLemmas::pieces_more, std::proofs::Common::append_assoc))]
 fn add_enrolment_faults(state: &State, found: &mut Vec<Violation>) -> Result<(), AllocError>
-    ensures { OnOk result (found.new.items ≡ found.old.items ++ enrolment_faults state.now.problem state.now.present) }
+    ensures { OnOk result (found.new.items
+        ≡ found.old.items ++ enrolment_faults state.now.problem state.now.present) }
 {
     for student in 0..state.problem().student_count() {
         add_enrolment_fault(state, student, found)?;
@@ -69,7 +73,8 @@ fn add_enrolment_faults(state: &State, found: &mut Vec<Violation>) -> Result<(),
 // All that is wrong in the present snapshot.
 #[tactic(auto, using(std::proofs::Common::append_assoc), unfolding(crate::specs::Violations::present_violations))]
 fn present_violations(alloc: Global, state: &State) -> Result<Vec<Violation>, AllocError>
-    ensures { IfOk result (λ found. found.items ≡ present_violations state.now.problem state.now.present) }
+    ensures { IfOk result
+        (λ found. found.items ≡ present_violations state.now.problem state.now.present) }
 {
     let score = state.score();
     let spots = score.occupancy().spots();
@@ -87,12 +92,16 @@ fn present_violations(alloc: Global, state: &State) -> Result<Vec<Violation>, Al
 /// memory is wanting, some of the lines may have been appended.
 #[tactic(auto, using(std::proofs::Common::append_assoc), unfolding(crate::specs::Violations::violations_lines))]
 pub fn violations(alloc: Global, state: &State, out: &mut Reply) -> Result<(), AllocError>
-    ensures lines { OnOk result (out.new ≡ out.old ++ violations_lines state.now.problem state.now.present) }
+    ensures lines { OnOk result
+        (out.new ≡ out.old ++ violations_lines state.now.problem state.now.present) }
     ensures count { OnOk result (length (present_violations state.now.problem state.now.present)
-        ≡ fault_count (totals_of state.now.problem state.now.present.closures state.now.present.plan state.now.present.lists)) }
+        ≡ fault_count (totals_of state.now.problem state.now.present.closures state.now.present.plan
+        state.now.present.lists)) }
     ensures hard { OnOk result (length (hard_faults state.now.problem state.now.present)
-        ≡ (totals_of state.now.problem state.now.present.closures state.now.present.plan state.now.present.lists).hard) }
-    ensures ready { OnOk result ((present_violations state.now.problem state.now.present ≡ []) ↔ (is_ready state.now.problem state.now.present ≡ true)) }
+        ≡ (totals_of state.now.problem state.now.present.closures state.now.present.plan
+        state.now.present.lists).hard) }
+    ensures ready { OnOk result ((present_violations state.now.problem state.now.present ≡ [])
+        ↔ (is_ready state.now.problem state.now.present ≡ true)) }
 {
     state.soundness();
     let found = present_violations(alloc, state)?;

@@ -32,7 +32,9 @@ impl Model for Flags {
 // The number of the flag at a place among those that are set from one flag on.
 fn nth_from(flags: &[bool], first: usize, place: u64) -> Option<u32>
     requires few { length flags.now < 2 ^ 32 }
-    ensures number { result ≡ slice_get (filter (is_set flags.now) (range_with_len first (length flags.now - first))) place }
+    ensures number { result
+        ≡ slice_get (filter (is_set flags.now) (range_with_len first (length flags.now - first)))
+        place }
 {
     let mut left = place;
     for number in first..flags.len() {

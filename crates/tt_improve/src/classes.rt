@@ -40,7 +40,9 @@ fn look_at(state: &mut State, class: u32, value: Value, others: u64, best: Best)
     ensures problem { state.new.problem ≡ state.old.problem }
     ensures present { state.new.present ≡ state.old.present }
     ensures entries { state.new.entries ≡ state.old.entries }
-    ensures better { result ≡ better (is_free state.old.problem state.old.present class) (total_with state.old.problem state.old.present class) best value }
+    ensures better { result
+        ≡ better (is_free state.old.problem state.old.present class)
+        (total_with state.old.problem state.old.present class) best value }
 {
     if has_value(state, class, value) {
         return best;
@@ -67,7 +69,8 @@ fn lower_value(state: &mut State, class: u32) -> Option<Value>
     ensures problem { state.new.problem ≡ state.old.problem }
     ensures present { state.new.present ≡ state.old.present }
     ensures entries { state.new.entries ≡ state.old.entries }
-    ensures value { moved_class state.old.problem state.old.present class ≡ option_map (λ v. with_value state.old.present class (Some v)) result }
+    ensures value { moved_class state.old.problem state.old.present class
+        ≡ option_map (λ v. with_value state.old.present class (Some v)) result }
     ensures lower { IfSome result (IsLower state.old.problem state.old.present class) }
 {
     let mut best = Best {
@@ -88,9 +91,12 @@ pub(crate) fn move_class(state: &mut State, class: u32) -> Result<bool, AllocErr
     requires class { IsMovable state.old.problem state.old.present class }
     requires step { 0 < length (earlier state.old) }
     ensures step { IsWithinStep (with_taken state.old []) (with_taken state.new []) }
-    ensures moved { IfOk result (λ moved. moved_class state.old.problem state.old.present class ≡ cond moved (Some state.new.present) None) }
+    ensures moved { IfOk result (λ moved.
+        moved_class state.old.problem state.old.present class
+        ≡ cond moved (Some state.new.present) None) }
     ensures same { IfOk result (λ moved. moved ≡ false → state.new.present ≡ state.old.present) }
-    ensures no_worse { OnOk result (IsNoWorse state.old.problem state.old.present state.new.present) }
+    ensures no_worse { OnOk result
+        (IsNoWorse state.old.problem state.old.present state.new.present) }
 {
     state.problem().validity();
     state.soundness();

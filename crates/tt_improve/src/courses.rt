@@ -30,8 +30,11 @@ impl StudentList {
         course: u32,
     ) -> Result<StudentList, AllocError>
         requires { student < length state.now.problem.students }
-        ensures own { IfOk result (λ list. list.own.items ≡ own_of state.now.problem course (list_in state.now.present student)) }
-        ensures rest { IfOk result (λ list. list.rest.items ≡ rest_of state.now.problem course (list_in state.now.present student)) }
+        ensures own { IfOk result (λ list.
+            list.own.items ≡ own_of state.now.problem course (list_in state.now.present student)) }
+        ensures rest { IfOk result (λ list.
+            list.rest.items
+            ≡ rest_of state.now.problem course (list_in state.now.present student)) }
     {
         state.soundness();
         let mut own = Vec::new(alloc);
@@ -59,15 +62,23 @@ fn fewer_pairs(
     buffers: &mut ChoiceBuffers,
 ) -> Option<usize>
     requires target { IsSeatedIn state.now.problem state.now.present student course }
-    requires rest { rest.now ≡ rest_of state.now.problem course (list_in state.now.present student) }
+    requires rest { rest.now
+        ≡ rest_of state.now.problem course (list_in state.now.present student) }
     requires own { own.now ≡ own_of state.now.problem course (list_in state.now.present student) }
     requires room { HasRoom state.now.problem buffers.old }
     ensures room { HasRoom state.now.problem buffers.new }
     ensures within { IfSome result (λ size. size ≤ length buffers.new.best.items) }
     ensures choice { replaced_by state.now.problem state.now.present student course rest.now own.now
-        ≡ option_map (λ size. with_list state.now.present student (classes_in_order (rest.now ++ take size buffers.new.best.items))) result }
-    ensures may { IfSome result (λ size. MayGet state.now.problem state.now.present.lists student (rest.now ++ take size buffers.new.best.items)) }
-    ensures no_worse { IfSome result (λ size. IsNoWorse state.now.problem state.now.present (with_list state.now.present student (classes_in_order (rest.now ++ take size buffers.new.best.items)))) }
+        ≡ option_map
+        (λ size.
+        with_list state.now.present student
+        (classes_in_order (rest.now ++ take size buffers.new.best.items))) result }
+    ensures may { IfSome result (λ size.
+        MayGet state.now.problem state.now.present.lists student
+        (rest.now ++ take size buffers.new.best.items)) }
+    ensures no_worse { IfSome result (λ size.
+        IsNoWorse state.now.problem state.now.present (with_list state.now.present student
+        (classes_in_order (rest.now ++ take size buffers.new.best.items)))) }
 {
     state.soundness();
     state.problem().validity();
@@ -97,9 +108,12 @@ pub(crate) fn move_student(
     requires room { HasRoom state.old.problem buffers.old }
     ensures room { HasRoom state.old.problem buffers.new }
     ensures step { IsWithinStep state.old state.new }
-    ensures moved { IfOk result (λ moved. moved_student state.old.problem state.old.present student course ≡ cond moved (Some state.new.present) None) }
+    ensures moved { IfOk result (λ moved.
+        moved_student state.old.problem state.old.present student course
+        ≡ cond moved (Some state.new.present) None) }
     ensures same { IfOk result (λ moved. moved ≡ false → state.new.present ≡ state.old.present) }
-    ensures no_worse { OnOk result (IsNoWorse state.old.problem state.old.present state.new.present) }
+    ensures no_worse { OnOk result
+        (IsNoWorse state.old.problem state.old.present state.new.present) }
 {
     if !has_pair(state, student, course) {
         return Ok(false);

@@ -38,9 +38,11 @@ struct Descent {
 impl Descent {
     // Before the first round.
     fn new(alloc: Global, state: &State) -> Result<Descent, AllocError>
-        ensures targets { IfOk result (λ descent. targets_in descent.targets ≡ targets_of state.now.problem state.now.present) }
+        ensures targets { IfOk result (λ descent.
+            targets_in descent.targets ≡ targets_of state.now.problem state.now.present) }
         ensures few { IfOk result (λ descent. length (targets_in descent.targets) ≤ 2 ^ 32) }
-        ensures idle { IfOk result (λ descent. KnowsIdle state.now.problem state.now.present descent.targets 1) }
+        ensures idle { IfOk result
+            (λ descent. KnowsIdle state.now.problem state.now.present descent.targets 1) }
         ensures room { IfOk result (λ descent. HasRoom state.now.problem descent.buffers) }
     {
         let targets = Targets::new(alloc, state)?;
@@ -62,9 +64,12 @@ fn make_round(
     requires room { HasRoom state.old.problem buffers.old }
     ensures room { HasRoom state.old.problem buffers.new }
     ensures step { IsWithinStep (with_taken state.old []) (with_taken state.new []) }
-    ensures moved { IfOk result (λ moved. moved_by state.old.problem state.old.present target ≡ cond moved (Some state.new.present) None) }
+    ensures moved { IfOk result (λ moved.
+        moved_by state.old.problem state.old.present target
+        ≡ cond moved (Some state.new.present) None) }
     ensures same { IfOk result (λ moved. moved ≡ false → state.new.present ≡ state.old.present) }
-    ensures no_worse { OnOk result (IsNoWorse state.old.problem state.old.present state.new.present) }
+    ensures no_worse { OnOk result
+        (IsNoWorse state.old.problem state.old.present state.new.present) }
 {
     match target {
         Target::Class { class } => move_class(state, class),
@@ -81,7 +86,8 @@ fn make_round_at(
     place: usize,
     stage: u32,
 ) -> Result<bool, AllocError>
-    requires targets { targets_in descent.old.targets ≡ targets_of state.old.problem state.old.present }
+    requires targets { targets_in descent.old.targets
+        ≡ targets_of state.old.problem state.old.present }
     requires place { place < length (targets_in descent.old.targets) }
     requires idle { KnowsIdle state.old.problem state.old.present descent.old.targets stage }
     requires step { 0 < length (earlier state.old) }
@@ -89,10 +95,15 @@ fn make_round_at(
     ensures room { HasRoom state.old.problem descent.new.buffers }
     ensures step { IsWithinStep (with_taken state.old []) (with_taken state.new []) }
     ensures targets { targets_in descent.new.targets ≡ targets_in descent.old.targets }
-    ensures moved { IfOk result (λ moved. moved_at state.old.problem state.old.present (targets_in descent.old.targets) place ≡ cond moved (Some state.new.present) None) }
+    ensures moved { IfOk result (λ moved.
+        moved_at state.old.problem state.old.present (targets_in descent.old.targets) place
+        ≡ cond moved (Some state.new.present) None) }
     ensures same { IfOk result (λ moved. moved ≡ false → state.new.present ≡ state.old.present) }
-    ensures idle { IfOk result (λ moved. KnowsIdle state.old.problem state.new.present descent.new.targets (stage + cond moved 1 0)) }
-    ensures no_worse { OnOk result (IsNoWorse state.old.problem state.old.present state.new.present) }
+    ensures idle { IfOk result (λ moved.
+        KnowsIdle state.old.problem state.new.present descent.new.targets
+        (stage + cond moved 1 0)) }
+    ensures no_worse { OnOk result
+        (IsNoWorse state.old.problem state.old.present state.new.present) }
 {
     let Some(target) = descent.targets.due(place, stage) else {
         return Ok(false);
@@ -112,14 +123,18 @@ fn descend<W: Watcher>(
     seed: u64,
     watcher: &mut W,
 ) -> Result<Improved, AllocError>
-    requires targets { targets_in descent.old.targets ≡ targets_of state.old.problem state.old.present }
+    requires targets { targets_in descent.old.targets
+        ≡ targets_of state.old.problem state.old.present }
     requires few { length (targets_in descent.old.targets) ≤ 2 ^ 32 }
     requires idle { KnowsIdle state.old.problem state.old.present descent.old.targets 1 }
     requires room { HasRoom state.old.problem descent.old.buffers }
     requires step { 0 < length (earlier state.old) }
     ensures step { IsWithinStep (with_taken state.old []) (with_taken state.new []) }
-    ensures end { IfOk result (λ n. so_far state.new.present n.rounds n.changed ≡ improved state.old.problem rounds seed state.old.present) }
-    ensures no_worse { OnOk result (IsNoWorse state.old.problem state.old.present state.new.present) }
+    ensures end { IfOk result (λ n.
+        so_far state.new.present n.rounds n.changed
+        ≡ improved state.old.problem rounds seed state.old.present) }
+    ensures no_worse { OnOk result
+        (IsNoWorse state.old.problem state.old.present state.new.present) }
 {
     let mut words = Lcg64Xsh32::new(seed, 1);
     let mut changed = 0;
@@ -150,8 +165,11 @@ fn improve_in_step<W: Watcher>(
 ) -> Result<Improved, AllocError>
     ensures problem { state.new.problem ≡ state.old.problem }
     ensures earlier { OnOk result (earlier state.new ≡ state.old.present ∷ earlier state.old) }
-    ensures end { IfOk result (λ n. so_far state.new.present n.rounds n.changed ≡ improved state.old.problem rounds seed state.old.present) }
-    ensures no_worse { OnOk result (IsNoWorse state.old.problem state.old.present state.new.present) }
+    ensures end { IfOk result (λ n.
+        so_far state.new.present n.rounds n.changed
+        ≡ improved state.old.problem rounds seed state.old.present) }
+    ensures no_worse { OnOk result
+        (IsNoWorse state.old.problem state.old.present state.new.present) }
     ensures present { OnErr result (state.new.present ≡ state.old.present) }
     ensures entries { OnErr result (state.new.entries ≡ state.old.entries) }
 {
@@ -182,12 +200,17 @@ pub fn improve<W: Watcher>(
     watcher: &mut W,
 ) -> Result<Improved, AllocError>
     ensures desk { OnOk result (desk_of state.new ≡ stepped (desk_of state.old) state.new.present) }
-    ensures end { IfOk result (λ n. so_far state.new.present n.rounds n.changed ≡ improved state.old.problem rounds seed state.old.present) }
-    ensures total { OnOk result ((totals_in state.old.problem state.new.present).total ≤ (totals_in state.old.problem state.old.present).total) }
-    ensures hard { OnOk result ((totals_in state.old.problem state.new.present).hard ≤ (totals_in state.old.problem state.old.present).hard) }
+    ensures end { IfOk result (λ n.
+        so_far state.new.present n.rounds n.changed
+        ≡ improved state.old.problem rounds seed state.old.present) }
+    ensures total { OnOk result ((totals_in state.old.problem state.new.present).total
+        ≤ (totals_in state.old.problem state.old.present).total) }
+    ensures hard { OnOk result ((totals_in state.old.problem state.new.present).hard
+        ≤ (totals_in state.old.problem state.old.present).hard) }
     ensures statistics { OnOk result (state.new.present.statistics ≡ state.old.present.statistics) }
     ensures closures { OnOk result (state.new.present.closures ≡ state.old.present.closures) }
-    ensures locked { OnOk result ((class : ℕ) → StaysLocked state.old.present state.new.present class) }
+    ensures locked { OnOk result
+        ((class : ℕ) → StaysLocked state.old.present state.new.present class) }
     ensures err { OnErr result (with_taken state.new [] ≡ with_taken state.old []) }
 {
     improve_in_step(alloc, state, rounds, seed, watcher)

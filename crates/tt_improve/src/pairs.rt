@@ -40,7 +40,9 @@ fn conflicts_at(travel: &Travel, spots: &[Option<Spot>], spot: &Spot, class: u32
 fn meets_another(state: &State, student: u32, class: u32) -> bool
     requires student { student < length state.now.problem.students }
     requires class { class < length state.now.problem.classes }
-    ensures { result ≡ meets_another state.now.problem state.now.present (list_in state.now.present student) class }
+    ensures { result
+        ≡ meets_another state.now.problem state.now.present (list_in state.now.present student)
+        class }
 {
     state.soundness();
     state.problem().validity();
@@ -61,9 +63,14 @@ fn meets_another(state: &State, student: u32, class: u32) -> bool
 // none does, the student's own classes of the course add no pair to the rest of the list.
 pub(crate) fn has_pair(state: &State, student: u32, course: u32) -> bool
     requires { student < length state.now.problem.students }
-    ensures pair { result ≡ has_pair state.now.problem state.now.present course (list_in state.now.present student) }
-    ensures none { result ≡ false → pairs_added (beside state.now.problem state.now.present student (rest_of state.now.problem course (list_in state.now.present student)))
-        (own_of state.now.problem course (list_in state.now.present student)) ≡ 0 }
+    ensures pair { result
+        ≡ has_pair state.now.problem state.now.present course (list_in state.now.present student) }
+    ensures none { result ≡ false
+        → pairs_added
+        (beside state.now.problem state.now.present student
+        (rest_of state.now.problem course (list_in state.now.present student)))
+        (own_of state.now.problem course (list_in state.now.present student))
+        ≡ 0 }
 {
     state.soundness();
     for class in state.classes_of(student) {

@@ -36,7 +36,10 @@ fn is_movable(state: &State, class: u32) -> bool
 
 // Adds the placed classes that aren't locked, in the problem's order.
 fn add_classes(state: &State, targets: &mut Vec<Target>) -> Result<(), AllocError>
-    ensures { OnOk result (targets.new.items ≡ targets.old.items ++ map (λ class. Target.Class class) (movable_classes state.now.problem state.now.present)) }
+    ensures { OnOk result (targets.new.items
+        ≡ targets.old.items
+        ++ map (λ class. Target.Class class)
+        (movable_classes state.now.problem state.now.present)) }
 {
     for class in 0..state.problem().class_count() {
         if is_movable(state, class) {
@@ -57,7 +60,9 @@ fn has_no_class(state: &State, student: u32) -> bool
 // Adds the courses of a student who has classes.
 fn add_courses_of(state: &State, student: u32, targets: &mut Vec<Target>) -> Result<(), AllocError>
     requires { student < length state.now.problem.students }
-    ensures { OnOk result (targets.new.items ≡ targets.old.items ++ courses_with state.now.problem student (list_in state.now.present student)) }
+    ensures { OnOk result (targets.new.items
+        ≡ targets.old.items
+        ++ courses_with state.now.problem student (list_in state.now.present student)) }
 {
     if has_no_class(state, student) {
         return Ok(());
@@ -73,7 +78,8 @@ fn add_courses_of(state: &State, student: u32, targets: &mut Vec<Target>) -> Res
 
 // Adds the courses of each student who has classes, in order.
 fn add_courses(state: &State, targets: &mut Vec<Target>) -> Result<(), AllocError>
-    ensures { OnOk result (targets.new.items ≡ targets.old.items ++ seated_courses state.now.problem state.now.present) }
+    ensures { OnOk result (targets.new.items
+        ≡ targets.old.items ++ seated_courses state.now.problem state.now.present) }
 {
     for student in 0..state.problem().student_count() {
         add_courses_of(state, student, targets)?;
@@ -84,7 +90,8 @@ fn add_courses(state: &State, targets: &mut Vec<Target>) -> Result<(), AllocErro
 /// The targets of the present snapshot: the placed classes that aren't locked, and then the courses of
 /// each student who has classes.
 pub fn targets_of(alloc: Global, state: &State) -> Result<Vec<Target>, AllocError>
-    ensures targets { IfOk result (λ targets. targets.items ≡ targets_of state.now.problem state.now.present) }
+    ensures targets { IfOk result
+        (λ targets. targets.items ≡ targets_of state.now.problem state.now.present) }
     ensures few { IfOk result (λ targets. length targets.items ≤ 2 ^ 32) }
 {
     state.problem().validity();
@@ -124,9 +131,11 @@ pub(crate) struct Targets {
 impl Targets {
     // The targets of the present snapshot, before the first round.
     pub(crate) fn new(alloc: Global, state: &State) -> Result<Targets, AllocError>
-        ensures targets { IfOk result (λ targets. targets_in targets ≡ targets_of state.now.problem state.now.present) }
+        ensures targets { IfOk result
+            (λ targets. targets_in targets ≡ targets_of state.now.problem state.now.present) }
         ensures few { IfOk result (λ targets. length (targets_in targets) ≤ 2 ^ 32) }
-        ensures idle { IfOk result (λ targets. KnowsIdle state.now.problem state.now.present targets 1) }
+        ensures idle { IfOk result
+            (λ targets. KnowsIdle state.now.problem state.now.present targets 1) }
     {
         let targets = targets_of(alloc, state)?;
         let table = unlooked(alloc, targets.as_slice())?;
@@ -144,7 +153,8 @@ impl Targets {
     // The place of the target that a random word draws, none where there is no target.
     pub(crate) fn draw(&self, word: u32) -> Option<usize>
         requires { length (targets_in self.now) ≤ 2 ^ 32 }
-        ensures place { IfSome result (λ place. place ≡ drawn_place word (length (targets_in self.now))) }
+        ensures place { IfSome result
+            (λ place. place ≡ drawn_place word (length (targets_in self.now))) }
         ensures within { IfSome result (λ place. place < length (targets_in self.now)) }
         ensures none { IfNone result (drawn word (targets_in self.now) ≡ None) }
     {
@@ -159,7 +169,8 @@ impl Targets {
     // The target at a place, unless a round was made on it in a stage.
     pub(crate) fn due(&self, place: usize, stage: u32) -> Option<Target>
         requires { place < length (targets_in self.now) }
-        ensures target { IfSome result (λ target. slice_get (targets_in self.now) place ≡ Some target) }
+        ensures target { IfSome result
+            (λ target. slice_get (targets_in self.now) place ≡ Some target) }
         ensures made { is_none result ≡ (slice_index (stages_in self.now) place == stage) }
     {
         let looked = self.table[place];

@@ -32,7 +32,9 @@ impl Object {
 
     /// With this value at the key.
     pub fn with(mut self, key: &str, value: Value) -> Result<Object, AllocError>
-        ensures { IfOk result (λ o. members_view o.members.entries ≡ put key.now (view value) (members_view self.members.entries)) }
+        ensures { IfOk result (λ o.
+            members_view o.members.entries
+            ≡ put key.now (view value) (members_view self.members.entries)) }
     {
         serde_json::put(&mut self.members, self.alloc, key, value)?;
         Ok(self)
@@ -40,7 +42,9 @@ impl Object {
 
     /// With this value at the key, where there is one.
     pub fn with_if(self, key: &str, value: Option<Value>) -> Result<Object, AllocError>
-        ensures { IfOk result (λ o. members_view o.members.entries ≡ put_if key.now (option_map view value) (members_view self.members.entries)) }
+        ensures { IfOk result (λ o.
+            members_view o.members.entries
+            ≡ put_if key.now (option_map view value) (members_view self.members.entries)) }
     {
         match value {
             Some(value) => self.with(key, value),
@@ -50,14 +54,18 @@ impl Object {
 
     /// With this number at the key.
     pub fn number(self, key: &str, n: u32) -> Result<Object, AllocError>
-        ensures { IfOk result (λ o. members_view o.members.entries ≡ put key.now (number (unsigned n)) (members_view self.members.entries)) }
+        ensures { IfOk result (λ o.
+            members_view o.members.entries
+            ≡ put key.now (number (unsigned n)) (members_view self.members.entries)) }
     {
         self.with(key, Value::from(n))
     }
 
     /// With this text at the key.
     pub fn text(self, key: &str, text: &str) -> Result<Object, AllocError>
-        ensures { IfOk result (λ o. members_view o.members.entries ≡ put key.now (string text.now) (members_view self.members.entries)) }
+        ensures { IfOk result (λ o.
+            members_view o.members.entries
+            ≡ put key.now (string text.now) (members_view self.members.entries)) }
     {
         let value = Value::try_from_str(self.alloc, text)?;
         self.with(key, value)
@@ -65,7 +73,9 @@ impl Object {
 
     /// With this truth value at the key.
     pub fn truth(self, key: &str, truth: bool) -> Result<Object, AllocError>
-        ensures { IfOk result (λ o. members_view o.members.entries ≡ put key.now (boolean truth) (members_view self.members.entries)) }
+        ensures { IfOk result (λ o.
+            members_view o.members.entries
+            ≡ put key.now (boolean truth) (members_view self.members.entries)) }
     {
         self.with(key, Value::Bool(truth))
     }

@@ -154,7 +154,9 @@ fn enter(spots: &mut [Option<Spot>], by_room: &mut Pool, class: u32, spot: Spot)
     spots[class as usize] = Some(spot);
     match spot.room {
         None => {}
-        Some(room) => by_room.insert_in_order(room, class),
+        Some(room) => {
+            by_room.insert_in_order(room, class);
+        }
     }
 }
 

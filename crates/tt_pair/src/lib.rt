@@ -38,12 +38,17 @@ impl PairGroup {
         requires { members ≤ most_members }
         ensures held { IfOk result (λ g. ⟦<PairGroup as Measure>⟧.held g ≡ replicate members None) }
         ensures weeks { IfOk result (λ g. ⟦<PairGroup as Measure>⟧.weeks g ≡ most_weeks) }
-        ensures shape { IfOk result (λ g. ⟦<PairGroup as Measure>⟧.shape g ≡ pair_shape kind members) }
+        ensures shape { IfOk result
+            (λ g. ⟦<PairGroup as Measure>⟧.shape g ≡ pair_shape kind members) }
         // Its amounts are the pairs that break the rule.
-        ensures sum { IfOk result (λ g. (t : Table) (h : List (Option Spot)) →
-            ⟦<PairGroup as Measure>⟧.sum (⟦<PairGroup as Measure>⟧.shape g) t h ≡ violated_pairs kind t h) }
-        ensures delta { IfOk result (λ g. (t : Table) (h : List (Option Spot)) (p : ℕ) (x : Spot) →
-            ⟦<PairGroup as Measure>⟧.delta (⟦<PairGroup as Measure>⟧.shape g) t h p x ≡ pos (violated_with kind t h p x)) }
+        ensures sum { IfOk result (λ g.
+            (t : Table) (h : List (Option Spot))
+            → ⟦<PairGroup as Measure>⟧.sum (⟦<PairGroup as Measure>⟧.shape g) t h
+            ≡ violated_pairs kind t h) }
+        ensures delta { IfOk result (λ g.
+            (t : Table) (h : List (Option Spot)) (p : ℕ) (x : Spot)
+            → ⟦<PairGroup as Measure>⟧.delta (⟦<PairGroup as Measure>⟧.shape g) t h p x
+            ≡ pos (violated_with kind t h p x)) }
         ensures most { IfOk result (λ g. (n : ℕ) →
             ⟦<PairGroup as Measure>⟧.most (⟦<PairGroup as Measure>⟧.shape g) n ≡ n * (n - 1) / 2) }
         ensures fits { IfOk result (λ g. (t : Table) → ⟦<PairGroup as Measure>⟧.fits g t) }
@@ -61,7 +66,8 @@ impl PairGroup {
         requires rooms { AreRoomsOf travel.now self.now.held.items }
         requires room { IsRoomOf travel.now spot.now.room }
         requires place { place < length self.now.held.items }
-        ensures count { result ≡ violated_with self.now.kind travel.now self.now.held.items place spot.now }
+        ensures count { result
+            ≡ violated_with self.now.kind travel.now self.now.held.items place spot.now }
         ensures few { result ≤ most_members }
     {
         let held = self.held.as_slice();
@@ -145,7 +151,8 @@ fn violated_by(
 ) -> u64
     requires room { IsRoomOf travel.now spot.now.room }
     requires rooms { AreRoomsOf travel.now members.now }
-    ensures count { result ≡ count_by (is_violated_by kind travel.now spot.now listed) (placed members.now) }
+    ensures count { result
+        ≡ count_by (is_violated_by kind travel.now spot.now listed) (placed members.now) }
     ensures few { result ≤ length members.now }
 {
     let mut violated = 0;
@@ -168,7 +175,8 @@ pub fn is_violated_by(
 ) -> bool
     requires room { IsRoomOf travel.now spot.now.room }
     requires other_room { IfSome member.now (λ y. IsRoomOf travel.now y.room) }
-    ensures { result ≡ option_map_or (is_violated_by kind travel.now spot.now listed) member.now false }
+    ensures { result
+        ≡ option_map_or (is_violated_by kind travel.now spot.now listed) member.now false }
 {
     let Some(other) = member else {
         return false;

@@ -29,7 +29,8 @@ fn first_index(rooms: &[RoomChoice], room: u32) -> Option<usize>
 // The same, as a value names it; `None` also where there is no room.
 fn first_place(rooms: &[RoomChoice], room: Option<u32>) -> Option<u16>
     requires { length rooms.now ≤ 1000 }
-    ensures place { result ≡ option_and_then (λ room. position (λ r. r.room == room) rooms.now) room }
+    ensures place { result
+        ≡ option_and_then (λ room. position (λ r. r.room == room) rooms.now) room }
     ensures within { IfSome result (λ place. place < length rooms.now) }
 {
     match room {

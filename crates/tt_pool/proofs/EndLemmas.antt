@@ -1,22 +1,22 @@
 -- The places at the end of a chain, and the way back from there.
-use Rattle.std.proofs.Common.{◌≡◌, ◌≢◌, ◌∙◌, sym, ap, refl, inl, inr, ℕ, ◌+◌, ◌-◌, ◌<◌, ◌≤◌, suc, List, [], ◌∷◌, ◌++◌, length, get_or, map, arith}
+use Rattle.std.proofs.Common.{◌≡◌, ◌≢◌, ◌∙◌, sym, ap, refl, inl, inr, ℕ, ◌+◌, ◌-◌, ◌<◌, ◌≤◌, zero, suc, List, [], ◌∷◌, ◌++◌, length, get_or, map, arith}
 use Rattle.std.specs.Prelude.{◌==◌, nat_lt, slice_index, slice_index_or, slice_set}
 use Rattle.std.specs.List.{insert, remove, position_or_len}
 use Rattle.std.specs.List.Sorted.{IsNonDecreasing}
-use Rattle.std.proofs.lemmas.Bool.{cases_eq}
-use Rattle.std.proofs.lemmas.List.{get_or_append_left, get_or_push}
+use Rattle.std.proofs.lemmas.Bool.{cases_eq, cases_lt, eq-eqb, ne_eqb}
+use Rattle.std.proofs.lemmas.List.{get_or-map, get_or_append_left, get_or_push, length_push}
 use Rattle.tt_pool.specs.declared.chain.Link.{Link}
 use Rattle.tt_pool.specs.declared.chain.Node.{Node}
 use Rattle.tt_pool.specs.declared.chain.Chain.{Chain}
 use Rattle.tt_pool.specs.declared.places.Place.{Place}
-use Rattle.tt_pool.specs.Chains.{no_node, no_link, item_of, after, chain_of, uses, IsChain, IsPlace, back_of, LeadsBack}
-use Rattle.tt_pool.specs.Pools.{chains_of, chain_at, IsPool, IsBacked}
-use Rattle.tt_pool.proofs.Paths.{after_used, on_way, next_on_way, path-get_or, length-path}
+use Rattle.tt_pool.specs.Chains.{no_node, no_link, next_of, item_of, after, chain_of, uses, IsChain, IsPlace, IsNodeAt, StandsAt, back_of, LeadsBack}
+use Rattle.tt_pool.specs.Pools.{chains_of, chain_at, place_in, IsPool, IsBacked}
+use Rattle.tt_pool.proofs.Paths.{after_more, after_used, on_way, next_on_way, path-get_or, length-path}
 use Rattle.tt_pool.proofs.Moves.{IsChain-from_pair}
 use Rattle.tt_pool.proofs.Search.{item-get_or, length-items, found_at}
 use Rattle.tt_pool.proofs.PoolLemmas.{pair_with_free, length-chains_of, chains_of-get_or}
 use Rattle.tt_pool.proofs.OrderLemmas.{none_above, last_taken}
-use Rattle.tt_pool.proofs.Ways.{AreApart, back_last, back_on_way, behind_within, behind_below, IsBacked-put, IsBacked-taken}
+use Rattle.tt_pool.proofs.Ways.{other_than, once_first, once_rest, AreApart, back_last, back_on_way, behind_within, behind_below, IsBacked-put, IsBacked-taken}
 
 pub IsPlace-next : (nodes : List Node) (chain : Chain) (place : Place) → IsPlace nodes chain place → place.at ≢ 0 → place.at < chain.len
     → IsPlace nodes chain (record { at = place.at + 1; before = (slice_index_or nodes place.before.0 no_node).next })
@@ -184,16 +184,130 @@ backed-put nodes lists free backs l behind place before s place_is some first ot
     (before_is nodes (chain_at lists l) place before place_is first other
     ∙ ap (λ (t : List ℕ). get_or (0 ∷ t) place.at 0) (sym (chains_of-get_or nodes lists l s.within)))
 
-pub backed-taken : (nodes : List Node) (lists : List Chain) (free : Chain) (backs : List Link) (l behind : ℕ) (place : Place) (before : Link)
-    → IsBehind nodes lists free backs l (place.at + 1) behind → IsPlace nodes (chain_at lists l) place
-    → (place.at ≡ 0 → before.0 ≡ 0) → (place.at ≢ 0 → before.0 ≡ place.before.0)
-    → IsBacked (slice_set backs behind before) (length nodes)
-    (slice_set (chains_of nodes lists) l (remove (slice_index_or (chains_of nodes lists) l []) place.at))
-backed-taken nodes lists free backs l behind place before s place_is first other =
+-- each node of a list stands at one place
+own_place : (xs : List ℕ) (at : ℕ) → ((p : ℕ) → uses p xs ≤ 1) → at < length xs → position_or_len (λ x. x == get_or xs at 0) xs ≡ at
+own_place [] at once lt = absurd (omega arith)
+own_place (x ∷ xs) zero once lt = rw (eq-eqb x x refl) refl
+own_place (x ∷ xs) (suc at) once lt =
+    let ne : x ≢ get_or xs at 0 = other_than x at xs (once_first x xs once) (omega arith) in
+    let rest = own_place xs at (once_rest x xs once) (omega arith) in
+    rw (ne_eqb x (get_or xs at 0) ne) (omega (arith, rest))
+
+pub node_place : (nodes : List Node) (chain : Chain) (at node : ℕ) → IsChain nodes (chain_of nodes chain) → at < chain.len
+    → node ≡ after nodes at chain.first.0 → place_in (chain_of nodes chain) node ≡ at
+node_place nodes chain at node s lt is =
+    let same : node ≡ get_or (chain_of nodes chain) at 0 = is ∙ sym (path-get_or nodes at chain.len chain.first.0 lt) in
+    rw same (own_place (chain_of nodes chain) at s.once (rw length-path lt))
+
+-- where a node stands that is the last one
+last_place : (nodes : List Node) (backs : List Link) (end : ℕ) (chain : Chain) (at : ℕ) (node : Link) → StandsAt nodes backs end chain at node
+    → back_of backs end ≡ node.0 → at + 1 ≡ chain.len
+last_place nodes backs end chain at node s same =
+    let within = s.within in
+    let last : node.0 ≡ after nodes (chain.len - 1) chain.first.0 = sym same ∙ back_last nodes backs chain end s.leads (omega arith) in
+    let here = node_place nodes chain at node.0 s.chain_is s.within s.node_is in
+    let there = node_place nodes chain (chain.len - 1) node.0 s.chain_is (omega arith) last in
+    omega arith
+
+pub behind_last : (nodes : List Node) (backs : List Link) (end : ℕ) (chain : Chain) (at : ℕ) (node : Link) → StandsAt nodes backs end chain at node
+    → back_of backs end ≡ node.0 → end ≡ slice_index (chain_of nodes chain ++ end ∷ []) (at + 1)
+behind_last nodes backs end chain at node s same = end_is nodes chain (at + 1) end (last_place nodes backs end chain at node s same)
+
+pub behind_other : (nodes : List Node) (backs : List Link) (end : ℕ) (chain : Chain) (at : ℕ) (node : Link) → StandsAt nodes backs end chain at node
+    → back_of backs end ≢ node.0 → next_of nodes node.0 ≡ slice_index (chain_of nodes chain ++ end ∷ []) (at + 1)
+behind_other nodes backs end chain at node s other =
+    let within = s.within in
+    let more : at + 1 < chain.len = elim (cases_lt (at + 1) chain.len) [
+      | inl lt ↦ lt
+      | inr ge ↦
+          let e : chain.len - 1 ≡ at = omega arith in
+          let last = back_last nodes backs chain end s.leads (omega arith) in
+          absurd (other (last ∙ ap (λ (k : ℕ). after nodes k chain.first.0) e ∙ sym s.node_is))
+    ] in
+    let len = length-path nodes chain.len chain.first.0 in
+    ap (next_of nodes) s.node_is
+    ∙ sym (after_more nodes at chain.first.0)
+    ∙ sym (get_or_append_left (chain_of nodes chain) (end ∷ []) 0 (at + 1) (omega arith) ∙ path-get_or nodes (at + 1) chain.len chain.first.0 more)
+
+-- a node at a place of a list, in a pool with its way back
+pub record IsTaken (nodes : List Node) (lists : List Chain) (backs : List Link) (free : Chain) (l at : ℕ) (node : Link) : Type 0 where
+  pub pool : IsPool nodes lists free
+  pub backed : IsBacked backs (length nodes) (chains_of nodes lists)
+  pub within : l < length lists
+  pub at_within : at < (chain_at lists l).len
+  pub node_is : node.0 ≡ after nodes at (chain_at lists l).first.0
+
+pub taken : (nodes : List Node) (lists : List Chain) (backs : List Link) (free : Chain) (l at : ℕ) (node : Link)
+    → IsPool nodes lists free × (IsBacked backs (length nodes) (chains_of nodes lists) × ((l < length lists) × ((at < (chain_at lists l).len)
+    × (node.0 ≡ after nodes at (chain_at lists l).first.0)))) → IsTaken nodes lists backs free l at node
+taken nodes lists backs free l at node s =
+    record { pool = s.0; backed = s.1.0; within = s.1.1.0; at_within = s.1.1.1.0; node_is = s.1.1.1.1 }
+
+pub taken_stands : (nodes : List Node) (lists : List Chain) (backs : List Link) (free : Chain) (l at : ℕ) (node : Link)
+    → IsTaken nodes lists backs free l at node → StandsAt nodes backs (length nodes + l) (chain_at lists l) at node
+taken_stands nodes lists backs free l at node s = record {
+  chain_is = list_is_chain nodes lists free l s.pool s.within;
+  leads = rw (chains_of-get_or nodes lists l s.within) at (s.backed.leads l (rw length-chains_of s.within));
+  within = s.at_within;
+  node_is = s.node_is;
+}
+
+pub taken_within : (nodes : List Node) (lists : List Chain) (backs : List Link) (free : Chain) (l at : ℕ) (node : Link)
+    → IsTaken nodes lists backs free l at node → node.0 < length nodes
+taken_within nodes lists backs free l at node s =
+    rw s.node_is (on_way nodes (chain_at lists l).len (chain_at lists l).first.0 at (list_is_chain nodes lists free l s.pool s.within) s.at_within)
+
+pub taken_links : (nodes : List Node) (lists : List Chain) (backs : List Link) (free : Chain) (l at : ℕ) (node : Link)
+    → IsTaken nodes lists backs free l at node → (length nodes + l < length backs) × (node.0 < length backs)
+taken_links nodes lists backs free l at node s =
+    let count = s.backed.count in
+    let len = length-chains_of nodes lists in
+    let lt = s.within in
+    let node_lt = taken_within nodes lists backs free l at node s in
+    (omega arith, omega arith)
+
+pub taken_before : (nodes : List Node) (lists : List Chain) (backs : List Link) (free : Chain) (l at : ℕ) (node : Link)
+    → IsTaken nodes lists backs free l at node → IsNodeAt nodes (chain_at lists l) at node (slice_index_or backs node.0 no_link)
+taken_before nodes lists backs free l at node s = record {
+  within = s.at_within;
+  node_is = s.node_is;
+  before_is = λ some.
+      ap (back_of backs) s.node_is
+      ∙ back_on_way nodes backs (chain_at lists l) (length nodes + l) at (taken_stands nodes lists backs free l at node s).leads s.at_within some;
+}
+
+pub taken_behind : (nodes : List Node) (lists : List Chain) (backs : List Link) (free : Chain) (l at behind : ℕ) (node : Link)
+    → IsTaken nodes lists backs free l at node → behind ≡ slice_index (chain_of nodes (chain_at lists l) ++ (length nodes + l) ∷ []) (at + 1)
+    → IsBehind nodes lists free backs l (at + 1) behind
+taken_behind nodes lists backs free l at behind node s is = record {
+  pool = s.pool;
+  backed = s.backed;
+  within = s.within;
+  at_within = omega (arith, s.at_within);
+  is = is;
+}
+
+-- what stands before a node, as its way back has it
+back_is : (nodes : List Node) (backs : List Link) (end : ℕ) (chain : Chain) (at : ℕ) (node : Link) → StandsAt nodes backs end chain at node
+    → back_of backs node.0 ≡ get_or (0 ∷ chain_of nodes chain) at 0
+back_is nodes backs end chain at node s =
+    let xs = chain_of nodes chain in
+    let len = length-path nodes chain.len chain.first.0 in
+    let whole = length_push xs end in
+    let within = s.within in
+    ap (back_of backs) (s.node_is ∙ sym (path-get_or nodes at chain.len chain.first.0 s.within) ∙ sym (get_or_append_left xs (end ∷ []) 0 at (omega arith)))
+    ∙ sym (get_or-map (back_of backs) (xs ++ end ∷ []) at 0 0 (omega arith))
+    ∙ ap (λ (t : List ℕ). get_or t at 0) s.leads
+
+pub backed-taken : (nodes : List Node) (lists : List Chain) (backs : List Link) (free : Chain) (l at behind : ℕ) (node : Link)
+    → IsTaken nodes lists backs free l at node → behind ≡ slice_index (chain_of nodes (chain_at lists l) ++ (length nodes + l) ∷ []) (at + 1)
+    → IsBacked (slice_set backs behind (slice_index_or backs node.0 no_link)) (length nodes)
+    (slice_set (chains_of nodes lists) l (remove (slice_index_or (chains_of nodes lists) l []) at))
+backed-taken nodes lists backs free l at behind node s is =
     let len = length-chain nodes lists l s.within in
-    let le = s.at_within in
-    IsBacked-taken (chain_of nodes free) (chains_of nodes lists) backs (length nodes) l place.at behind before
+    let lt = s.at_within in
+    IsBacked-taken (chain_of nodes free) (chains_of nodes lists) backs (length nodes) l at behind (slice_index_or backs node.0 no_link)
     (pool_apart nodes lists free s.pool) s.backed (rw length-chains_of s.within) (omega arith)
-    (behind_is nodes lists free backs l (place.at + 1) behind s)
-    (before_is nodes (chain_at lists l) place before place_is first other
-    ∙ ap (λ (t : List ℕ). get_or (0 ∷ t) place.at 0) (sym (chains_of-get_or nodes lists l s.within)))
+    (behind_is nodes lists free backs l (at + 1) behind (taken_behind nodes lists backs free l at behind node s is))
+    (back_is nodes backs (length nodes + l) (chain_at lists l) at node (taken_stands nodes lists backs free l at node s)
+    ∙ ap (λ (t : List ℕ). get_or (0 ∷ t) at 0) (sym (chains_of-get_or nodes lists l s.within)))

@@ -1,16 +1,22 @@
 -- A pool that is seen as its lists: its way back and its order.
-use Rattle.std.proofs.Common.{◌≡◌, ◌∙◌, sym, ap, refl, ℕ, ◌+◌, ◌<◌, ◌≤◌, Bool, true, zero, suc, List, [], ◌∷◌, length, get_or, map, replicate, arith}
-use Rattle.std.specs.Prelude.{◌==◌, nat_lt, slice_index_or, slice_set}
+use Rattle.std.proofs.Common.{◌≡◌, ◌∙◌, sym, ap, refl, ℕ, ◌+◌, ◌-◌, ◌<◌, ◌≤◌, Bool, true, zero, suc, List, [], ◌∷◌, length, get_or, map, replicate, arith}
+use Rattle.std.specs.Prelude.{◌==◌, nat_lt, slice_index, slice_index_or, slice_set}
 use Rattle.std.specs.List.{insert, remove, position_or_len}
 use Rattle.std.specs.List.Sorted.{IsNonDecreasing}
 use Rattle.std.proofs.lemmas.List.{length-replicate}
+use Rattle.std.proofs.lemmas.Bool.{eqb-true}
+use Rattle.std.proofs.lemmas.List.Sums.{passes_at_first}
 use Rattle.std.proofs.lemmas.List.Sorted.{IsNonDecreasingBy-short}
 use Rattle.tt_pool.specs.declared.chain.Link.{Link}
 use Rattle.tt_pool.specs.declared.chain.Node.{Node}
 use Rattle.tt_pool.specs.declared.chain.Chain.{Chain}
-use Rattle.tt_pool.specs.Chains.{no_link, item_of, chain_of, LeadsBack}
-use Rattle.tt_pool.specs.Pools.{chains_of, lists_of, no_chain, chain_at, IsPool, IsBacked, IsFresh, IsKept}
-use Rattle.tt_pool.proofs.PoolLemmas.{length-chains_of, chains_of-get_or, lists_of-get_or, lists_within, lists_of-empty, IsPool-fresh}
+use Rattle.tt_pool.specs.declared.places.Place.{Place}
+use Rattle.tt_pool.specs.Chains.{no_link, item_of, after, chain_of, uses, IsPlace, LeadsBack}
+use Rattle.tt_pool.specs.Pools.{chains_of, lists_of, no_chain, chain_at, place_in, IsPool, IsBacked, IsFresh, IsKept}
+use Rattle.tt_pool.proofs.Paths.{on_way, path-get_or}
+use Rattle.tt_pool.proofs.Search.{item-get_or, found_at}
+use Rattle.tt_pool.proofs.EndLemmas.{list_is_chain, node_place}
+use Rattle.tt_pool.proofs.PoolLemmas.{seen-length, seen-items_at, length-chains_of, chains_of-get_or, lists_of-get_or, lists_within, lists_of-empty, IsPool-fresh}
 use Rattle.tt_pool.proofs.OrderLemmas.{ascends-insert, ascends-remove, ascends-set}
 
 -- a pool whose lists are seen, and the number of one of them
@@ -82,7 +88,7 @@ get_or-replicate_default zero i d = refl
 get_or-replicate_default (suc n) zero d = refl
 get_or-replicate_default (suc n) (suc i) d = get_or-replicate_default n i d
 
-chains_of-empty : (nodes : List Node) (n : ℕ) → chains_of nodes (replicate n no_chain) ≡ replicate n []
+pub chains_of-empty : (nodes : List Node) (n : ℕ) → chains_of nodes (replicate n no_chain) ≡ replicate n []
 chains_of-empty nodes zero = refl
 chains_of-empty nodes (suc n) = ap (λ (t : List (List ℕ)). [] ∷ t) (chains_of-empty nodes n)
 
@@ -102,3 +108,85 @@ IsKept-fresh nodes n lists s few = record {
   };
   order = λ up m. rw (lists_of-empty, get_or-replicate_default) (IsNonDecreasingBy-short (λ x. x) [] (omega arith));
 }
+
+-- the node that is known of the first of an item of a list
+pub record IsKnown (nodes : List Node) (lists : List Chain) (backs : List Link) (free : Chain) (ordered : Bool) (seen seen_nodes : List (List ℕ))
+    (l item node : ℕ) : Type 0 where
+  pub seen_is : IsSeen nodes lists backs free ordered seen l
+  pub nodes_are : chains_of nodes lists ≡ seen_nodes
+  pub found : 0 < uses item (slice_index_or seen l [])
+  pub is : node ≡ slice_index (slice_index_or seen_nodes l []) (position_or_len (λ x. x == item) (slice_index_or seen l []))
+
+-- what `take` asks of a node at a place of a list
+pub take_asks : (nodes : List Node) (lists : List Chain) (backs : List Link) (free : Chain) (ordered : Bool) (seen : List (List ℕ)) (l k : ℕ)
+    (node : Link) → IsSeen nodes lists backs free ordered seen l → k < (chain_at lists l).len
+    → node.0 ≡ after nodes k (chain_at lists l).first.0
+    → IsPool nodes lists free × (IsBacked backs (length nodes) (chains_of nodes lists) × ((l < length lists)
+    × ((place_in (chain_of nodes (chain_at lists l)) node.0 < (chain_at lists l).len)
+    × (node.0 ≡ after nodes (place_in (chain_of nodes (chain_at lists l)) node.0) (chain_at lists l).first.0))))
+take_asks nodes lists backs free ordered seen l k node s lt is =
+    let within = lists_within nodes lists seen l s.is s.within in
+    let at : place_in (chain_of nodes (chain_at lists l)) node.0 ≡ k =
+    node_place nodes (chain_at lists l) k node.0 (list_is_chain nodes lists free l s.kept.pool within) lt is in
+    (s.kept.pool, (s.kept.backed, (within, (rw at lt, rw at is))))
+
+-- where that node stands
+pub taken_place : (nodes : List Node) (lists : List Chain) (backs : List Link) (free : Chain) (ordered : Bool) (seen : List (List ℕ)) (l k : ℕ)
+    (node : Link) → IsSeen nodes lists backs free ordered seen l → k < (chain_at lists l).len
+    → node.0 ≡ after nodes k (chain_at lists l).first.0 → place_in (chain_of nodes (chain_at lists l)) node.0 ≡ k
+taken_place nodes lists backs free ordered seen l k node s lt is =
+    let within = lists_within nodes lists seen l s.is s.within in
+    node_place nodes (chain_at lists l) k node.0 (list_is_chain nodes lists free l s.kept.pool within) lt is
+
+pub seen_lt : (nodes : List Node) (lists : List Chain) (backs : List Link) (free : Chain) (ordered : Bool) (seen : List (List ℕ)) (l at : ℕ)
+    → IsSeen nodes lists backs free ordered seen l → at < length (slice_index_or seen l []) → at < (chain_at lists l).len
+seen_lt nodes lists backs free ordered seen l at s lt = let len = seen-length nodes lists seen l s.is s.within in omega arith
+
+pub seen_way : (nodes : List Node) (lists : List Chain) (backs : List Link) (free : Chain) (ordered : Bool) (seen : List (List ℕ)) (l at : ℕ)
+    → IsSeen nodes lists backs free ordered seen l → at < length (slice_index_or seen l [])
+    → after nodes at (chain_at lists l).first.0 < length nodes
+seen_way nodes lists backs free ordered seen l at s lt =
+    let within = lists_within nodes lists seen l s.is s.within in
+    on_way nodes (chain_at lists l).len (chain_at lists l).first.0 at (list_is_chain nodes lists free l s.kept.pool within)
+    (seen_lt nodes lists backs free ordered seen l at s lt)
+
+pub known_lt : (nodes : List Node) (lists : List Chain) (backs : List Link) (free : Chain) (ordered : Bool) (seen seen_nodes : List (List ℕ))
+    (l item node : ℕ) → IsKnown nodes lists backs free ordered seen seen_nodes l item node
+    → position_or_len (λ x. x == item) (slice_index_or seen l []) < length (slice_index_or seen l [])
+known_lt nodes lists backs free ordered seen seen_nodes l item node s = found_at item (slice_index_or seen l []) s.found
+
+pub known_is : (nodes : List Node) (lists : List Chain) (backs : List Link) (free : Chain) (ordered : Bool) (seen seen_nodes : List (List ℕ))
+    (l item node : ℕ) → IsKnown nodes lists backs free ordered seen seen_nodes l item node
+    → node ≡ after nodes (position_or_len (λ x. x == item) (slice_index_or seen l [])) (chain_at lists l).first.0
+known_is nodes lists backs free ordered seen seen_nodes l item node s =
+    let at = position_or_len (λ x. x == item) (slice_index_or seen l []) in
+    let within = lists_within nodes lists seen l s.seen_is.is s.seen_is.within in
+    let lt = seen_lt nodes lists backs free ordered seen l at s.seen_is (known_lt nodes lists backs free ordered seen seen_nodes l item node s) in
+    s.is
+    ∙ ap (λ (t : List (List ℕ)). slice_index (slice_index_or t l []) at) (sym s.nodes_are)
+    ∙ ap (λ (t : List ℕ). slice_index t at) (chains_of-get_or nodes lists l within)
+    ∙ path-get_or nodes at (chain_at lists l).len (chain_at lists l).first.0 lt
+
+pub known_within : (nodes : List Node) (lists : List Chain) (backs : List Link) (free : Chain) (ordered : Bool) (seen seen_nodes : List (List ℕ))
+    (l item node : ℕ) → IsKnown nodes lists backs free ordered seen seen_nodes l item node → node < length nodes
+known_within nodes lists backs free ordered seen seen_nodes l item node s =
+    rw (known_is nodes lists backs free ordered seen seen_nodes l item node s)
+    (seen_way nodes lists backs free ordered seen l _ s.seen_is (known_lt nodes lists backs free ordered seen seen_nodes l item node s))
+
+pub known_item : (nodes : List Node) (lists : List Chain) (backs : List Link) (free : Chain) (ordered : Bool) (seen seen_nodes : List (List ℕ))
+    (l item node : ℕ) → IsKnown nodes lists backs free ordered seen seen_nodes l item node → item_of nodes node ≡ item
+known_item nodes lists backs free ordered seen seen_nodes l item node s =
+    let at = position_or_len (λ x. x == item) (slice_index_or seen l []) in
+    let in_list = known_lt nodes lists backs free ordered seen seen_nodes l item node s in
+    let lt = seen_lt nodes lists backs free ordered seen l at s.seen_is in_list in
+    ap (item_of nodes) (known_is nodes lists backs free ordered seen seen_nodes l item node s)
+    ∙ sym (item-get_or nodes (chain_at lists l) at lt)
+    ∙ ap (λ (t : List ℕ). slice_index t at) (seen-items_at nodes lists seen l s.seen_is.is s.seen_is.within)
+    ∙ eqb-true (slice_index (slice_index_or seen l []) at) item (passes_at_first (λ x. x == item) (slice_index_or seen l []) 0 in_list)
+
+-- the node at a place stands before the next place
+pub behind_is : (nodes : List Node) (chain : Chain) (at : ℕ) (next : Place) → IsPlace nodes chain next → next.at ≡ at + 1
+    → next.before.0 ≡ after nodes at chain.first.0
+behind_is nodes chain at next s is =
+    let e : next.at - 1 ≡ at = omega arith in
+    s.before (omega arith) ∙ ap (λ (k : ℕ). after nodes k chain.first.0) e

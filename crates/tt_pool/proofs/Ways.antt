@@ -23,16 +23,16 @@ map_same f g (x ∷ xs) same =
     rw (rest, here) refl
 
 -- an item that isn't in a list is none of its items
-other_than : (x i : ℕ) (xs : List ℕ) → uses x xs ≡ 0 → i < length xs → x ≢ get_or xs i 0
+pub other_than : (x i : ℕ) (xs : List ℕ) → uses x xs ≡ 0 → i < length xs → x ≢ get_or xs i 0
 other_than x i xs none lt e = let used = uses_at xs i x e lt in omega arith
 
 not_used : (y z : ℕ) (xs : List ℕ) → uses y xs ≡ 0 → 0 < uses z xs → z ≢ y
 not_used y z xs none used e = let h : uses z xs ≡ 0 = rw e none in omega arith
 
-once_first : (x : ℕ) (xs : List ℕ) → ((p : ℕ) → uses p (x ∷ xs) ≤ 1) → uses x xs ≡ 0
+pub once_first : (x : ℕ) (xs : List ℕ) → ((p : ℕ) → uses p (x ∷ xs) ≤ 1) → uses x xs ≡ 0
 once_first x xs once = let h = uses_here x xs in let o = once x in omega arith
 
-once_rest : (x : ℕ) (xs : List ℕ) → ((p : ℕ) → uses p (x ∷ xs) ≤ 1) → (p : ℕ) → uses p xs ≤ 1
+pub once_rest : (x : ℕ) (xs : List ℕ) → ((p : ℕ) → uses p (x ∷ xs) ≤ 1) → (p : ℕ) → uses p xs ≤ 1
 once_rest x xs once p = let h = less_after_first p x xs in let o = once p in omega arith
 
 within_end : (k end : ℕ) (xs : List ℕ) → k ≤ length xs → k < length (xs ++ end ∷ [])

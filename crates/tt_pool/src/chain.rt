@@ -2,10 +2,10 @@
 
 ghost use Rattle.std.specs.Prelude.{◌≡◌, ℕ, ◌+◌, ◌<◌, ◌≤◌, [], ◌++◌, length, slice_index, slice_index_or, slice_set};
 ghost use Rattle.std.specs.List.{insert, remove};
-ghost use Rattle.tt_pool.specs.Chains.{after, chain_of, uses, IsChain, IsPlace, ArePair, KeepsOthers, KeepsItems};
+ghost use Rattle.tt_pool.specs.Chains.{after, chain_of, uses, IsChain, IsPlace, IsNodeAt, ArePair, KeepsOthers, KeepsItems};
 ghost use Rattle.tt_pool.specs.Pools.{chain_at, chains_of, lists_of, IsPool, IsBacked};
 
-use crate::places::{Place, back_from, next_place, node_at};
+use crate::places::{Place, back_from, behind_node, node_at};
 
 /// The number of a node in a pool.
 #[derive(Clone, Copy)]
@@ -64,32 +64,26 @@ fn attach(nodes: &mut [Node], chain: Chain, place: Place, node: Link) -> Chain
     }
 }
 
-// Takes the node at a place out of a chain.
-fn detach(nodes: &mut [Node], chain: Chain, place: Place) -> (Chain, Link)
+// Takes a node out of a chain. `before` is the node before it, where there is one.
+fn detach(nodes: &mut [Node], chain: Chain, node: Link, before: Link) -> Chain
+    ghost at: { ℕ }
     requires chain { IsChain nodes.old (chain_of nodes.old chain) }
-    requires place { IsPlace nodes.old chain place }
-    requires at { place.at < chain.len }
-    ensures chain { chain_of nodes.new result.0 ≡ remove (chain_of nodes.old chain) place.at }
-    ensures len { result.0.len + 1 ≡ chain.len }
-    ensures node { result.1.0 ≡ slice_index (chain_of nodes.old chain) place.at }
+    requires node { IsNodeAt nodes.old chain at node before }
+    ensures chain { chain_of nodes.new result ≡ remove (chain_of nodes.old chain) at }
+    ensures len { result.len + 1 ≡ chain.len }
     ensures others { KeepsOthers (chain_of nodes.old chain) nodes.old nodes.new }
     ensures items { KeepsItems nodes.old nodes.new }
 {
-    let Place { at, before } = place;
+    let next = nodes[node.0 as usize].next;
     let len = chain.len - 1;
-    if at == 0 {
-        let first = nodes[chain.first.0 as usize].next;
-        (Chain { first, len }, chain.first)
+    if node.0 == chain.first.0 {
+        Chain { first: next, len }
     } else {
-        let node = nodes[before.0 as usize].next;
-        nodes[before.0 as usize].next = nodes[node.0 as usize].next;
-        (
-            Chain {
-                first: chain.first,
-                len,
-            },
-            node,
-        )
+        nodes[before.0 as usize].next = next;
+        Chain {
+            first: chain.first,
+            len,
+        }
     }
 }
 
@@ -98,27 +92,32 @@ fn detach(nodes: &mut [Node], chain: Chain, place: Place) -> (Chain, Link)
 struct Moved {
     from: Chain,
     to: Chain,
-    node: Link,
 }
 
-// Moves the node at a place in one chain to a place in another.
-fn transfer(nodes: &mut [Node], from: Chain, place: Place, to: Chain, to_place: Place) -> Moved
+// Moves a node of one chain to a place in another.
+fn transfer(
+    nodes: &mut [Node],
+    from: Chain,
+    node: Link,
+    before: Link,
+    to: Chain,
+    place: Place,
+) -> Moved
+    ghost at: { ℕ }
     requires chains { ArePair nodes.old (chain_of nodes.old from) (chain_of nodes.old to) }
-    requires from { IsPlace nodes.old from place }
-    requires to { IsPlace nodes.old to to_place }
-    requires at { place.at < from.len }
+    requires node { IsNodeAt nodes.old from at node before }
+    requires place { IsPlace nodes.old to place }
     requires room { to.len < 4294967295 }
-    ensures from { chain_of nodes.new result.from ≡ remove (chain_of nodes.old from) place.at }
-    ensures to { chain_of nodes.new result.to ≡ insert (chain_of nodes.old to) to_place.at result.node.0 }
+    ensures from { chain_of nodes.new result.from ≡ remove (chain_of nodes.old from) at }
+    ensures to { chain_of nodes.new result.to ≡ insert (chain_of nodes.old to) place.at node.0 }
     ensures less { result.from.len + 1 ≡ from.len }
     ensures more { result.to.len ≡ to.len + 1 }
-    ensures node { result.node.0 ≡ slice_index (chain_of nodes.old from) place.at }
     ensures others { KeepsOthers (chain_of nodes.old from ++ chain_of nodes.old to) nodes.old nodes.new }
     ensures items { KeepsItems nodes.old nodes.new }
 {
-    let (from, node) = detach(nodes, from, place);
-    let to = attach(nodes, to, to_place, node);
-    Moved { from, to, node }
+    let from = detach(nodes, from, node, before);
+    let to = attach(nodes, to, place, node);
+    Moved { from, to }
 }
 
 // Puts an item into a list, in the first free node. Answers the other free nodes.
@@ -139,41 +138,39 @@ fn put_in(
     ensures chains { chains_of nodes.new lists.new ≡ slice_set (chains_of nodes.old lists.old) list (insert (slice_index_or (chains_of nodes.old lists.old) list []) place.at free.first.0) }
     ensures spare { result.len + 1 ≡ free.len }
 {
-    let first = Place {
-        at: 0,
-        before: free.first,
-    };
-    let moved = transfer(nodes, free, first, lists[list as usize], place);
-    nodes[moved.node.0 as usize].item = item;
+    let node = free.first;
+    let moved = transfer(nodes, free, node, node, lists[list as usize], place);
+    nodes[node.0 as usize].item = item;
     lists[list as usize] = moved.to;
     moved.from
 }
 
-// Takes an item out of a list. Answers the free nodes, now with its node, and the item.
+// Takes the item at a node out of a list. Answers the free nodes, now with this one, and the item.
 fn take_out(
     nodes: &mut [Node],
     lists: &mut [Chain],
     free: Chain,
     list: u32,
-    place: Place,
+    node: Link,
+    before: Link,
 ) -> (Chain, u32)
+    ghost at: { ℕ }
     requires pool { IsPool nodes.old lists.old free }
     requires list { list < length lists.old }
-    requires place { IsPlace nodes.old (chain_at lists.old list) place }
-    requires at { place.at < (chain_at lists.old list).len }
+    requires node { IsNodeAt nodes.old (chain_at lists.old list) at node before }
     ensures pool { IsPool nodes.new lists.new result.0 }
-    ensures lists { lists_of nodes.new lists.new ≡ slice_set (lists_of nodes.old lists.old) list (remove (slice_index_or (lists_of nodes.old lists.old) list []) place.at) }
-    ensures chains { chains_of nodes.new lists.new ≡ slice_set (chains_of nodes.old lists.old) list (remove (slice_index_or (chains_of nodes.old lists.old) list []) place.at) }
-    ensures item { result.1 ≡ slice_index (slice_index_or (lists_of nodes.old lists.old) list []) place.at }
+    ensures lists { lists_of nodes.new lists.new ≡ slice_set (lists_of nodes.old lists.old) list (remove (slice_index_or (lists_of nodes.old lists.old) list []) at) }
+    ensures chains { chains_of nodes.new lists.new ≡ slice_set (chains_of nodes.old lists.old) list (remove (slice_index_or (chains_of nodes.old lists.old) list []) at) }
+    ensures item { result.1 ≡ slice_index (slice_index_or (lists_of nodes.old lists.old) list []) at }
     ensures spare { result.0.len ≡ free.len + 1 }
 {
     let first = Place {
         at: 0,
         before: free.first,
     };
-    let moved = transfer(nodes, lists[list as usize], place, free, first);
+    let moved = transfer(nodes, lists[list as usize], node, before, free, first);
     lists[list as usize] = moved.from;
-    (moved.to, nodes[moved.node.0 as usize].item)
+    (moved.to, nodes[node.0 as usize].item)
 }
 
 /// Puts an item into a list, and notes the way back.
@@ -194,6 +191,7 @@ pub fn put(
     ensures pool { IsPool nodes.new lists.new result }
     ensures backs { IsBacked backs.new (length nodes.new) (chains_of nodes.new lists.new) }
     ensures lists { lists_of nodes.new lists.new ≡ slice_set (lists_of nodes.old lists.old) list (insert (slice_index_or (lists_of nodes.old lists.old) list []) place.at item) }
+    ensures chains { chains_of nodes.new lists.new ≡ slice_set (chains_of nodes.old lists.old) list (insert (slice_index_or (chains_of nodes.old lists.old) list []) place.at free.first.0) }
     ensures spare { result.len + 1 ≡ free.len }
 {
     let end = nodes.len() + list as usize;
@@ -204,31 +202,32 @@ pub fn put(
     put_in(nodes, lists, free, list, place, item)
 }
 
-/// Takes an item out of a list, and notes the way back. Answers the free nodes, now with its node,
-/// and the item.
+/// Takes the item at a node out of a list, and notes the way back. Answers the free nodes, now with
+/// this one, and the item.
 pub fn take(
     nodes: &mut [Node],
     lists: &mut [Chain],
     backs: &mut [Link],
     free: Chain,
     list: u32,
-    place: Place,
+    node: Link,
 ) -> (Chain, u32)
+    ghost at: { ℕ }
     requires pool { IsPool nodes.old lists.old free }
     requires backs { IsBacked backs.old (length nodes.old) (chains_of nodes.old lists.old) }
     requires list { list < length lists.old }
-    requires place { IsPlace nodes.old (chain_at lists.old list) place }
-    requires at { place.at < (chain_at lists.old list).len }
+    requires at { at < (chain_at lists.old list).len }
+    requires node { node.0 ≡ after nodes.old at (chain_at lists.old list).first.0 }
     ensures pool { IsPool nodes.new lists.new result.0 }
     ensures backs { IsBacked backs.new (length nodes.new) (chains_of nodes.new lists.new) }
-    ensures lists { lists_of nodes.new lists.new ≡ slice_set (lists_of nodes.old lists.old) list (remove (slice_index_or (lists_of nodes.old lists.old) list []) place.at) }
-    ensures item { result.1 ≡ slice_index (slice_index_or (lists_of nodes.old lists.old) list []) place.at }
+    ensures lists { lists_of nodes.new lists.new ≡ slice_set (lists_of nodes.old lists.old) list (remove (slice_index_or (lists_of nodes.old lists.old) list []) at) }
+    ensures chains { chains_of nodes.new lists.new ≡ slice_set (chains_of nodes.old lists.old) list (remove (slice_index_or (chains_of nodes.old lists.old) list []) at) }
+    ensures item { result.1 ≡ slice_index (slice_index_or (lists_of nodes.old lists.old) list []) at }
     ensures spare { result.0.len ≡ free.len + 1 }
 {
     let end = nodes.len() + list as usize;
-    let next = next_place(nodes, lists[list as usize], place);
-    let behind = node_at(nodes, lists[list as usize], next, end);
-    let before = back_from(place);
+    let behind = behind_node(nodes, backs, end, node);
+    let before = backs[node.0 as usize];
     backs[behind] = before;
-    take_out(nodes, lists, free, list, place)
+    take_out(nodes, lists, free, list, node, before)
 }

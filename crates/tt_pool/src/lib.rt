@@ -1,26 +1,27 @@
 //! Many lists of numbers in one vector of nodes. After any calls each list is what `insert`,
-//! `insert_in_order`, `remove` and `remove_item` make of it, and `spare` is how many items more
-//! find room (`lists`, `spare`). Only `new` takes memory.
+//! `insert_in_order`, `remove`, `remove_item` and `remove_at_node` make of it, and `spare` is how
+//! many items more find room (`lists`, `spare`). Where it is told (`nodes`), an item stands at one
+//! node until it goes, and by that goes without a walk. Only `new` takes memory.
 #![tactic(auto)]
 
 ghost use Rattle.std.specs.Prelude.{◌≡◌, ℕ, ◌==◌, ◌+◌, ◌<◌, ◌≤◌, List, [], length, map, IfOk, nat_lt, slice_index, slice_set, replicate, count_by};
 ghost use Rattle.std.specs.List.{insert, remove, position_or_len};
 ghost use Rattle.std.specs.Iterator.{YieldsFirst, item_count};
 ghost use Rattle.tt_pool.specs.Chains.{after, path, item_of};
-ghost use Rattle.tt_pool.specs.Pools.{Pooled, list_at, lists_of};
+ghost use Rattle.tt_pool.specs.Pools.{Pooled, list_at, nodes_at, lists_of};
 
 mod chain;
 mod order;
 mod places;
 
-use chain::{Chain, Link, Node, put, take};
+use chain::{Chain, Link, Node, put, take, walk};
 pub use order::place_in_order;
-use places::{place_at, place_to_put, place_to_take};
+use places::{next_place, place_at, place_to_put, place_to_take};
 use std::alloc::{AllocError, Global};
 use std::marker::Model;
 
-/// Many lists of numbers in one vector of nodes. Contracts see the lists and how many items more
-/// find room.
+/// Many lists of numbers in one vector of nodes. Contracts see the lists, the node of each of their
+/// items and how many items more find room.
 #[derive(Drop)]
 pub struct Pool {
     nodes: Vec<Node>,
@@ -37,10 +38,11 @@ impl Model for Pool {
 
     ghost Value = { Pooled };
 
-    ghost use Rattle.tt_pool.specs.Pools.{lists_of, IsKept};
+    ghost use Rattle.tt_pool.specs.Pools.{chains_of, lists_of, IsKept};
 
     ghost view = { λ p. record {
       lists = lists_of p.nodes.items p.lists.items;
+      nodes = chains_of p.nodes.items p.lists.items;
       spare = p.free.len;
     } };
 
@@ -52,6 +54,7 @@ impl Pool {
     pub fn new(alloc: Global, lists: u32, nodes: u32) -> Result<Pool, AllocError>
         requires { nodes < 4294967295 }
         ensures lists { IfOk result (λ p. p.lists ≡ replicate lists []) }
+        ensures nodes { IfOk result (λ p. p.nodes ≡ replicate lists []) }
         ensures spare { IfOk result (λ p. p.spare ≡ nodes) }
     {
         let none = Chain {
@@ -96,11 +99,13 @@ impl Pool {
         self.free = put(nodes, lists, backs, self.free, list, place, item);
     }
 
-    /// Puts an item into a list, before the first that is above it.
-    pub fn insert_in_order(&mut self, list: u32, item: u32)
+    /// Puts an item into a list, before the first that is above it. Answers the node at which it
+    /// stands from then on.
+    pub fn insert_in_order(&mut self, list: u32, item: u32) -> u32
         requires list { list < length self.old.lists }
         requires spare { 1 ≤ self.old.spare }
         ensures lists { self.new.lists ≡ slice_set self.old.lists list (insert (list_at self.old list) (position_or_len (nat_lt item) (list_at self.old list)) item) }
+        ensures nodes { self.new.nodes ≡ slice_set self.old.nodes list (insert (nodes_at self.old list) (position_or_len (nat_lt item) (list_at self.old list)) result) }
         ensures spare { self.new.spare + 1 ≡ self.old.spare }
     {
         let nodes = self.nodes.as_mut_slice();
@@ -109,7 +114,9 @@ impl Pool {
         let end = nodes.len() + list as usize;
         let chain = lists[list as usize];
         let place = place_to_put(nodes, backs, chain, end, self.ordered, item);
+        let node = self.free.first.0;
         self.free = put(nodes, lists, backs, self.free, list, place, item);
+        node
     }
 
     /// Takes the item at a place out of a list.
@@ -117,14 +124,15 @@ impl Pool {
         requires list { list < length self.old.lists }
         requires at { at < length (list_at self.old list) }
         ensures lists { self.new.lists ≡ slice_set self.old.lists list (remove (list_at self.old list) at) }
+        ensures nodes { self.new.nodes ≡ slice_set self.old.nodes list (remove (nodes_at self.old list) at) }
         ensures item { result ≡ slice_index (list_at self.old list) at }
         ensures spare { self.new.spare ≡ self.old.spare + 1 }
     {
         let nodes = self.nodes.as_mut_slice();
         let lists = self.lists.as_mut_slice();
         let backs = self.backs.as_mut_slice();
-        let place = place_at(nodes, lists[list as usize], at);
-        let (free, item) = take(nodes, lists, backs, self.free, list, place);
+        let node = walk(nodes, lists[list as usize].first, at);
+        let (free, item) = take(nodes, lists, backs, self.free, list, node);
         self.free = free;
         item
     }
@@ -142,7 +150,25 @@ impl Pool {
         let end = nodes.len() + list as usize;
         let chain = lists[list as usize];
         let place = place_to_take(nodes, backs, chain, end, self.ordered, item);
-        let (free, _) = take(nodes, lists, backs, self.free, list, place);
+        let behind = next_place(nodes, chain, place);
+        let (free, _) = take(nodes, lists, backs, self.free, list, behind.before);
+        self.free = free;
+    }
+
+    /// The same, where the node of the first of this item is known: no list is walked.
+    pub fn remove_at_node(&mut self, list: u32, item: u32, node: u32)
+        requires list { list < length self.old.lists }
+        requires found { 0 < count_by (λ x. x == item) (list_at self.old list) }
+        requires node { node ≡ slice_index (nodes_at self.old list) (position_or_len (λ x. x == item) (list_at self.old list)) }
+        ensures lists { self.new.lists ≡ slice_set self.old.lists list (remove (list_at self.old list) (position_or_len (λ x. x == item) (list_at self.old list))) }
+        ensures nodes { self.new.nodes ≡ slice_set self.old.nodes list (remove (nodes_at self.old list) (position_or_len (λ x. x == item) (list_at self.old list))) }
+        ensures spare { self.new.spare ≡ self.old.spare + 1 }
+    {
+        let nodes = self.nodes.as_mut_slice();
+        let lists = self.lists.as_mut_slice();
+        let backs = self.backs.as_mut_slice();
+        prove!(nodes[node as usize].item == item);
+        let (free, _) = take(nodes, lists, backs, self.free, list, Link(node));
         self.free = free;
     }
 

@@ -1,9 +1,9 @@
 //! Places in a chain, and what finds the one that a call means.
 
-ghost use Rattle.std.specs.Prelude.{◌≡◌, ◌≢◌, ◌==◌, ◌+◌, ◌<◌, ◌≤◌, true, [], ◌∷◌, ◌++◌, length, map, nat_lt, slice_index};
+ghost use Rattle.std.specs.Prelude.{◌≡◌, ◌≢◌, ℕ, ◌==◌, ◌+◌, ◌<◌, ◌≤◌, true, [], ◌∷◌, ◌++◌, length, map, nat_lt, slice_index};
 ghost use Rattle.std.specs.List.{remove, position_or_len};
 ghost use Rattle.std.specs.List.Sorted.{IsNonDecreasing};
-ghost use Rattle.tt_pool.specs.Chains.{chain_of, uses, item_of, IsChain, IsPlace, LeadsBack};
+ghost use Rattle.tt_pool.specs.Chains.{chain_of, uses, item_of, IsChain, IsPlace, StandsAt, LeadsBack};
 
 use crate::chain::{Chain, Link, Node, walk};
 
@@ -168,6 +168,18 @@ pub fn node_at(nodes: &[Node], chain: Chain, place: Place, end: usize) -> usize
     }
     let next = next_place(nodes, chain, place);
     next.before.0 as usize
+}
+
+/// What stands behind a node of a chain: the next node, and behind the last one the end.
+pub fn behind_node(nodes: &[Node], backs: &[Link], end: usize, node: Link) -> usize
+    requires node { node.0 < length nodes.now }
+    requires end { end < length backs.now }
+    ensures { (chain : Chain) (at : ℕ) → StandsAt nodes.now backs.now end chain at node → result ≡ slice_index (chain_of nodes.now chain ++ end ∷ []) (at + 1) }
+{
+    if backs[end].0 == node.0 {
+        return end;
+    }
+    nodes[node.0 as usize].next.0 as usize
 }
 
 /// The node before a place, 0 where none is.

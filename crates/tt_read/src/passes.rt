@@ -126,7 +126,8 @@ fn read_course_list<'a>(
     ensures few { IfOk result (λ list. length list.items.values.now ≤ 20000) }
     ensures count { IfOk result (λ list. length list.ids.keys ≡ length list.items.values.now) }
     ensures few_classes { IfOk result (λ list. length list.class_ids.keys ≤ 20000) }
-    ensures classes { IfOk result (λ list. HasClasses (items_of list.items) (length list.class_ids.keys)) }
+    ensures classes { IfOk result
+        (λ list. HasClasses (items_of list.items) (length list.class_ids.keys)) }
 {
     let context = term_context(term);
     let items = list(object, "courses", 0, 20_000)?;
@@ -148,7 +149,8 @@ fn read_rule_list<'a>(
     version: u8,
     object: &'a Field<'a>,
 ) -> Result<PartList<'a>, FileFault>
-    ensures reads { Gives items_of result (checked_list 20000 (rules_in version None) (codes "distributions") (part_of object.now)) }
+    ensures reads { Gives items_of result
+        (checked_list 20000 (rules_in version None) (codes "distributions") (part_of object.now)) }
     ensures few { IfOk result (λ items. length items.values.now ≤ 20000) }
 {
     let items = list_or_none(object, "distributions", 20_000)?;
@@ -159,7 +161,8 @@ fn read_rule_list<'a>(
 // The list of students, read with no reference looked up.
 #[tactic(auto, unfolding(crate::specs::Tables::checked_list))]
 fn read_student_list<'a>(alloc: Global, object: &'a Field<'a>) -> Result<PartList<'a>, FileFault>
-    ensures reads { Gives items_of result (checked_list 100000 (students_in None) (codes "students") (part_of object.now)) }
+    ensures reads { Gives items_of result
+        (checked_list 100000 (students_in None) (codes "students") (part_of object.now)) }
     ensures few { IfOk result (λ items. length items.values.now ≤ 100000) }
 {
     let items = list_or_none(object, "students", 100_000)?;
@@ -242,7 +245,8 @@ fn parts_with(
     rules: Row<Rule>,
     students: Row<StudentPart>,
 ) -> Parts
-    ensures { result ≡ parts_of_all (shape_read shape.now) (rooms_read rooms) (tree_read tree) rules students }
+    ensures { result
+        ≡ parts_of_all (shape_read shape.now) (rooms_read rooms) (tree_read tree) rules students }
 {
     let Tree {
         courses,

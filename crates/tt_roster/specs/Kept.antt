@@ -2,11 +2,11 @@
 use Rattle.std.specs.Prelude.{◌≡◌, ℕ, ◌+◌, ◌<◌, ◌≤◌, ◌^◌, length, map, sum, sum_by, All, IfSome, slice_index}
 use Rattle.tt_travel.specs.Table.{IsRoomOf}
 use Rattle.tt_bits.specs.Spots.{spot_at}
-use Rattle.tt_pool.specs.Pools.{list_at}
+use Rattle.tt_pool.specs.Pools.{list_at, nodes_at}
 use Rattle.tt_problem.specs.declared.parts.Parts.{Parts}
 use Rattle.tt_problem.specs.Seats.{most_seats}
 use Rattle.tt_roster.specs.declared.roster.Roster.TheInside.{Inside}
-use Rattle.tt_roster.specs.Seen.{classes_in, most_in, seen}
+use Rattle.tt_roster.specs.Seen.{classes_in, most_in, nodes_of, seen}
 use Rattle.tt_roster.specs.Rostered.{Rostered}
 use Rattle.tt_roster.specs.Lists.{Ascends, list_of, students_of}
 use Rattle.tt_roster.specs.Conflicts.{student_conflicts}
@@ -23,6 +23,9 @@ pub record IsIndexed (r : Inside) : Type 0 where
   -- each class has a list, of the students who have it
   pub long : length r.attendees.lists ≡ length r.spots.items
   pub students : (class : ℕ) → list_at r.attendees class ≡ students_of (map classes_in r.rows.items) class
+  -- each row has for each of its classes the node at which the student stands there
+  pub nodes_long : length r.attendees.nodes ≡ length r.spots.items
+  pub nodes : (class : ℕ) → nodes_at r.attendees class ≡ nodes_of r.rows.items class
   -- for each seat that the rows have room for, a seat is taken or spare
   pub spare : r.attendees.spare + sum_by length (map classes_in r.rows.items) ≡ sum (map most_in r.rows.items)
 

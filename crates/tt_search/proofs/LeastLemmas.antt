@@ -1,31 +1,27 @@
 -- The items of a list that are least, as an item is added.
-use Rattle.std.proofs.Common.{◌≡◌, ◌≢◌, ℕ, zero, suc, ◌+◌, ◌<◌, ◌≤◌, Bool, true, false, cond, Option, Some, None, List, [], ◌∷◌, ◌++◌, length, refl, ap, subst, sym, ◌∙◌, ◌⊎◌, inl, inr, arith}
+use Rattle.std.proofs.Common.{◌≡◌, ◌≢◌, ℕ, zero, suc, ◌+◌, ◌≤◌, Bool, true, false, cond, Option, Some, None, List, [], ◌∷◌, ◌++◌, length, refl, ap, sym, ◌∙◌, ◌⊎◌, inl, inr, arith}
 use Rattle.std.specs.Prelude.{All, not, slice_get, slice_index_or, take}
-use Rattle.std.specs.Cmp.{IsStrictWeakOrder, nat_cmp_is}
 use Rattle.std.specs.List.{best_of, filter, list_any, sum_by}
-use Rattle.std.specs.declared.cmp.Ordering.TheVariants.{Less}
-use Rattle.std.specs.Option.{option_map}
-use Rattle.std.proofs.lemmas.Cmp.{nat_list_cmp_total}
 use Rattle.std.proofs.lemmas.List.{append-nil, get_or_default}
 use Rattle.std.proofs.lemmas.List.Elements.{filter-append, filter_agree, filter_more}
 use Rattle.std.proofs.lemmas.List.Folds.{list_any_at, list_any_none}
 use Rattle.std.proofs.lemmas.List.Sums.{count_by-le-length, length-filter}
 use Rattle.std.proofs.lemmas.Option.{get_or_from_slice_get, slice_get_within}
-use Rattle.std.proofs.lemmas.List.MinMax.{ranks_by, IsFirstBest-from_best_of}
-use Rattle.tt_base.specs.Lists.{comes_before, first_least, is_less, least_after}
+use Rattle.std.proofs.lemmas.List.MinMax.{IsFirstBest-from_best_of}
+use Rattle.tt_base.specs.Lists.{first_least, is_less, least_after}
 use Rattle.tt_base.proofs.ListLemmas.{least_after_append}
 use Rattle.tt_bits.specs.declared.times.Value.{Value}
 use Rattle.tt_problem.specs.declared.parts.Parts.{Parts}
 use Rattle.tt_state.specs.Snapshots.{Snapshot}
-use Rattle.tt_state.specs.Values.{conflicts_of}
-use Rattle.tt_search.proofs.ChoiceLemmas.{at_least_1}
-use Rattle.tt_search.specs.declared.least.Burden.{Burden}
+use Rattle.tt_state.specs.History.{Held, with_taken}
+use Rattle.tt_state.specs.Values.{conflicts_of, total_with}
+use Rattle.tt_search.specs.declared.price.Price.{Price}
 use Rattle.tt_search.specs.declared.least.LeastValues.{LeastValues}
+use Rattle.tt_search.specs.declared.offer.Offer.{Offer}
+use Rattle.tt_search.specs.Numbers.{IsPriceOf, IsPriced, WeighsLess}
 use Rattle.tt_search.specs.PlaceTurns.{all_least}
-use Rattle.tt_search.specs.PlacingNow.{AreLeast, AreLeastOf, LiesBelow, burden_by, burden_numbers, weight_by}
-
-order : {A : Type 0} (numbers : A → List ℕ) → IsStrictWeakOrder (is_less numbers)
-order numbers = ranks_by nat_list_cmp_total numbers
+use Rattle.tt_search.specs.PlacingNow.{AreLeast, AreLeastOf, burden_by, weight_by}
+use Rattle.tt_search.proofs.PriceLemmas.{order, outweighed}
 
 -- nothing of a list comes before its least
 none_less : {A : Type 0} (numbers : A → List ℕ) (xs : List A) (y : A) → first_least numbers xs ≡ Some y → All (λ w. is_less numbers w y ≡ false) xs
@@ -103,142 +99,139 @@ joined numbers xs y z is not_less =
     ∙ filter-append test xs (z ∷ [])
     ∙ ap (λ ws. ws ++ filter test (z ∷ [])) (sym (least_are numbers xs y is))
 
--- what there is has the numbers that are kept
-the_least : {A : Type 0} (numbers : A → List ℕ) (b : List ℕ) (o : Option A) → Some b ≡ option_map numbers o → (y : A) × (o ≡ Some y) × (b ≡ numbers y)
-the_least numbers b None is = absurd (cc)
-the_least numbers b (Some y) is = let same : b ≡ numbers y = cc in (y, refl, same)
-
-empty_by : {A : Type 0} (numbers : A → List ℕ) (xs : List A) → None ≡ option_map numbers (first_least numbers xs) → xs ≡ []
+empty_by : {A : Type 0} (numbers : A → List ℕ) (xs : List A) → None ≡ first_least numbers xs → xs ≡ []
 empty_by numbers [] is = refl
 empty_by numbers (x ∷ xs) is = absurd (cc)
 
 -- the first item is the least
-pub first_kept : {A : Type 0} (numbers : A → List ℕ) (xs items : List A) (z : A) → AreLeastOf numbers xs None items → AreLeastOf numbers (xs ++ z ∷ []) (Some (numbers z)) (z ∷ [])
-first_kept numbers xs items z are = rw (empty_by numbers xs are.least) (record { items = rw (not_itself numbers z) refl; least = refl })
+pub first_kept : {A : Type 0} (numbers : A → List ℕ) (xs items : List A) (z : A) → AreLeastOf numbers xs None items → AreLeastOf numbers (xs ++ z ∷ []) (Some z) (z ∷ [])
+first_kept numbers xs items z are = rw (empty_by numbers xs are.first) (record { items = rw (not_itself numbers z) refl; first = refl })
 
 -- an item below the least is kept alone
-pub below_kept : {A : Type 0} (numbers : A → List ℕ) (xs items : List A) (b : List ℕ) (z : A) → AreLeastOf numbers xs (Some b) items → comes_before (numbers z) b ≡ true
-    → AreLeastOf numbers (xs ++ z ∷ []) (Some (numbers z)) (z ∷ [])
-below_kept numbers xs items b z are below =
-    let y = the_least numbers b (first_least numbers xs) are.least in
-    let less : is_less numbers z y.0 ≡ true = rw y.2 at below in
-    record {
-      items = sym (below_alone numbers xs y.0 z y.1 less);
-      least = sym (ap (option_map numbers) (rw less at (next_least numbers xs y.0 z y.1)));
-    }
+pub below_kept : {A : Type 0} (numbers : A → List ℕ) (xs items : List A) (y z : A) → AreLeastOf numbers xs (Some y) items → is_less numbers z y ≡ true → AreLeastOf numbers (xs ++ z ∷ []) (Some z) (z ∷ [])
+below_kept numbers xs items y z are less = record {
+  items = sym (below_alone numbers xs y z (sym are.first) less);
+  first = sym (rw less at (next_least numbers xs y z (sym are.first)));
+}
 
 -- one above it is passed over
-pub above_passed : {A : Type 0} (numbers : A → List ℕ) (xs items : List A) (b : List ℕ) (z : A) → AreLeastOf numbers xs (Some b) items → comes_before b (numbers z) ≡ true
-    → AreLeastOf numbers (xs ++ z ∷ []) (Some b) items
-above_passed numbers xs items b z are above =
-    let y = the_least numbers b (first_least numbers xs) are.least in
-    let more : is_less numbers y.0 z ≡ true = rw y.2 at above in
-    let not_less : is_less numbers z y.0 ≡ false = (order numbers).one_way y.0 z more in
+pub above_passed : {A : Type 0} (numbers : A → List ℕ) (xs items : List A) (y z : A) → AreLeastOf numbers xs (Some y) items → is_less numbers y z ≡ true → AreLeastOf numbers (xs ++ z ∷ []) (Some y) items
+above_passed numbers xs items y z are more =
+    let not_less : is_less numbers z y ≡ false = (order numbers).one_way y z more in
     record {
-      items = are.items ∙ sym (joined numbers xs y.0 z y.1 not_less ∙ rw more (append-nil (all_least numbers xs)));
-      least = ap Some y.2 ∙ sym (ap (option_map numbers) (rw not_less at (next_least numbers xs y.0 z y.1)));
+      items = are.items ∙ sym (joined numbers xs y z (sym are.first) not_less ∙ rw more (append-nil (all_least numbers xs)));
+      first = sym (rw not_less at (next_least numbers xs y z (sym are.first)));
     }
 
 -- and one that is neither joins the others
-pub equal_joins : {A : Type 0} (numbers : A → List ℕ) (xs items : List A) (b : List ℕ) (z : A) → AreLeastOf numbers xs (Some b) items → comes_before (numbers z) b ≡ false → comes_before b (numbers z) ≡ false
-    → AreLeastOf numbers (xs ++ z ∷ []) (Some b) (items ++ z ∷ [])
-equal_joins numbers xs items b z are not_below not_above =
-    let y = the_least numbers b (first_least numbers xs) are.least in
-    let not_less : is_less numbers z y.0 ≡ false = rw y.2 at not_below in
-    let not_more : is_less numbers y.0 z ≡ false = rw y.2 at not_above in
-    record {
-      items = ap (λ ws. ws ++ z ∷ []) are.items ∙ sym (joined numbers xs y.0 z y.1 not_less ∙ rw not_more refl);
-      least = ap Some y.2 ∙ sym (ap (option_map numbers) (rw not_less at (next_least numbers xs y.0 z y.1)));
-    }
+pub equal_joins : {A : Type 0} (numbers : A → List ℕ) (xs items : List A) (y z : A) → AreLeastOf numbers xs (Some y) items → is_less numbers z y ≡ false → is_less numbers y z ≡ false
+    → AreLeastOf numbers (xs ++ z ∷ []) (Some y) (items ++ z ∷ [])
+equal_joins numbers xs items y z are not_less not_more = record {
+  items = ap (λ ws. ws ++ z ∷ []) are.items ∙ sym (joined numbers xs y z (sym are.first) not_less ∙ rw not_more refl);
+  first = sym (rw not_less at (next_least numbers xs y z (sym are.first)));
+}
 
--- a value that doesn't pass a test, or before which the least comes, is passed over
-pub passed_over : (numbers : Value → List ℕ) (test : Value → Bool) (xs : List Value) (l : LeastValues) (v : Value) → (test v ≡ false) ⊎ LiesBelow l.least (numbers v) → AreLeast numbers xs l
-    → AreLeast numbers (xs ++ filter test (v ∷ [])) l
-passed_over numbers test xs l v why are = by (test v) refl
+-- what is kept, by its parts
+kept_by : (p : Parts) (s : Snapshot) (class : ℕ) (numbers : Value → List ℕ) (ys : List Value) (l : LeastValues) (o : Offer) (values : List Value) → l.first ≡ Some o → l.values.items ≡ values → IsPriced p s class numbers o
+    → AreLeastOf numbers ys (Some o.value) values → AreLeast p s class numbers ys l
+kept_by p s class numbers ys l o values first items priced are = record {
+  are = rw (first, items) are;
+  priced = rw first priced;
+}
+
+parts_of : (p : Parts) (s : Snapshot) (class : ℕ) (numbers : Value → List ℕ) (ys : List Value) (l : LeastValues) (o : Offer) → l.first ≡ Some o → AreLeast p s class numbers ys l → AreLeastOf numbers ys (Some o.value) l.values.items
+parts_of p s class numbers ys l o first are = rw first at are.are
+
+pub price_of_first : (p : Parts) (s : Snapshot) (class : ℕ) (numbers : Value → List ℕ) (ys : List Value) (l : LeastValues) (o : Offer) → l.first ≡ Some o → AreLeast p s class numbers ys l → IsPriced p s class numbers o
+price_of_first p s class numbers ys l o first are = rw first at are.priced
+
+-- the least of no value
+pub none_kept : (p : Parts) (s : Snapshot) (class : ℕ) (numbers : Value → List ℕ) (l : LeastValues) → l.first ≡ None → l.values.items ≡ [] → AreLeast p s class numbers [] l
+none_kept p s class numbers l first items = record {
+  are = rw (first, items) (record { items = refl; first = refl });
+  priced = rw first tt;
+}
+
+-- the first value is kept alone
+pub set_first : (p : Parts) (s : Snapshot) (class : ℕ) (numbers : Value → List ℕ) (xs : List Value) (o : Offer) (old new : LeastValues) → old.first ≡ None → new.first ≡ Some o → new.values.items ≡ o.value ∷ [] → IsPriced p s class numbers o
+    → AreLeast p s class numbers xs old → AreLeast p s class numbers (xs ++ o.value ∷ []) new
+set_first p s class numbers xs o old new was is items priced are =
+    let none : AreLeastOf numbers xs None old.values.items = rw was at are.are in
+    kept_by p s class numbers (xs ++ o.value ∷ []) new o (o.value ∷ []) is items priced (first_kept numbers xs old.values.items o.value none)
+
+-- and so is one that comes before the least so far
+pub set_below : (p : Parts) (s : Snapshot) (class : ℕ) (numbers : Value → List ℕ) (xs : List Value) (o least : Offer) (old new : LeastValues) → old.first ≡ Some least → is_less numbers o.value least.value ≡ true
+    → new.first ≡ Some o → new.values.items ≡ o.value ∷ [] → IsPriced p s class numbers o → AreLeast p s class numbers xs old → AreLeast p s class numbers (xs ++ o.value ∷ []) new
+set_below p s class numbers xs o least old new was less is items priced are =
+    kept_by p s class numbers (xs ++ o.value ∷ []) new o (o.value ∷ []) is items priced
+    (below_kept numbers xs old.values.items least.value o.value (parts_of p s class numbers xs old least was are) less)
+
+-- one before which the least so far comes is passed over
+pub left_above : (p : Parts) (s : Snapshot) (class : ℕ) (numbers : Value → List ℕ) (xs : List Value) (v : Value) (least next : Offer) (old new : LeastValues) → old.first ≡ Some least → is_less numbers least.value v ≡ true
+    → new.first ≡ Some next → next.value ≡ least.value → new.values.items ≡ old.values.items → IsPriced p s class numbers next → AreLeast p s class numbers xs old → AreLeast p s class numbers (xs ++ v ∷ []) new
+left_above p s class numbers xs v least next old new was less is same items priced are =
+    kept_by p s class numbers (xs ++ v ∷ []) new next old.values.items is items priced
+    (rw same (above_passed numbers xs old.values.items least.value v (parts_of p s class numbers xs old least was are) less))
+
+-- and one that is neither joins the others
+pub joins_equal : (p : Parts) (s : Snapshot) (class : ℕ) (numbers : Value → List ℕ) (xs : List Value) (v : Value) (least next : Offer) (old new : LeastValues) → old.first ≡ Some least → is_less numbers v least.value ≡ false
+    → is_less numbers least.value v ≡ false → new.first ≡ Some next → next.value ≡ least.value → new.values.items ≡ old.values.items ++ v ∷ [] → IsPriced p s class numbers next → AreLeast p s class numbers xs old
+    → AreLeast p s class numbers (xs ++ v ∷ []) new
+joins_equal p s class numbers xs v least next old new was not_less not_more is same items priced are =
+    kept_by p s class numbers (xs ++ v ∷ []) new next (old.values.items ++ v ∷ []) is items priced
+    (rw same (equal_joins numbers xs old.values.items least.value v (parts_of p s class numbers xs old least was are) not_less not_more))
+
+-- a value that isn't available, or of which the conflict set has more classes than the least so far weigh, is passed over
+pub passed_over : (p : Parts) (s : Snapshot) (outs : List ℕ) (class : ℕ) (test : Value → Bool) (xs : List Value) (l : LeastValues) (v : Value) → (test v ≡ false) ⊎ WeighsLess l.first (length (conflicts_of p s class v))
+    → AreLeast p s class (burden_by p s outs class) xs l → AreLeast p s class (burden_by p s outs class) (xs ++ filter test (v ∷ [])) l
+passed_over p s outs class test xs l v why are = by (test v) refl
   where
-    nothing : AreLeast numbers (xs ++ []) l
-    nothing = rw (append-nil xs) are
+    numbers : Value → List ℕ
+    numbers = burden_by p s outs class
 
-    above : (o : Option Burden) → l.least ≡ o → LiesBelow o (numbers v) → AreLeast numbers (xs ++ v ∷ []) l
-    above None is below = absurd below
-    above (Some b) is below = rw (ap (option_map burden_numbers) is) (above_passed numbers xs l.values.items (burden_numbers b) v (rw (ap (option_map burden_numbers) is) at are) below)
+    above : (first : Option Offer) → l.first ≡ first → WeighsLess first (length (conflicts_of p s class v)) → AreLeast p s class numbers (xs ++ v ∷ []) l
+    above None is less = absurd less
+    above (Some o) is less =
+        let priced = price_of_first p s class numbers xs l o is are in
+        left_above p s class numbers xs v o o l l is (outweighed p s class numbers o v (weight_by outs) (λ other. omega arith) (conflicts_of p s class v) _ priced refl less) is refl refl priced are
 
-    passes : test v ≡ true → (test v ≡ false) ⊎ LiesBelow l.least (numbers v) → AreLeast numbers (xs ++ v ∷ []) l
+    passes : test v ≡ true → (test v ≡ false) ⊎ WeighsLess l.first (length (conflicts_of p s class v)) → AreLeast p s class numbers (xs ++ v ∷ []) l
     passes pass (inl fails) = absurd (apart (sym pass ∙ fails))
       where
         apart : true ≡ false → ⊥
         apart e = cc
-    passes pass (inr below) = above l.least refl below
+    passes pass (inr less) = above l.first refl less
 
-    by : (b : Bool) → test v ≡ b → AreLeast numbers (xs ++ cond b (v ∷ []) []) l
+    by : (b : Bool) → test v ≡ b → AreLeast p s class numbers (xs ++ cond b (v ∷ []) []) l
     by true pass = passes pass why
-    by false fails = nothing
+    by false fails = rw (append-nil xs) are
+
+-- what was asked for once its conflict set was found is the price of a value
+pub burden_after : (start after : Held) (outs : List ℕ) (class : ℕ) (v : Value) (weight : ℕ) (price : Price) → after ≡ with_taken start (conflicts_of start.problem start.present class v) → weight ≡ sum_by (weight_by outs) after.taken
+    → price ≡ record { weight = weight; strays = false } → IsPriceOf start.problem start.present class (burden_by start.problem start.present outs class) v price
+burden_after start after outs class v weight price found is same =
+    let taken : after.taken ≡ conflicts_of start.problem start.present class v = ap (λ (h : Held). h.taken) found in
+    rw same (ap (λ (n : ℕ). n ∷ 0 ∷ total_with start.problem start.present class v ∷ []) (is ∙ ap (sum_by (weight_by outs)) taken))
 
 -- and one that passes is taken in
-pub passed_on : (numbers : Value → List ℕ) (test : Value → Bool) (xs : List Value) (l : LeastValues) (v : Value) → test v ≡ true → AreLeast numbers (xs ++ v ∷ []) l → AreLeast numbers (xs ++ filter test (v ∷ [])) l
-passed_on numbers test xs l v pass are = rw pass are
+pub passed_on : (p : Parts) (s : Snapshot) (class : ℕ) (numbers : Value → List ℕ) (test : Value → Bool) (xs : List Value) (l : LeastValues) (v : Value) → test v ≡ true → AreLeast p s class numbers (xs ++ v ∷ []) l
+    → AreLeast p s class numbers (xs ++ filter test (v ∷ [])) l
+passed_on p s class numbers test xs l v pass are = rw pass are
 
 -- no more values are least than there are
-pub few_least : (numbers : Value → List ℕ) (test : Value → Bool) (domain : List Value) (l : LeastValues) → AreLeast numbers (filter test domain) l → length l.values.items ≤ length domain
-few_least numbers test domain l are =
+pub few_least : (p : Parts) (s : Snapshot) (class : ℕ) (numbers : Value → List ℕ) (test : Value → Bool) (domain : List Value) (l : LeastValues) → AreLeast p s class numbers (filter test domain) l → length l.values.items ≤ length domain
+few_least p s class numbers test domain l are =
     let some = filter test domain in
     let best = λ (x : Value). not (list_any (λ y. is_less numbers y x) some) in
-    omega (arith, ap length are.items, length-filter best some, count_by-le-length best some, length-filter test domain, count_by-le-length test domain)
+    omega (arith, ap length are.are.items, length-filter best some, count_by-le-length best some, length-filter test domain, count_by-le-length test domain)
 
 -- one value more of a domain
-pub one_further : (numbers : Value → List ℕ) (test : Value → Bool) (domain : List Value) (k : ℕ) (v : Value) (l : LeastValues) → slice_get domain k ≡ Some v → AreLeast numbers (filter test (take k domain) ++ filter test (v ∷ [])) l
-    → AreLeast numbers (filter test (take (k + 1) domain)) l
-one_further numbers test domain k v l at are =
+pub one_further : (p : Parts) (s : Snapshot) (class : ℕ) (numbers : Value → List ℕ) (test : Value → Bool) (domain : List Value) (k : ℕ) (v : Value) (l : LeastValues) → slice_get domain k ≡ Some v
+    → AreLeast p s class numbers (filter test (take k domain) ++ filter test (v ∷ [])) l → AreLeast p s class numbers (filter test (take (k + 1) domain)) l
+one_further p s class numbers test domain k v l at are =
     let value : slice_index_or domain k v ≡ v = get_or_from_slice_get domain k v v at in
     let more = rw value at (filter_more test domain k v (slice_get_within domain k v at)) in
     rw more are
-
--- what is kept, by its parts
-kept_by : (numbers : Value → List ℕ) (ys : List Value) (l : LeastValues) (b : Burden) (values : List Value) → l.least ≡ Some b → l.values.items ≡ values → AreLeastOf numbers ys (Some (burden_numbers b)) values → AreLeast numbers ys l
-kept_by numbers ys l b values least items are =
-    subst (λ (o : Option Burden). AreLeastOf numbers ys (option_map burden_numbers o) l.values.items) (sym least) (subst (λ (ws : List Value). AreLeastOf numbers ys (Some (burden_numbers b)) ws) (sym items) are)
-
-parts_of : (numbers : Value → List ℕ) (ys : List Value) (l : LeastValues) (b : Burden) → l.least ≡ Some b → AreLeast numbers ys l → AreLeastOf numbers ys (Some (burden_numbers b)) l.values.items
-parts_of numbers ys l b least are = subst (λ (o : Option Burden). AreLeastOf numbers ys (option_map burden_numbers o) l.values.items) least are
-
--- a value below the least is kept alone
-pub set_below : (numbers : Value → List ℕ) (xs : List Value) (v : Value) (burden least : Burden) (old new : LeastValues) → old.least ≡ Some least → comes_before (burden_numbers burden) (burden_numbers least) ≡ true
-    → new.least ≡ Some burden → new.values.items ≡ v ∷ [] → burden_numbers burden ≡ numbers v → AreLeast numbers xs old → AreLeast numbers (xs ++ v ∷ []) new
-set_below numbers xs v burden least old new was below is items same are =
-    let less = subst (λ (ns : List ℕ). comes_before ns (burden_numbers least) ≡ true) same below in
-    let alone = below_kept numbers xs old.values.items (burden_numbers least) v (parts_of numbers xs old least was are) less in
-    kept_by numbers (xs ++ v ∷ []) new burden (v ∷ []) is items (subst (λ (ns : List ℕ). AreLeastOf numbers (xs ++ v ∷ []) (Some ns) (v ∷ [])) (sym same) alone)
-
--- and so is the first one
-pub set_first : (numbers : Value → List ℕ) (xs : List Value) (v : Value) (burden : Burden) (old new : LeastValues) → old.least ≡ None → new.least ≡ Some burden → new.values.items ≡ v ∷ [] → burden_numbers burden ≡ numbers v
-    → AreLeast numbers xs old → AreLeast numbers (xs ++ v ∷ []) new
-set_first numbers xs v burden old new was is items same are =
-    let none = subst (λ (o : Option Burden). AreLeastOf numbers xs (option_map burden_numbers o) old.values.items) was are in
-    let alone = first_kept numbers xs old.values.items v none in
-    kept_by numbers (xs ++ v ∷ []) new burden (v ∷ []) is items (subst (λ (ns : List ℕ). AreLeastOf numbers (xs ++ v ∷ []) (Some ns) (v ∷ [])) (sym same) alone)
-
--- one above the least is passed over
-pub left_above : (numbers : Value → List ℕ) (xs : List Value) (v : Value) (burden least : Burden) (l : LeastValues) → l.least ≡ Some least → comes_before (burden_numbers least) (burden_numbers burden) ≡ true → burden_numbers burden ≡ numbers v
-    → AreLeast numbers xs l → AreLeast numbers (xs ++ v ∷ []) l
-left_above numbers xs v burden least l was above same are =
-    let more = subst (λ (ns : List ℕ). comes_before (burden_numbers least) ns ≡ true) same above in
-    kept_by numbers (xs ++ v ∷ []) l least l.values.items was refl (above_passed numbers xs l.values.items (burden_numbers least) v (parts_of numbers xs l least was are) more)
-
--- and one that is neither joins the others
-pub joins_equal : (numbers : Value → List ℕ) (xs : List Value) (v : Value) (burden least : Burden) (l : LeastValues) → l.least ≡ Some least → comes_before (burden_numbers burden) (burden_numbers least) ≡ false
-    → comes_before (burden_numbers least) (burden_numbers burden) ≡ false → burden_numbers burden ≡ numbers v → AreLeast numbers xs l → AreLeastOf numbers (xs ++ v ∷ []) (option_map burden_numbers l.least) (l.values.items ++ v ∷ [])
-joins_equal numbers xs v burden least l was not_below not_above same are =
-    let not_less = subst (λ (ns : List ℕ). comes_before ns (burden_numbers least) ≡ false) same not_below in
-    let not_more = subst (λ (ns : List ℕ). comes_before (burden_numbers least) ns ≡ false) same not_above in
-    subst (λ (o : Option Burden). AreLeastOf numbers (xs ++ v ∷ []) (option_map burden_numbers o) (l.values.items ++ v ∷ [])) (sym was)
-    (equal_joins numbers xs l.values.items (burden_numbers least) v (parts_of numbers xs l least was are) not_less not_more)
-
--- a value of which the conflict set has more classes than the least so far weighs is above it
-pub lies_heavier : (p : Parts) (s : Snapshot) (outs : List ℕ) (class : ℕ) (v : Value) (b : Burden) → b.weight < length (conflicts_of p s class v) → LiesBelow (Some b) (burden_by p s outs class v)
-lies_heavier p s outs class v b more =
-    let weight = sum_by (weight_by outs) (conflicts_of p s class v) in
-    let lighter : b.weight < weight = omega (arith, more, at_least_1 (weight_by outs) (λ other. omega arith) (conflicts_of p s class v)) in
-    rw (sym (nat_cmp_is b.weight weight Less lighter)) refl
 
 -- where an item passes a test, some do
 pub one_passes : {A : Type 0} (test : A → Bool) (xs : List A) (k : ℕ) (x : A) → slice_get xs k ≡ Some x → test x ≡ true → filter test xs ≢ []

@@ -1,8 +1,13 @@
 -- Turns that learn which classes are hard: what each class weighs, what the words draw, and how far the turns have come.
 use Rattle.std.proofs.Common.{◌≡◌, ℕ, ◌+◌, ◌*◌, ◌-◌, ◌^◌, ◌<◌, ◌≤◌, Bool, true, false, cond, Option, Some, None, List, [], ◌∷◌, ◌++◌, length, map, length-append, refl, ap, ◌∙◌, ◌⊎◌, inl, inr, ◌≢◌, arith}
-use Rattle.std.specs.Prelude.{IfSome, IsSome, count_by, drop, nat_eq, slice_get, slice_index_or}
+use Rattle.std.specs.Prelude.{IfSome, IsSome, count_by, drop, nat_eq, not, slice_get, slice_index_or}
+use Rattle.std.specs.Cmp.Lexicographic.{slice_cmp}
+use Rattle.std.specs.Ordering.{is_lt, nat_cmp, ordering_then}
+use Rattle.std.specs.declared.cmp.Ordering.{Ordering}
+use Rattle.std.specs.declared.cmp.Ordering.TheVariants.{Less, Equal, Greater}
+use Rattle.tt_base.specs.Lists.{is_less}
 use Rattle.std.specs.Option.{option_map, option_map_or}
-use Rattle.std.specs.List.{sum_by}
+use Rattle.std.specs.List.{filter, list_any, sum_by}
 use Rattle.std.proofs.lemmas.Bool.Decides.{eqb_tells}
 use Rattle.tt_base.proofs.ListLemmas.{drop_at}
 use Rattle.std.proofs.lemmas.List.Sums.{sum_by-append, sum_by-cons, count_by-le-length}
@@ -16,7 +21,7 @@ use Rattle.tt_search.specs.declared.turn.Move.{Move}
 use Rattle.tt_search.specs.declared.way.Best.{Best}
 use Rattle.tt_search.specs.declared.weights.ClassWeights.{ClassWeights}
 use Rattle.tt_search.specs.Numbers.{after_move, rank_numbers}
-use Rattle.tt_search.specs.PlaceTurns.{PlaceMoment, TurnWords, after_forcing, all_least, burden_of, class_weight, least_values, place_end, place_turn, places_after, two_words}
+use Rattle.tt_search.specs.PlaceTurns.{PlaceMoment, TurnWords, after_forcing, all_least, burden_of, class_weight, least_values, place_end, place_turn, places_after, set_weight, two_words}
 use Rattle.tt_search.specs.PlacingNow.{CountsOuts, burden_by, moment_after, taken_by, weight_by}
 use Rattle.tt_search.specs.Searched.{onward, rank_of}
 use Rattle.tt_search.specs.Turns.{available_values, candidates, forced_if}
@@ -51,19 +56,30 @@ counts_more p outs taken old new counts whole more = record {
   counts = λ class. omega (arith, more class, counts.counts class, sum_by-append (λ k. cond (nat_eq class k) 1 0) taken outs);
 }
 
--- the burden by the counts is that of the definition
-same_burden : (p : Parts) (s : Snapshot) (outs : List ℕ) (w : ClassWeights) (class : ℕ) → CountsOuts p outs w → burden_by p s w.outs.items class ≡ burden_of p (record { snapshot = s; outs = outs }) class
+-- the burden by the counts tells as that of the definition
+same_burden : (p : Parts) (s : Snapshot) (outs : List ℕ) (w : ClassWeights) (class : ℕ) (x y : Value) → CountsOuts p outs w
+    → is_less (burden_by p s w.outs.items class) x y ≡ is_less (burden_of p (record { snapshot = s; outs = outs }) class) x y
 unfolding burden_of
-same_burden p s outs w class counts =
+same_burden p s outs w class x y counts =
     let weights : weight_by w.outs.items ≡ class_weight outs = λ j other. ap (λ k. 1 + k) (counts.counts other) j in
-    let burden : (ℕ → ℕ) → Value → List ℕ = λ weight v. sum_by weight (conflicts_of p s class v) ∷ total_with p s class v ∷ [] in
-    ap burden weights
+    let burden : (ℕ → ℕ) → Value → List ℕ = λ weight v. sum_by weight (conflicts_of p s class v) ∷ 0 ∷ total_with p s class v ∷ [] in
+    ap (λ (weight : ℕ → ℕ). is_less (burden weight) x y) weights ∙ by (nat_cmp (set_weight p m class x) (set_weight p m class y))
+  where
+    m : PlaceMoment
+    m = record { snapshot = s; outs = outs }
+
+    by : (o : Ordering) → is_lt (ordering_then o (slice_cmp nat_cmp (0 ∷ total_with p s class x ∷ []) (0 ∷ total_with p s class y ∷ []))) ≡ is_lt (ordering_then o (slice_cmp nat_cmp (total_with p s class x ∷ []) (total_with p s class y ∷ [])))
+    by Less = refl
+    by Equal = refl
+    by Greater = refl
 
 -- so the values found are those of the definition
 pub least_same : (p : Parts) (s : Snapshot) (outs : List ℕ) (w : ClassWeights) (class : ℕ) (values : List Value) → CountsOuts p outs w → values ≡ all_least (burden_by p s w.outs.items class) (available_values p s class)
     → values ≡ least_values p (record { snapshot = s; outs = outs }) class
 unfolding least_values
-least_same p s outs w class values counts are = are ∙ ap (λ (numbers : Value → List ℕ). all_least numbers (available_values p s class)) (same_burden p s outs w class counts)
+least_same p s outs w class values counts are =
+    let less : is_less (burden_by p s w.outs.items class) ≡ is_less (burden_of p (record { snapshot = s; outs = outs }) class) = λ j x y. same_burden p s outs w class x y counts j in
+    are ∙ ap (λ (before : Value → Value → Bool). filter (λ x. not (list_any (λ y. before y x) (available_values p s class))) (available_values p s class)) less
 
 -- two words that are drawn one after the other
 then_words : ℕ → ℕ × Stream → TurnWords × Stream

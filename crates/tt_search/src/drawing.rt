@@ -29,7 +29,8 @@ pub(crate) struct Candidates {
 pub(crate) fn is_open(state: &State, class: u32, value: Value) -> bool
     requires { IsOfDomain state.now.problem class value }
     ensures value { result ≡ is_open state.now.problem state.now.present.closures class value }
-    ensures free { IsTrue result → blocked_of state.now.problem state.now.present.closures class value ≡ None }
+    ensures free { IsTrue result
+        → blocked_of state.now.problem state.now.present.closures class value ≡ None }
 {
     state.blocked(class, value).is_none()
 }
@@ -52,7 +53,11 @@ fn has_open_value(state: &State, class: u32) -> bool
 // Whether each class has an open value. Want of memory comes only where there is a class.
 fn hopeful_classes(alloc: Global, state: &State) -> Result<Vec<bool>, AllocError>
     ensures whole { IfOk result (λ flags. length flags.items ≡ length state.now.problem.classes) }
-    ensures hopeful { IfOk result (λ flags. (class : ℕ) → class < length state.now.problem.classes → slice_index_or flags.items class false ≡ has_open_value state.now.problem state.now.present.closures class) }
+    ensures hopeful { IfOk result (λ flags.
+        (class : ℕ)
+        → class < length state.now.problem.classes
+        → slice_index_or flags.items class false
+        ≡ has_open_value state.now.problem state.now.present.closures class) }
     ensures memory { OnErr result (0 < length state.now.problem.classes) }
 {
     let mut flags = Vec::new(alloc);
@@ -89,7 +94,8 @@ impl Candidates {
     fn look_at(&mut self, state: &State, class: u32)
         requires kept { AreHopeful state.now.problem state.now.present.closures self.old }
         ensures kept { AreHopeful state.now.problem state.now.present.closures self.new }
-        ensures right { (late : List ℕ) → AreCandidates state.now.problem state.now.present self.old (class ∷ late)
+        ensures right { (late : List ℕ)
+            → AreCandidates state.now.problem state.now.present self.old (class ∷ late)
             → AreCandidates state.now.problem state.now.present self.new late }
     {
         if class >= state.problem().class_count() {
@@ -102,7 +108,8 @@ impl Candidates {
 
     // Looks again at a class that was forced to a value, and at those that were taken out for it.
     pub(crate) fn follow(&mut self, state: &State, class: u32)
-        requires late { AreCandidates state.now.problem state.now.present self.old (class ∷ state.now.taken) }
+        requires late { AreCandidates state.now.problem state.now.present self.old
+            (class ∷ state.now.taken) }
         ensures { AreCandidates state.now.problem state.now.present self.new [] }
     {
         self.look_at(state, class);
@@ -113,7 +120,10 @@ impl Candidates {
 
     // The candidate that a random word draws.
     pub(crate) fn drawn(&self, word: u32) -> Option<u32>
-        ensures { (p : Parts) → (s : Snapshot) → AreCandidates p s self.now [] → result ≡ drawn word (candidates p s) }
+        ensures { (p : Parts)
+            → (s : Snapshot)
+            → AreCandidates p s self.now []
+            → result ≡ drawn word (candidates p s) }
     {
         self.free.nth(draw(word, u64::from(self.free.count())))
     }

@@ -1,17 +1,16 @@
 //! The values of a class with the least burden.
 
-ghost use Rattle.std.specs.Prelude.{◌≡◌, ◌≢◌, ◌<◌, ◌≤◌, ◌^◌, ◌∷◌, ◌++◌, [], ℕ, List, true, false, None, IfNone, IfSome, IsTrue, OnOk, OnErr, length};
+ghost use Rattle.std.specs.Prelude.{◌≡◌, ◌≢◌, ◌<◌, ◌≤◌, ◌^◌, ◌∷◌, ◌++◌, [], ℕ, List, true, None, Some, IfNone, IfSome, OnOk, OnErr, length};
 ghost use Rattle.std.specs.List.{filter};
 ghost use Rattle.tt_draw.specs.Words.{drawn};
-ghost use Rattle.tt_base.specs.Lists.{comes_before};
 ghost use Rattle.tt_plan.specs.Domain.{IsOfDomain};
-ghost use Rattle.tt_state.specs.History.{with_taken};
-ghost use Rattle.tt_state.specs.Values.{blocked_of, conflicts_of, conflicts_without, total_with};
+ghost use Rattle.tt_state.specs.Values.{conflicts_without, total_with};
 ghost use Rattle.tt_search.specs.Turns.{available_values, is_available};
-ghost use Rattle.tt_search.specs.PlacingNow.{AreLeast, IsPassed, LiesBelow, burden_by, burden_numbers};
+ghost use Rattle.tt_search.specs.Numbers.{IsKnown, IsPriceOf, IsPriced};
+ghost use Rattle.tt_search.specs.PlacingNow.{AreLeast, burden_by};
 
-use crate::drawing::is_open;
-use crate::turn::find_lighter;
+use crate::offer::{Offer, may_be_offered};
+use crate::price::Price;
 use crate::weights::ClassWeights;
 use std::alloc::{AllocError, Global};
 use tt_bits::Value;
@@ -19,27 +18,12 @@ use tt_draw::draw;
 use tt_plan::{domain_size, value_at};
 use tt_state::State;
 
-// What a value is chosen by, compared field by field: what its conflict set weighs, and the total with
-// the class there.
-#[derive(Clone, Copy, Debug, PartialEq, Eq, PartialOrd, Ord)]
-pub(crate) struct Burden {
-    pub weight: u128,
-    pub total: u128,
-}
-
-// The values of a class that are least so far, in the order of its domain, and their burden.
+// The values of a class that are least so far, in the order of its domain, and the first of them as an
+// offer.
 #[derive(Drop)]
 pub(crate) struct LeastValues {
-    least: Option<Burden>,
+    first: Option<Offer>,
     values: Vec<Value>,
-}
-
-impl Burden {
-    fn is_below(&self, other: &Burden) -> bool
-        ensures { result ≡ comes_before (burden_numbers self.now) (burden_numbers other.now) }
-    {
-        self < other
-    }
 }
 
 // The total with a class at a value, and none where it is above a bound. `others` are the student
@@ -48,8 +32,11 @@ fn total_up_to(state: &mut State, class: u32, value: Value, others: u64, most: u
     requires value { IsOfDomain state.old.problem class value }
     requires others { others ≡ conflicts_without state.old.problem state.old.present class }
     ensures same { state.new ≡ state.old }
-    ensures total { IfSome result (λ total. total ≡ total_with state.old.problem state.old.present class value) }
-    ensures none { IfNone result (most < total_with state.old.problem state.old.present class value) }
+    ensures total { IfSome result
+        (λ total. total ≡ total_with state.old.problem state.old.present class value) }
+    ensures most { IfSome result (λ total. total ≤ most) }
+    ensures none { IfNone result
+        (most < total_with state.old.problem state.old.present class value) }
 {
     match most.checked_add(1) {
         None => Some(state.trial(class, value)),
@@ -57,128 +44,106 @@ fn total_up_to(state: &mut State, class: u32, value: Value, others: u64, most: u
     }
 }
 
-// The total with a class at a value whose weight is this, and none where its burden is then above the
-// least so far.
-fn total_within(
-    state: &mut State,
-    class: u32,
-    value: Value,
-    others: u64,
-    weight: u128,
-    least: Option<Burden>,
-) -> Option<u128>
-    requires value { IsOfDomain state.old.problem class value }
-    requires others { others ≡ conflicts_without state.old.problem state.old.present class }
-    ensures same { state.new ≡ state.old }
-    ensures total { IfSome result (λ total. total ≡ total_with state.old.problem state.old.present class value) }
-    ensures none { IfNone result (LiesBelow least (weight ∷ total_with state.old.problem state.old.present class value ∷ [])) }
-{
-    let Some(least) = least else {
-        return Some(state.trial(class, value));
-    };
-    if weight > least.weight {
-        return None;
-    }
-    if weight == least.weight {
-        return total_up_to(state, class, value, others, least.total);
-    }
-    Some(state.trial(class, value))
-}
-
-// Finds the conflict set of a class at a value that isn't blocked, unless it has more classes than the
-// least so far weighs. Whether it was found.
-#[tactic(auto, using(crate::proofs::LeastLemmas::lies_heavier))]
-fn find_within(state: &mut State, class: u32, value: Value, least: Option<Burden>) -> bool
-    requires value { IsOfDomain state.old.problem class value }
-    requires open { blocked_of state.old.problem state.old.present.closures class value ≡ None }
-    ensures found { IsTrue result → state.new ≡ with_taken state.old (conflicts_of state.old.problem state.old.present class value) }
-    ensures heavier { result ≡ false → (outs : List ℕ) → LiesBelow least (burden_by state.old.problem state.old.present outs class value) }
-    ensures problem { state.new.problem ≡ state.old.problem }
-    ensures present { state.new.present ≡ state.old.present }
-    ensures entries { state.new.entries ≡ state.old.entries }
-{
-    let Some(least) = least else {
-        state.find_conflicts(class, value);
-        return true;
-    };
-    find_lighter(state, class, value, least.weight)
-}
-
-// The burden of a value that isn't blocked, and none where the value is held or its burden is above
-// the least so far. `others` are the student conflicts without the class. The conflict set is given up
-// once it weighs more, and the total is asked for only where it may tell.
-fn burden_within(
-    state: &mut State,
-    weights: &ClassWeights,
-    class: u32,
-    value: Value,
-    others: u64,
-    least: Option<Burden>,
-) -> Option<Burden>
-    requires whole { length weights.now.outs.items ≡ length state.old.problem.classes }
-    requires value { IsOfDomain state.old.problem class value }
-    requires open { blocked_of state.old.problem state.old.present.closures class value ≡ None }
-    requires others { others ≡ conflicts_without state.old.problem state.old.present class }
-    ensures problem { state.new.problem ≡ state.old.problem }
-    ensures present { state.new.present ≡ state.old.present }
-    ensures entries { state.new.entries ≡ state.old.entries }
-    ensures burden { IfSome result (λ b. burden_numbers b ≡ burden_by state.old.problem state.old.present weights.now.outs.items class value) }
-    ensures available { IfSome result (λ b. is_available state.old.problem state.old.present class value ≡ true) }
-    ensures none { IfNone result (IsPassed state.old.problem state.old.present weights.now.outs.items class value least) }
-{
-    if !find_within(state, class, value, least) || state.first_locked().is_some() {
-        return None;
-    }
-    let weight = weights.of_taken(state);
-    let total = total_within(state, class, value, others, weight, least)?;
-    Some(Burden { weight, total })
-}
-
 impl LeastValues {
     // No value.
     pub(crate) fn new(alloc: Global) -> LeastValues {
         LeastValues {
-            least: None,
+            first: None,
             values: Vec::new(alloc),
         }
     }
 
     // Forgets the values.
     fn clear(&mut self)
-        ensures { (numbers : Value → List ℕ) → AreLeast numbers [] self.new }
+        ensures first { self.new.first ≡ None }
+        ensures values { self.new.values.items ≡ [] }
     {
-        self.least = None;
+        self.first = None;
         self.values.clear();
     }
 
-    // Has this value alone.
-    fn set(&mut self, burden: Burden, value: Value) -> Result<(), AllocError>
-        ensures least { self.new.least ≡ Some burden }
-        ensures values { OnOk result (self.new.values.items ≡ value ∷ []) }
+    // Has this offer alone.
+    fn set(&mut self, offer: Offer) -> Result<(), AllocError>
+        ensures first { self.new.first ≡ Some offer }
+        ensures values { OnOk result (self.new.values.items ≡ offer.value ∷ []) }
     {
-        self.least = Some(burden);
+        self.first = Some(offer);
         self.values.clear();
-        self.values.push(value)?;
+        self.values.push(offer.value)?;
         Ok(())
     }
 
-    // Takes a value in by its burden: it is passed over where that is above the least so far, and the
-    // others go where it is below.
-    fn take(&mut self, burden: Burden, value: Value) -> Result<(), AllocError>
-        ensures { OnOk result ((numbers : Value → List ℕ) (xs : List Value) → burden_numbers burden ≡ numbers value → AreLeast numbers xs self.old
-            → AreLeast numbers (xs ++ value ∷ []) self.new) }
+    // Takes in an offer of the same price as the first of the least so far: it is passed over where its
+    // total is above theirs, and the others go where it is below.
+    fn take_equal(
+        &mut self,
+        state: &mut State,
+        class: u32,
+        others: u64,
+        first: Offer,
+        offer: Offer,
+    ) -> Result<(), AllocError>
+        requires others { others ≡ conflicts_without state.old.problem state.old.present class }
+        requires is_first { self.old.first ≡ Some first }
+        requires first { IsKnown state.old.problem state.old.present class first }
+        requires known { IsKnown state.old.problem state.old.present class offer }
+        ensures same { state.new ≡ state.old }
+        ensures known { IfSome self.new.first (IsKnown state.old.problem state.old.present class) }
+        ensures least { OnOk result ((numbers : Value → List ℕ) (xs : List Value)
+            → IsPriced state.old.problem state.old.present class numbers offer
+            → IsPriceOf state.old.problem state.old.present class numbers offer.value first.price
+            → AreLeast state.old.problem state.old.present class numbers xs self.old
+            → AreLeast state.old.problem state.old.present class numbers (xs ++ offer.value ∷ [])
+            self.new) }
     {
-        let Some(least) = self.least else {
-            return self.set(burden, value);
+        let least = first.total(state, class);
+        self.first = Some(Offer {
+            total: Some(least),
+            ..first
+        });
+        let Some(total) = total_up_to(state, class, offer.value, others, least) else {
+            return Ok(());
         };
-        if burden.is_below(&least) {
-            return self.set(burden, value);
+        if total < least {
+            return self.set(Offer {
+                total: Some(total),
+                ..offer
+            });
         }
-        if least.is_below(&burden) {
+        self.values.push(offer.value)?;
+        Ok(())
+    }
+
+    // Takes in an offer: it is passed over where its price is above that of the least so far, and the
+    // others go where it is below. Where the prices are equal, the totals tell.
+    fn take(
+        &mut self,
+        state: &mut State,
+        class: u32,
+        others: u64,
+        offer: Offer,
+    ) -> Result<(), AllocError>
+        requires others { others ≡ conflicts_without state.old.problem state.old.present class }
+        requires first { IfSome self.old.first (IsKnown state.old.problem state.old.present class) }
+        requires known { IsKnown state.old.problem state.old.present class offer }
+        ensures same { state.new ≡ state.old }
+        ensures known { IfSome self.new.first (IsKnown state.old.problem state.old.present class) }
+        ensures least { OnOk result ((numbers : Value → List ℕ) (xs : List Value)
+            → IsPriced state.old.problem state.old.present class numbers offer
+            → AreLeast state.old.problem state.old.present class numbers xs self.old
+            → AreLeast state.old.problem state.old.present class numbers (xs ++ offer.value ∷ [])
+            self.new) }
+    {
+        let Some(first) = self.first else {
+            return self.set(offer);
+        };
+        if offer.price.is_below(&first.price) {
+            return self.set(offer);
+        }
+        if first.price.is_below(&offer.price) {
             return Ok(());
         }
-        self.values.push(value)?;
-        Ok(())
+        self.take_equal(state, class, others, first, offer)
     }
 
     // Looks at a value, which is passed over where something stands in its way, and for which no memory
@@ -194,20 +159,36 @@ impl LeastValues {
         requires whole { length weights.now.outs.items ≡ length state.old.problem.classes }
         requires value { IsOfDomain state.old.problem class value }
         requires others { others ≡ conflicts_without state.old.problem state.old.present class }
+        requires first { IfSome self.old.first (IsKnown state.old.problem state.old.present class) }
         ensures problem { state.new.problem ≡ state.old.problem }
         ensures present { state.new.present ≡ state.old.present }
         ensures entries { state.new.entries ≡ state.old.entries }
-        ensures least { OnOk result ((xs : List Value) → AreLeast (burden_by state.old.problem state.old.present weights.now.outs.items class) xs self.old
-            → AreLeast (burden_by state.old.problem state.old.present weights.now.outs.items class) (xs ++ filter (is_available state.old.problem state.old.present class) (value ∷ [])) self.new) }
-        ensures memory { OnErr result (is_available state.old.problem state.old.present class value ≡ true) }
+        ensures known { IfSome self.new.first (IsKnown state.old.problem state.old.present class) }
+        ensures least { OnOk result ((xs : List Value)
+            → AreLeast state.old.problem state.old.present class
+            (burden_by state.old.problem state.old.present weights.now.outs.items class) xs
+            self.old
+            → AreLeast state.old.problem state.old.present class
+            (burden_by state.old.problem state.old.present weights.now.outs.items class)
+            (xs ++ filter (is_available state.old.problem state.old.present class) (value ∷ []))
+            self.new) }
+        ensures memory { OnErr result
+            (is_available state.old.problem state.old.present class value ≡ true) }
     {
-        if !is_open(state, class, value) {
+        if !may_be_offered(state, class, value, self.first) {
             return Ok(());
         }
-        match burden_within(state, weights, class, value, others, self.least) {
-            None => Ok(()),
-            Some(burden) => self.take(burden, value),
-        }
+        let weight = weights.of_taken(state);
+        let price = Price {
+            weight,
+            strays: false,
+        };
+        let offer = Offer {
+            price,
+            total: None,
+            value,
+        };
+        self.take(state, class, others, offer)
     }
 
     // Finds the values of a class that are least among those in whose way nothing stands. Want of memory
@@ -223,9 +204,12 @@ impl LeastValues {
         ensures problem { state.new.problem ≡ state.old.problem }
         ensures present { state.new.present ≡ state.old.present }
         ensures entries { state.new.entries ≡ state.old.entries }
-        ensures least { OnOk result (AreLeast (burden_by state.old.problem state.old.present weights.now.outs.items class) (available_values state.old.problem state.old.present class) self.new) }
+        ensures least { OnOk result (AreLeast state.old.problem state.old.present class
+            (burden_by state.old.problem state.old.present weights.now.outs.items class)
+            (available_values state.old.problem state.old.present class) self.new) }
         ensures few { OnOk result (length self.new.values.items ≤ 1000000) }
-        ensures memory { OnErr result (available_values state.old.problem state.old.present class ≢ []) }
+        ensures memory { OnErr result
+            (available_values state.old.problem state.old.present class ≢ []) }
     {
         self.clear();
         let others = state.conflicts_without(class);

@@ -58,10 +58,16 @@ impl Chooser {
         ensures present { state.new.present ≡ state.old.present }
         ensures entries { state.new.entries ≡ state.old.entries }
         ensures weights { self.new.weights ≡ self.old.weights }
-        ensures turn { IfOk result (λ next. (outs : List ℕ) → CountsOuts state.old.problem outs self.old.weights
-            → place_turn state.old.problem (record { class = class_word; value = value_word }) (record { snapshot = state.old.present; outs = outs }) ≡ option_map (moment_after state.old.problem state.old.present outs) next) }
-        ensures may { IfOk result (λ next. IfSome next (MayMake state.old.problem state.old.present)) }
-        ensures memory { OnErr result (IsSome (drawn class_word (candidates_of state.old.problem state.old.present))) }
+        ensures turn { IfOk result (λ next.
+            (outs : List ℕ)
+            → CountsOuts state.old.problem outs self.old.weights
+            → place_turn state.old.problem (record { class = class_word; value = value_word })
+            (record { snapshot = state.old.present; outs = outs })
+            ≡ option_map (moment_after state.old.problem state.old.present outs) next) }
+        ensures may { IfOk result
+            (λ next. IfSome next (MayMake state.old.problem state.old.present)) }
+        ensures memory { OnErr result
+            (IsSome (drawn class_word (candidates_of state.old.problem state.old.present))) }
     {
         let Some(class) = candidates.drawn(class_word) else {
             return Ok(None);
@@ -87,8 +93,13 @@ fn walk<W: Watcher>(
     requires step { 0 < length (earlier state.old) }
     requires trail { trail state.old ≡ state.old.present ∷ [] }
     ensures step { IsWithinStep (with_taken state.old []) (with_taken state.new []) }
-    ensures way { IfOk result (λ made. let start = state.old in IsUnderWay (rank_of start.problem None) (trail state.new) [] way.new.best made (place_end start.problem turns seed start.present) (length (places_after start.problem turns seed start.present))) }
-    ensures memory { OnErr result (0 < length (places_after state.old.problem turns seed state.old.present)) }
+    ensures way { IfOk result (λ made.
+        let start = state.old in
+        IsUnderWay (rank_of start.problem None) (trail state.new) [] way.new.best made
+        (place_end start.problem turns seed start.present)
+        (length (places_after start.problem turns seed start.present))) }
+    ensures memory { OnErr result
+        (0 < length (places_after state.old.problem turns seed state.old.present)) }
 {
     let mut words = Lcg64Xsh32::new(seed, 1);
     for made in 0..turns {
@@ -114,8 +125,10 @@ fn place_on<W: Watcher>(
 ) -> Result<u32, AllocError>
     ensures problem { state.new.problem ≡ state.old.problem }
     ensures earlier { OnOk result (earlier state.new ≡ state.old.present ∷ earlier state.old) }
-    ensures end { OnOk result (place_end state.old.problem turns seed state.old.present ≡ state.new.present) }
-    ensures made { IfOk result (λ made. made ≡ length (places_after state.old.problem turns seed state.old.present)) }
+    ensures end { OnOk result
+        (place_end state.old.problem turns seed state.old.present ≡ state.new.present) }
+    ensures made { IfOk result
+        (λ made. made ≡ length (places_after state.old.problem turns seed state.old.present)) }
     ensures present { OnErr result (state.new.present ≡ state.old.present) }
     ensures entries { OnErr result (state.new.entries ≡ state.old.entries) }
 {
@@ -144,9 +157,13 @@ pub fn place<W: Watcher>(
     watcher: &mut W,
 ) -> Result<u32, AllocError>
     ensures desk { OnOk result (desk_of state.new ≡ stepped (desk_of state.old) state.new.present) }
-    ensures end { IfOk result (λ made. all_placed state.old.problem turns seed state.old.present ≡ (state.new.present, made)) }
-    ensures first { OnOk result ((place : ℕ) × IsFirstLeast (rank_of state.old.problem None) (place_way state.old.problem turns seed state.old.present) place state.new.present) }
-    ensures locked { OnOk result ((class : ℕ) → StaysLocked state.old.present state.new.present class) }
+    ensures end { IfOk result (λ made.
+        all_placed state.old.problem turns seed state.old.present ≡ (state.new.present, made)) }
+    ensures first { OnOk result ((place : ℕ)
+        × IsFirstLeast (rank_of state.old.problem None)
+        (place_way state.old.problem turns seed state.old.present) place state.new.present) }
+    ensures locked { OnOk result
+        ((class : ℕ) → StaysLocked state.old.present state.new.present class) }
     ensures err { OnErr result (with_taken state.new [] ≡ with_taken state.old []) }
 {
     state.soundness();

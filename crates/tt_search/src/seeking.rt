@@ -30,12 +30,20 @@ fn walk<W: Watcher>(
     watcher: &mut W,
 ) -> Result<u32, AllocError>
     requires belongs { ForSome (option_copied published) (IsTimetableOf state.old.problem) }
-    requires begins { BeginsAt state.old.problem (option_copied published) state.old.present way.old }
+    requires begins { BeginsAt state.old.problem (option_copied published) state.old.present
+        way.old }
     requires step { 0 < length (earlier state.old) }
     requires trail { trail state.old ≡ state.old.present ∷ [] }
     ensures step { IsWithinStep (with_taken state.old []) (with_taken state.new []) }
-    ensures way { IfOk result (λ made. let aim = option_copied published.entry in let start = state.old in IsUnderWay (rank_of start.problem aim) (trail state.new) [] way.new.best made (search_end start.problem aim turns seed start.present) (turns_made start.problem aim turns seed start.present)) }
-    ensures memory { OnErr result (0 < turns_made state.old.problem (option_copied published.entry) turns seed state.old.present) }
+    ensures way { IfOk result (λ made.
+        let aim = option_copied published.entry in
+        let start = state.old in
+        IsUnderWay (rank_of start.problem aim) (trail state.new) [] way.new.best made
+        (search_end start.problem aim turns seed start.present)
+        (turns_made start.problem aim turns seed start.present)) }
+    ensures memory { OnErr result (0
+        < turns_made state.old.problem (option_copied published.entry) turns seed
+        state.old.present) }
 {
     let mut words = Lcg64Xsh32::new(seed, 1);
     for made in 0..turns {
@@ -60,8 +68,13 @@ fn seek<W: Watcher>(
     requires { ForSome (option_copied published) (IsTimetableOf state.old.problem) }
     ensures problem { state.new.problem ≡ state.old.problem }
     ensures earlier { OnOk result (earlier state.new ≡ state.old.present ∷ earlier state.old) }
-    ensures end { OnOk result (search_end state.old.problem (option_copied published.entry) turns seed state.old.present ≡ state.new.present) }
-    ensures made { IfOk result (λ made. made ≡ turns_made state.old.problem (option_copied published.entry) turns seed state.old.present) }
+    ensures end { OnOk result (search_end state.old.problem (option_copied published.entry) turns
+        seed state.old.present
+        ≡ state.new.present) }
+    ensures made { IfOk result (λ made.
+        made
+        ≡ turns_made state.old.problem (option_copied published.entry) turns seed
+        state.old.present) }
     ensures present { OnErr result (state.new.present ≡ state.old.present) }
     ensures entries { OnErr result (state.new.entries ≡ state.old.entries) }
 {
@@ -88,9 +101,13 @@ pub fn search<W: Watcher>(
     watcher: &mut W,
 ) -> Result<u32, AllocError>
     ensures desk { OnOk result (desk_of state.new ≡ stepped (desk_of state.old) state.new.present) }
-    ensures end { IfOk result (λ made. searched state.old.problem turns seed state.old.present ≡ (state.new.present, made)) }
-    ensures first { OnOk result ((place : ℕ) × IsFirstLeast (rank_of state.old.problem None) (way_of state.old.problem None turns seed state.old.present) place state.new.present) }
-    ensures locked { OnOk result ((class : ℕ) → StaysLocked state.old.present state.new.present class) }
+    ensures end { IfOk result (λ made.
+        searched state.old.problem turns seed state.old.present ≡ (state.new.present, made)) }
+    ensures first { OnOk result ((place : ℕ)
+        × IsFirstLeast (rank_of state.old.problem None)
+        (way_of state.old.problem None turns seed state.old.present) place state.new.present) }
+    ensures locked { OnOk result
+        ((class : ℕ) → StaysLocked state.old.present state.new.present class) }
     ensures err { OnErr result (with_taken state.new [] ≡ with_taken state.old []) }
 {
     state.soundness();
@@ -113,9 +130,15 @@ pub fn repair<W: Watcher>(
 ) -> Result<u32, AllocError>
     requires { IsTimetableOf state.old.problem published.now }
     ensures desk { OnOk result (desk_of state.new ≡ stepped (desk_of state.old) state.new.present) }
-    ensures end { IfOk result (λ made. repaired state.old.problem published.now turns seed state.old.present ≡ (state.new.present, made)) }
-    ensures first { OnOk result ((place : ℕ) × IsFirstLeast (rank_of state.old.problem (Some published.now)) (way_of state.old.problem (Some published.now) turns seed state.old.present) place state.new.present) }
-    ensures locked { OnOk result ((class : ℕ) → StaysLocked state.old.present state.new.present class) }
+    ensures end { IfOk result (λ made.
+        repaired state.old.problem published.now turns seed state.old.present
+        ≡ (state.new.present, made)) }
+    ensures first { OnOk result ((place : ℕ)
+        × IsFirstLeast (rank_of state.old.problem (Some published.now))
+        (way_of state.old.problem (Some published.now) turns seed state.old.present) place
+        state.new.present) }
+    ensures locked { OnOk result
+        ((class : ℕ) → StaysLocked state.old.present state.new.present class) }
     ensures err { OnErr result (with_taken state.new [] ≡ with_taken state.old []) }
 {
     state.soundness();

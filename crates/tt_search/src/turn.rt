@@ -1,19 +1,18 @@
 //! A turn: the class that is drawn, and the value of the least price.
 
-ghost use Rattle.std.specs.Prelude.{◌≡◌, ◌+◌, ◌*◌, ◌/◌, ◌≤◌, ◌<◌, ◌^◌, ◌∷◌, [], false, None, Some, IfNone, IfSome, IsTrue, length, if◌then◌else◌};
-ghost use Rattle.tt_state.specs.History.{with_taken};
+ghost use Rattle.std.specs.Prelude.{◌≡◌, ◌<◌, ◌∷◌, [], ℕ, List, Some, IfSome, length};
 ghost use Rattle.std.specs.List.{filter};
 ghost use Rattle.std.specs.Option.{option_copied, option_map, ForSome};
-ghost use Rattle.tt_base.specs.Lists.{comes_before, least_after};
+ghost use Rattle.tt_base.specs.Lists.{least_after};
 ghost use Rattle.tt_published.specs.Timetable.{IsTimetableOf};
-ghost use Rattle.tt_state.specs.Values.{blocked_of, conflicts_of, conflicts_without, total_with};
-ghost use Rattle.tt_state.specs.Weights.{weight_of};
+ghost use Rattle.tt_state.specs.Values.{conflicts_without};
 ghost use Rattle.tt_search.specs.Turns.{chosen_value, is_available, price_of, turn_of};
 ghost use Rattle.tt_search.specs.Drawing.{AreCandidates};
 ghost use Rattle.tt_plan.specs.Domain.{IsOfDomain};
-ghost use Rattle.tt_search.specs.Numbers.{IsAvailable, IsOffer, IsPriced, MayMake, after_move, offered, price_numbers};
+ghost use Rattle.tt_search.specs.Numbers.{IsAvailable, IsBetter, IsKnown, IsOffer, IsPriceOf, IsPriced, MayMake, after_move, offered};
 
-use crate::drawing::{Candidates, is_open};
+use crate::drawing::Candidates;
+use crate::offer::{Offer, may_be_offered};
 use crate::price::{Price, is_stray};
 use tt_bits::Value;
 use tt_plan::{domain_size, value_at};
@@ -27,137 +26,67 @@ pub(crate) struct Move {
     pub value: Option<Value>,
 }
 
-// A value with its price.
-#[derive(Clone, Copy, Debug, PartialEq, Eq)]
-pub(crate) struct Offer {
-    pub price: Price,
-    pub value: Value,
-}
-
-// Finds the conflict set of a class at a value that isn't blocked, unless it has more classes than a
-// weight, and so weighs more. Whether it was found.
-pub(crate) fn find_lighter(state: &mut State, class: u32, value: Value, weight: u128) -> bool
-    requires value { IsOfDomain state.old.problem class value }
-    requires open { blocked_of state.old.problem state.old.present.closures class value ≡ None }
-    ensures found { IsTrue result → state.new ≡ with_taken state.old (conflicts_of state.old.problem state.old.present class value) }
-    ensures heavier { result ≡ false → weight < length (conflicts_of state.old.problem state.old.present class value) }
-    ensures problem { state.new.problem ≡ state.old.problem }
-    ensures present { state.new.present ≡ state.old.present }
-    ensures entries { state.new.entries ≡ state.old.entries }
-{
-    match u32::try_from(weight) {
-        Ok(most) => state.find_conflicts_within(class, value, most),
-        Err(_) => {
-            state.find_conflicts(class, value);
-            true
-        }
-    }
-}
-
-// The total with a class at a value whose weight and strays are these, or none where its price is then
-// not below another.
-#[tactic(auto, unfolding(crate::specs::Turns::price_of))]
-fn total_within(
-    state: &mut State,
-    class: u32,
-    value: Value,
-    others: u64,
-    weight: u128,
-    strays: bool,
-    least: Price,
-) -> Option<u128>
-    requires value { IsOfDomain state.old.problem class value }
+// Of two offers of the same price the one with the lower total, and of equal ones the first. `others`
+// are the student conflicts without the class.
+fn lower_offer(state: &mut State, class: u32, others: u64, first: Offer, offer: Offer) -> Offer
     requires others { others ≡ conflicts_without state.old.problem state.old.present class }
+    requires first { IsKnown state.old.problem state.old.present class first }
+    requires known { IsKnown state.old.problem state.old.present class offer }
     ensures same { state.new ≡ state.old }
-    ensures total { IfSome result (λ total. total ≡ total_with state.old.problem state.old.present class value) }
-    ensures none { IfNone result (comes_before (weight ∷ (if strays then 1 else 0) ∷ total_with state.old.problem state.old.present class value ∷ []) (price_numbers least) ≡ false) }
+    ensures known { IsKnown state.old.problem state.old.present class result }
+    ensures better { (numbers : Value → List ℕ)
+        → IsPriced state.old.problem state.old.present class numbers first
+        → IsPriced state.old.problem state.old.present class numbers offer
+        → IsPriceOf state.old.problem state.old.present class numbers offer.value first.price
+        → IsBetter state.old.problem state.old.present class numbers (Some first) offer.value
+        result }
 {
-    if least.beats(weight, strays) {
-        return None;
-    }
-    if weight == least.weight && strays == least.strays {
-        return state.trial_below(class, value, others, least.total);
-    }
-    Some(state.trial(class, value))
-}
-
-// The offer of a value that isn't blocked, and none where the value is held.
-#[tactic(auto, unfolding(crate::specs::Turns::price_of))]
-fn first_offer(
-    state: &mut State,
-    published: Option<&Published>,
-    class: u32,
-    value: Value,
-) -> Option<Offer>
-    requires belongs { ForSome (option_copied published) (IsTimetableOf state.old.problem) }
-    requires value { IsOfDomain state.old.problem class value }
-    requires open { blocked_of state.old.problem state.old.present.closures class value ≡ None }
-    ensures problem { state.new.problem ≡ state.old.problem }
-    ensures present { state.new.present ≡ state.old.present }
-    ensures entries { state.new.entries ≡ state.old.entries }
-    ensures priced { IsPriced (price_of state.old.problem (option_copied published.entry) state.old.present class) (IsAvailable state.old.problem state.old.present class) result }
-    ensures better { offered result ≡ least_after (price_of state.old.problem (option_copied published.entry) state.old.present class) None (filter (is_available state.old.problem state.old.present class) (value ∷ [])) }
-{
-    state.find_conflicts(class, value);
-    if state.first_locked().is_some() {
-        return None;
-    }
-    let strays = is_stray(state.problem(), published, class, value);
-    let weight = state.weight(class, value);
-    let total = state.trial(class, value);
-    let price = Price {
-        weight,
-        strays,
-        total,
+    let least = first.total(state, class);
+    let Some(total) = state.trial_below(class, offer.value, others, least) else {
+        return Offer {
+            total: Some(least),
+            ..first
+        };
     };
-    Some(Offer { price, value })
+    Offer {
+        total: Some(total),
+        ..offer
+    }
 }
 
-// The better one of an offer and that of a value that isn't blocked, which is none where the value is
-// held. `others` are the student conflicts without the class. The conflict set is given up once it
-// weighs more, and the total is asked for only where it may tell.
-#[tactic(auto, unfolding(crate::specs::Turns::price_of), using(crate::proofs::ChoiceLemmas::stays))]
+// The better one of the best offer so far and a new one, and of equal ones the first. `others` are the
+// student conflicts without the class.
 fn better_offer(
     state: &mut State,
-    published: Option<&Published>,
     class: u32,
-    value: Value,
     others: u64,
-    least: Offer,
+    best: Option<Offer>,
+    offer: Offer,
 ) -> Offer
-    requires belongs { ForSome (option_copied published) (IsTimetableOf state.old.problem) }
-    requires value { IsOfDomain state.old.problem class value }
-    requires open { blocked_of state.old.problem state.old.present.closures class value ≡ None }
     requires others { others ≡ conflicts_without state.old.problem state.old.present class }
-    requires priced { IsOffer (price_of state.old.problem (option_copied published) state.old.present class) (IsAvailable state.old.problem state.old.present class) least }
-    ensures problem { state.new.problem ≡ state.old.problem }
-    ensures present { state.new.present ≡ state.old.present }
-    ensures entries { state.new.entries ≡ state.old.entries }
-    ensures priced { IsOffer (price_of state.old.problem (option_copied published.entry) state.old.present class) (IsAvailable state.old.problem state.old.present class) result }
-    ensures better { Some result.value ≡ least_after (price_of state.old.problem (option_copied published.entry) state.old.present class) (Some least.value) (filter (is_available state.old.problem state.old.present class) (value ∷ [])) }
+    requires best { IfSome best (IsKnown state.old.problem state.old.present class) }
+    requires known { IsKnown state.old.problem state.old.present class offer }
+    ensures same { state.new ≡ state.old }
+    ensures known { IsKnown state.old.problem state.old.present class result }
+    ensures better { (numbers : Value → List ℕ)
+        → IfSome best (IsPriced state.old.problem state.old.present class numbers)
+        → IsPriced state.old.problem state.old.present class numbers offer
+        → IsBetter state.old.problem state.old.present class numbers best offer.value result }
 {
-    if !find_lighter(state, class, value, least.price.weight) || state.first_locked().is_some() {
-        return least;
-    }
-    let strays = is_stray(state.problem(), published, class, value);
-    let weight = state.weight(class, value);
-    let Some(total) = total_within(state, class, value, others, weight, strays, least.price) else {
-        return least;
+    let Some(first) = best else {
+        return offer;
     };
-    let price = Price {
-        weight,
-        strays,
-        total,
-    };
-    if price.is_below(&least.price) {
-        Offer { price, value }
-    } else {
-        least
+    if offer.price.is_below(&first.price) {
+        return offer;
     }
+    if first.price.is_below(&offer.price) {
+        return first;
+    }
+    lower_offer(state, class, others, first, offer)
 }
 
-// The best offer once a value was looked at, which is passed over where something stands in its way.
-// `others` are the student conflicts without the class.
+// The best offer once a value was looked at, which is passed over where something stands in its way or
+// its conflict set alone weighs more. `others` are the student conflicts without the class.
 fn look_at(
     state: &mut State,
     published: Option<&Published>,
@@ -169,20 +98,30 @@ fn look_at(
     requires belongs { ForSome (option_copied published) (IsTimetableOf state.old.problem) }
     requires value { IsOfDomain state.old.problem class value }
     requires others { others ≡ conflicts_without state.old.problem state.old.present class }
-    requires priced { IsPriced (price_of state.old.problem (option_copied published) state.old.present class) (IsAvailable state.old.problem state.old.present class) best }
+    requires priced { IfSome best (IsOffer state.old.problem state.old.present class
+        (price_of state.old.problem (option_copied published) state.old.present class)) }
     ensures problem { state.new.problem ≡ state.old.problem }
     ensures present { state.new.present ≡ state.old.present }
     ensures entries { state.new.entries ≡ state.old.entries }
-    ensures priced { IsPriced (price_of state.old.problem (option_copied published.entry) state.old.present class) (IsAvailable state.old.problem state.old.present class) result }
-    ensures better { offered result ≡ least_after (price_of state.old.problem (option_copied published.entry) state.old.present class) (offered best) (filter (is_available state.old.problem state.old.present class) (value ∷ [])) }
+    ensures priced { IfSome result (IsOffer state.old.problem state.old.present class
+        (price_of state.old.problem (option_copied published.entry) state.old.present class)) }
+    ensures better { offered result
+        ≡ least_after
+        (price_of state.old.problem (option_copied published.entry) state.old.present class)
+        (offered best)
+        (filter (is_available state.old.problem state.old.present class) (value ∷ [])) }
 {
-    if !is_open(state, class, value) {
+    if !may_be_offered(state, class, value, best) {
         return best;
     }
-    match best {
-        None => first_offer(state, published, class, value),
-        Some(least) => Some(better_offer(state, published, class, value, others, least)),
-    }
+    let weight = state.weight(class, value);
+    let strays = is_stray(state.problem(), published, class, value);
+    let offer = Offer {
+        price: Price { weight, strays },
+        total: None,
+        value,
+    };
+    Some(better_offer(state, class, others, best, offer))
 }
 
 // The value chosen for a class, the first of its available values with the least price.
@@ -193,7 +132,8 @@ fn choice(state: &mut State, published: Option<&Published>, class: u32) -> Optio
     ensures problem { state.new.problem ≡ state.old.problem }
     ensures present { state.new.present ≡ state.old.present }
     ensures entries { state.new.entries ≡ state.old.entries }
-    ensures choice { result ≡ chosen_value state.old.problem (option_copied published.entry) state.old.present class }
+    ensures choice { result
+        ≡ chosen_value state.old.problem (option_copied published.entry) state.old.present class }
     ensures available { IfSome result (IsAvailable state.old.problem state.old.present class) }
 {
     let others = state.conflicts_without(class);
@@ -219,7 +159,8 @@ pub(crate) fn next_move(
     ensures problem { state.new.problem ≡ state.old.problem }
     ensures present { state.new.present ≡ state.old.present }
     ensures entries { state.new.entries ≡ state.old.entries }
-    ensures turn { turn_of state.old.problem (option_copied published.entry) word state.old.present ≡ option_map (after_move state.old.problem state.old.present) result }
+    ensures turn { turn_of state.old.problem (option_copied published.entry) word state.old.present
+        ≡ option_map (after_move state.old.problem state.old.present) result }
     ensures may { IfSome result (MayMake state.old.problem state.old.present) }
 {
     let class = candidates.drawn(word)?;

@@ -40,7 +40,8 @@ pub(crate) struct Way {
 
 // The present moment, where so many published classes are moved.
 fn moment(state: &State, moved: u32) -> Best
-    ensures rank { (published : Option Timetable) → moved ≡ moved_in state.now.problem published state.now.present.plan
+    ensures rank { (published : Option Timetable)
+        → moved ≡ moved_in state.now.problem published state.now.present.plan
         → rank_numbers result.rank ≡ rank_of state.now.problem published state.now.present }
     ensures mark { result.mark + 1 ≡ length (trail state.now) }
 {
@@ -52,7 +53,8 @@ fn moment(state: &State, moved: u32) -> Best
 
 // The later moment, where its rank is below that of the earlier one, and otherwise the earlier one.
 fn better(best: Best, now: Best) -> Best
-    ensures { result ≡ (if comes_before (rank_numbers now.rank) (rank_numbers best.rank) then now else best) }
+    ensures { result
+        ≡ (if comes_before (rank_numbers now.rank) (rank_numbers best.rank) then now else best) }
 {
     if now.rank.is_below(&best.rank) {
         now
@@ -66,10 +68,13 @@ fn better(best: Best, now: Best) -> Best
 fn make(state: &mut State, next: Move) -> Result<(), AllocError>
     requires may { MayMake state.old.problem state.old.present next }
     requires step { 0 < length (earlier state.old) }
-    ensures desk { OnOk result (desk_of state.new ≡ moved_to (desk_of state.old) (after_move state.old.problem state.old.present next)) }
+    ensures desk { OnOk result (desk_of state.new
+        ≡ moved_to (desk_of state.old) (after_move state.old.problem state.old.present next)) }
     ensures trail { OnOk result (trail state.new ≡ trail state.old ++ state.new.present ∷ []) }
-    ensures taken { OnOk result (IfSome next.value (λ v. state.new.taken ≡ conflicts_of state.old.problem state.old.present next.class v)) }
-    ensures others { OnOk result (KeepsOthers state.old.present state.new.present (next.class ∷ state.new.taken)) }
+    ensures taken { OnOk result (IfSome next.value
+        (λ v. state.new.taken ≡ conflicts_of state.old.problem state.old.present next.class v)) }
+    ensures others { OnOk result
+        (KeepsOthers state.old.present state.new.present (next.class ∷ state.new.taken)) }
     ensures step { IsWithinStep (with_taken state.old []) (with_taken state.new []) }
 {
     match next.value {
@@ -86,7 +91,8 @@ impl Way {
         published: Option<&Published>,
     ) -> Result<Way, AllocError>
         requires { ForSome (option_copied published) (IsTimetableOf state.now.problem) }
-        ensures { IfOk result (BeginsAt state.now.problem (option_copied published.entry) state.now.present) }
+        ensures { IfOk result
+            (BeginsAt state.now.problem (option_copied published.entry) state.now.present) }
     {
         let candidates = Candidates::new(alloc, state)?;
         let moved = MovedClasses::new(alloc, state, published)?;
@@ -108,13 +114,19 @@ impl Way {
         next: Move,
     ) -> Result<(), AllocError>
         requires belongs { ForSome (option_copied published) (IsTimetableOf state.old.problem) }
-        requires at { IsWayAt state.old.problem (option_copied published) state.old.present self.old }
+        requires at { IsWayAt state.old.problem (option_copied published) state.old.present
+            self.old }
         requires may { MayMake state.old.problem state.old.present next }
         requires step { 0 < length (earlier state.old) }
-        ensures at { OnOk result (IsWayAt state.old.problem (option_copied published.entry) state.new.present self.new) }
-        ensures present { OnOk result (state.new.present ≡ after_move state.old.problem state.old.present next) }
-        ensures taken { OnOk result (IfSome next.value (λ v. state.new.taken ≡ conflicts_of state.old.problem state.old.present next.class v)) }
-        ensures best { OnOk result (LeadsOn (rank_of state.old.problem (option_copied published.entry)) (trail state.old) (trail state.new) state.new.present self.old.best self.new.best) }
+        ensures at { OnOk result
+            (IsWayAt state.old.problem (option_copied published.entry) state.new.present self.new) }
+        ensures present { OnOk result
+            (state.new.present ≡ after_move state.old.problem state.old.present next) }
+        ensures taken { OnOk result (IfSome next.value (λ v.
+            state.new.taken ≡ conflicts_of state.old.problem state.old.present next.class v)) }
+        ensures best { OnOk result (LeadsOn
+            (rank_of state.old.problem (option_copied published.entry)) (trail state.old)
+            (trail state.new) state.new.present self.old.best self.new.best) }
         ensures step { IsWithinStep (with_taken state.old []) (with_taken state.new []) }
     {
         make(state, next)?;
@@ -145,7 +157,8 @@ impl Way {
         ensures made { result ≡ made }
         ensures problem { state.new.problem ≡ state.old.problem }
         ensures earlier { OnOk result (earlier state.new ≡ earlier state.old) }
-        ensures present { OnOk result (slice_get (trail state.old) self.now.best.mark ≡ Some state.new.present) }
+        ensures present { OnOk result
+            (slice_get (trail state.old) self.now.best.mark ≡ Some state.new.present) }
         ensures back { OnErr result (earlier state.old ≡ state.new.present ∷ earlier state.new) }
         ensures entries { OnErr result (state.new.entries ≡ before_step state.old.entries) }
     {

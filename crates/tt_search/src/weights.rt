@@ -42,7 +42,10 @@ impl ClassWeights {
         requires whole { length self.old.outs.items ≡ length state.now.problem.classes }
         requires room { (class : ℕ) → slice_index_or self.old.outs.items class 0 ≤ 2 ^ 63 }
         ensures whole { length self.new.outs.items ≡ length self.old.outs.items }
-        ensures counts { (class : ℕ) → slice_index_or self.new.outs.items class 0 ≡ slice_index_or self.old.outs.items class 0 + count_by (nat_eq class) state.now.taken }
+        ensures counts { (class : ℕ)
+            → slice_index_or self.new.outs.items class 0
+            ≡ slice_index_or self.old.outs.items class 0
+            + count_by (nat_eq class) state.now.taken }
         ensures few { length state.now.taken ≤ 20000 }
     {
         state.problem().validity();
@@ -57,7 +60,10 @@ impl ClassWeights {
         requires whole { length self.old.outs.items ≡ length state.now.problem.classes }
         requires room { (class : ℕ) → slice_index_or self.old.outs.items class 0 ≤ 2 ^ 63 }
         ensures whole { length self.new.outs.items ≡ length self.old.outs.items }
-        ensures counts { (class : ℕ) → slice_index_or self.new.outs.items class 0 ≡ slice_index_or self.old.outs.items class 0 + count_by (nat_eq class) (taken_by made state.now.taken) }
+        ensures counts { (class : ℕ)
+            → slice_index_or self.new.outs.items class 0
+            ≡ slice_index_or self.old.outs.items class 0
+            + count_by (nat_eq class) (taken_by made state.now.taken) }
         ensures few { length (taken_by made state.now.taken) ≤ 20000 }
     {
         if made.value.is_some() {

@@ -86,9 +86,11 @@ pub fn turn_all(problem: &Problem, present: &mut Present, past: &mut Past, lock:
     requires stands { StandsOn problem.now (snapshot_of present.old) past.old.list }
     requires spare { length (turning lock (snapshot_of present.old)) ≤ past.old.spare }
     ensures score { present.new.score ≡ present.old.score }
-    ensures leads { LeadsTo problem.now (snapshot_of present.old) past.old.list (snapshot_of present.new) past.new.list }
+    ensures leads { LeadsTo problem.now (snapshot_of present.old) past.old.list
+        (snapshot_of present.new) past.new.list }
     ensures now { snapshot_of present.new ≡ all_turned lock (snapshot_of present.old) }
-    ensures entries { past.new.list ≡ noted_by (turn_of lock) (turning lock (snapshot_of present.old)) past.old.list }
+    ensures entries { past.new.list
+        ≡ noted_by (turn_of lock) (turning lock (snapshot_of present.old)) past.old.list }
 {
     for class in 0..problem.class_count() {
         if may_turn(present, class, lock) {

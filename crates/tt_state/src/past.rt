@@ -120,7 +120,8 @@ impl Past {
 
     /// Takes the newest entry off.
     pub fn pop(&mut self) -> Option<Entry>
-        ensures { MatchOption result ((self.old.list ≡ []) × (self.new.list ≡ [])) (λ entry. self.old.list ≡ entry ∷ self.new.list) }
+        ensures { MatchOption result ((self.old.list ≡ []) × (self.new.list ≡ []))
+            (λ entry. self.old.list ≡ entry ∷ self.new.list) }
     {
         let entry = self.journal.pop()?;
         match entry {

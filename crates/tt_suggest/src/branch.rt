@@ -55,7 +55,8 @@ fn is_any_on(path: &[Move], classes: &[u32]) -> bool
 impl Branch {
     // Whether nothing was placed yet, and the value is the one that the class has.
     fn stays_at_root(&self, state: &State, value: Value) -> bool
-        ensures { result ≡ stays_at_root state.now.present self.now.path.items self.now.class value }
+        ensures { result
+            ≡ stays_at_root state.now.present self.now.path.items self.now.class value }
     {
         let at_value = is_value(state.score().value(self.class), value);
         self.path.len() == 0 && at_value
@@ -64,7 +65,8 @@ impl Branch {
     // How many classes the class at a value may push out, so that no more wait than may be placed.
     fn most_conflicts(&self) -> Option<u32>
         ensures none { (result ≡ None) ↔ (self.now.spare < length self.now.others.items) }
-        ensures value { IfSome result (λ most. most + length self.now.others.items ≡ self.now.spare) }
+        ensures value { IfSome result
+            (λ most. most + length self.now.others.items ≡ self.now.spare) }
     {
         let most = (self.spare as usize).checked_sub(self.others.len())?;
         Some(most as u32)
@@ -76,10 +78,15 @@ impl Branch {
     #[tactic(auto, using(crate::proofs::FollowLemmas::follows_none, crate::proofs::FollowLemmas::follows_within))]
     fn may_follow(&self, state: &mut State, value: Value) -> bool
         requires value { IsOfDomain state.old.problem self.now.class value }
-        requires open { blocked_of state.old.problem state.old.present.closures self.now.class value ≡ None }
-        ensures follows { result ≡ may_follow self.now.spare self.now.path.items self.now.others.items (conflicts_of state.old.problem state.old.present self.now.class value) }
+        requires open { blocked_of state.old.problem state.old.present.closures self.now.class value
+            ≡ None }
+        ensures follows { result
+            ≡ may_follow self.now.spare self.now.path.items self.now.others.items
+            (conflicts_of state.old.problem state.old.present self.now.class value) }
         ensures same { with_taken state.new [] ≡ with_taken state.old [] }
-        ensures taken { IsTrue result → state.new.taken ≡ conflicts_of state.old.problem state.old.present self.now.class value }
+        ensures taken { IsTrue result
+            → state.new.taken
+            ≡ conflicts_of state.old.problem state.old.present self.now.class value }
     {
         let Some(most) = self.most_conflicts() else {
             return false;
@@ -99,9 +106,13 @@ impl Branch {
     #[tactic(auto, unfolding(crate::specs::Tree::gives_child), using(tt_state::proofs::ObstacleLemmas::blocked_not_clear, crate::proofs::FollowLemmas::barren, crate::proofs::FollowLemmas::gives_unless_held))]
     pub(crate) fn gives_child(&self, state: &mut State, value: Value) -> bool
         requires { IsOfDomain state.old.problem self.now.class value }
-        ensures gives { result ≡ gives_child state.old.problem self.now.spare (node_of state.old.present self.now) self.now.class self.now.others.items value }
+        ensures gives { result
+            ≡ gives_child state.old.problem self.now.spare (node_of state.old.present self.now)
+            self.now.class self.now.others.items value }
         ensures same { with_taken state.new [] ≡ with_taken state.old [] }
-        ensures taken { IsTrue result → state.new.taken ≡ conflicts_of state.old.problem state.old.present self.now.class value }
+        ensures taken { IsTrue result
+            → state.new.taken
+            ≡ conflicts_of state.old.problem state.old.present self.now.class value }
     {
         if state.blocked(self.class, value).is_some() {
             return false;
@@ -117,7 +128,9 @@ impl Branch {
 
     // The placements that led here, with that of the class at a value.
     pub(crate) fn path_with(&self, alloc: Global, value: Value) -> Result<Vec<Move>, AllocError>
-        ensures { IfOk result (λ path. path.items ≡ self.now.path.items ++ record { class = self.now.class; value = value } ∷ []) }
+        ensures { IfOk result (λ path.
+            path.items
+            ≡ self.now.path.items ++ record { class = self.now.class; value = value } ∷ []) }
     {
         let mut path = Vec::new(alloc);
         path.extend_from_slice(self.path.as_slice())?;

@@ -15,7 +15,8 @@ use tt_state::State;
 // How many published classes are moved at present; 0 where nothing is published.
 pub(crate) fn moved_now(state: &State, published: Option<&Published>) -> u32
     requires { ForSome (option_copied published) (IsTimetableOf state.now.problem) }
-    ensures { result ≡ moved_in state.now.problem (option_copied published.entry) state.now.present.plan }
+    ensures { result
+        ≡ moved_in state.now.problem (option_copied published.entry) state.now.present.plan }
 {
     match published {
         None => 0,
@@ -43,7 +44,9 @@ fn keeps(problem: &Problem, published: &Published, class: u32, value: Option<Val
 fn will_be_moved(state: &State, published: &Published, class: u32, value: Option<Value>) -> bool
     requires belongs { IsTimetableOf state.now.problem published.now }
     requires may { MayHave state.now.problem class value }
-    ensures { result ≡ is_moved state.now.problem (slice_set state.now.present.plan class value) published.now class }
+    ensures { result
+        ≡ is_moved state.now.problem (slice_set state.now.present.plan class value) published.now
+        class }
 {
     state.soundness();
     let kept = keeps(state.problem(), published, class, value);
@@ -61,7 +64,8 @@ fn moved_by(
     requires belongs { IsTimetableOf state.now.problem published.now }
     requires may { MayHave state.now.problem class value }
     requires moved { moved ≡ moved_of state.now.problem state.now.present.plan published.now }
-    ensures { result ≡ moved_of state.now.problem (slice_set state.now.present.plan class value) published.now }
+    ensures { result
+        ≡ moved_of state.now.problem (slice_set state.now.present.plan class value) published.now }
 {
     state.soundness();
     // No more classes are moved than there are.
@@ -81,8 +85,11 @@ pub(crate) fn moved_with(
 ) -> u32
     requires belongs { ForSome (option_copied published) (IsTimetableOf state.now.problem) }
     requires may { MayHave state.now.problem class value }
-    requires moved { moved ≡ moved_in state.now.problem (option_copied published) state.now.present.plan }
-    ensures { result ≡ moved_in state.now.problem (option_copied published.entry) (with_value state.now.present class value).plan }
+    requires moved { moved
+        ≡ moved_in state.now.problem (option_copied published) state.now.present.plan }
+    ensures { result
+        ≡ moved_in state.now.problem (option_copied published.entry)
+        (with_value state.now.present class value).plan }
 {
     match published {
         None => moved,

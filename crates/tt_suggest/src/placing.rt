@@ -30,9 +30,11 @@ fn place(
     requires belongs { ForSome (option_copied published) (IsTimetableOf state.old.problem) }
     requires may { MayHave state.old.problem class value }
     requires free { value ≡ None → is_locked_in state.old.present class ≡ false }
-    requires moved { moved ≡ moved_in state.old.problem (option_copied published) state.old.present.plan }
+    requires moved { moved
+        ≡ moved_in state.old.problem (option_copied published) state.old.present.plan }
     requires step { 0 < length (earlier state.old) }
-    ensures moved { IfOk result (λ moved. moved ≡ moved_in state.old.problem (option_copied published.entry) state.new.present.plan) }
+    ensures moved { IfOk result (λ moved.
+        moved ≡ moved_in state.old.problem (option_copied published.entry) state.new.present.plan) }
     ensures present { OnOk result (state.new.present ≡ with_value state.old.present class value) }
     ensures on { HasGoneOn state.old state.new }
 {
@@ -52,9 +54,11 @@ fn empty(
     requires belongs { ForSome (option_copied published) (IsTimetableOf state.old.problem) }
     requires classes { All (λ class. class < length state.old.problem.classes) classes.now }
     requires free { All (λ class. is_locked_in state.old.present class ≡ false) classes.now }
-    requires moved { moved ≡ moved_in state.old.problem (option_copied published) state.old.present.plan }
+    requires moved { moved
+        ≡ moved_in state.old.problem (option_copied published) state.old.present.plan }
     requires step { 0 < length (earlier state.old) }
-    ensures moved { IfOk result (λ moved. moved ≡ moved_in state.old.problem (option_copied published.entry) state.new.present.plan) }
+    ensures moved { IfOk result (λ moved.
+        moved ≡ moved_in state.old.problem (option_copied published.entry) state.new.present.plan) }
     ensures present { OnOk result (state.new.present ≡ emptied state.old.present classes.now) }
     ensures on { HasGoneOn state.old state.new }
 {
@@ -77,13 +81,17 @@ fn exchange(
 ) -> Result<u32, AllocError>
     requires belongs { ForSome (option_copied published) (IsTimetableOf state.old.problem) }
     requires value { IsOfDomain state.old.problem class value }
-    requires conflicts { conflicts.now ≡ conflicts_of state.old.problem state.old.present class value }
+    requires conflicts { conflicts.now
+        ≡ conflicts_of state.old.problem state.old.present class value }
     requires classes { All (λ class. class < length state.old.problem.classes) conflicts.now }
     requires free { All (λ class. is_locked_in state.old.present class ≡ false) conflicts.now }
-    requires moved { moved ≡ moved_in state.old.problem (option_copied published) state.old.present.plan }
+    requires moved { moved
+        ≡ moved_in state.old.problem (option_copied published) state.old.present.plan }
     requires step { 0 < length (earlier state.old) }
-    ensures moved { IfOk result (λ moved. moved ≡ moved_in state.old.problem (option_copied published.entry) state.new.present.plan) }
-    ensures present { OnOk result (state.new.present ≡ placed_without state.old.problem state.old.present class value) }
+    ensures moved { IfOk result (λ moved.
+        moved ≡ moved_in state.old.problem (option_copied published.entry) state.new.present.plan) }
+    ensures present { OnOk result
+        (state.new.present ≡ placed_without state.old.problem state.old.present class value) }
     ensures on { HasGoneOn state.old state.new }
 {
     let moved = empty(state, published, moved, conflicts)?;
@@ -100,15 +108,21 @@ pub(crate) fn go_on(
 ) -> Result<Branch, AllocError>
     requires belongs { ForSome (option_copied published) (IsTimetableOf state.old.problem) }
     requires value { IsOfDomain state.old.problem branch.now.class value }
-    requires branch { IsBranchOf state.old.problem (option_copied published) state.old.present branch.now }
-    requires taken { state.old.taken ≡ conflicts_of state.old.problem state.old.present branch.now.class value }
+    requires branch { IsBranchOf state.old.problem (option_copied published) state.old.present
+        branch.now }
+    requires taken { state.old.taken
+        ≡ conflicts_of state.old.problem state.old.present branch.now.class value }
     requires free { All (λ class. is_locked_in state.old.present class ≡ false) state.old.taken }
     requires some { 0 < length branch.now.others.items + length state.old.taken }
     requires few { length branch.now.others.items + length state.old.taken ≤ branch.now.spare }
     requires step { 0 < length (earlier state.old) }
-    ensures node { IfOk result (λ next. node_of state.new.present next ≡ child_by state.old.problem (node_of state.old.present branch.now) branch.now.class branch.now.others.items value) }
+    ensures node { IfOk result (λ next.
+        node_of state.new.present next
+        ≡ child_by state.old.problem (node_of state.old.present branch.now) branch.now.class
+        branch.now.others.items value) }
     ensures spare { IfOk result (λ next. next.spare + 1 ≡ branch.now.spare) }
-    ensures branch { IfOk result (λ next. IsBranchOf state.old.problem (option_copied published.entry) state.new.present next) }
+    ensures branch { IfOk result (λ next.
+        IsBranchOf state.old.problem (option_copied published.entry) state.new.present next) }
     ensures on { HasGoneOn state.old state.new }
 {
     let mut waiting = branch.waiting_with(alloc, state.taken())?;

@@ -43,7 +43,8 @@ impl Suggested {
 
     // A total below which each is no higher than that of what was found so far, if anything was.
     fn bound(&self) -> Option<u128>
-        ensures { IfSome result (λ bound. IsSomeAnd self.now.best (λ best. bound ≡ best.total + 1)) }
+        ensures { IfSome result
+            (λ bound. IsSomeAnd self.now.best (λ best. bound ≡ best.total + 1)) }
     {
         match &self.best {
             None => None,
@@ -55,8 +56,10 @@ impl Suggested {
     fn total_within(&self, state: &mut State, class: u32, value: Value) -> Option<u128>
         requires value { IsOfDomain state.old.problem class value }
         ensures same { state.new ≡ state.old }
-        ensures total { IfSome result (λ total. total ≡ total_with state.old.problem state.old.present class value) }
-        ensures above { IfNone result (IsSomeAnd self.now.best (λ best. best.total < total_with state.old.problem state.old.present class value)) }
+        ensures total { IfSome result
+            (λ total. total ≡ total_with state.old.problem state.old.present class value) }
+        ensures above { IfNone result (IsSomeAnd self.now.best
+            (λ best. best.total < total_with state.old.problem state.old.present class value)) }
     {
         let Some(bound) = self.bound() else {
             return Some(state.trial(class, value));
@@ -75,7 +78,8 @@ impl Suggested {
         rank: Rank,
     ) -> Result<(), AllocError>
         ensures tried { self.new.tried ≡ self.old.tried }
-        ensures best { OnOk result (self.new.best ≡ least_after suggestion_rank self.old.best (leaf_of branch.now value rank ∷ [])) }
+        ensures best { OnOk result (self.new.best
+            ≡ least_after suggestion_rank self.old.best (leaf_of branch.now value rank ∷ [])) }
     {
         if self.is_beaten(rank) {
             let moves = Moves::from_vec(branch.path_with(alloc, value)?);
@@ -116,11 +120,18 @@ fn rank_with(
     found: &Suggested,
 ) -> Option<Rank>
     requires belongs { ForSome (option_copied published) (IsTimetableOf state.old.problem) }
-    requires branch { IsBranchOf state.old.problem (option_copied published) state.old.present branch.now }
+    requires branch { IsBranchOf state.old.problem (option_copied published) state.old.present
+        branch.now }
     requires value { IsOfDomain state.old.problem branch.now.class value }
     ensures same { state.new ≡ state.old }
-    ensures rank { IfSome result (λ rank. rank_numbers rank ≡ total_with state.old.problem state.old.present branch.now.class value ∷ moved_in state.old.problem (option_copied published.entry) (with_value state.old.present branch.now.class (Some value)).plan ∷ []) }
-    ensures above { IfNone result (IsSomeAnd found.now.best (λ best. best.total < total_with state.old.problem state.old.present branch.now.class value)) }
+    ensures rank { IfSome result (λ rank.
+        rank_numbers rank
+        ≡ total_with state.old.problem state.old.present branch.now.class value
+        ∷ moved_in state.old.problem (option_copied published.entry)
+        (with_value state.old.present branch.now.class (Some value)).plan
+        ∷ []) }
+    ensures above { IfNone result (IsSomeAnd found.now.best (λ best.
+        best.total < total_with state.old.problem state.old.present branch.now.class value)) }
 {
     let moved = moved_with(state, published, branch.moved, branch.class, Some(value));
     let total = found.total_within(state, branch.class, value)?;
@@ -138,13 +149,22 @@ fn walk(
     found: &mut Suggested,
 ) -> Result<(), SuggestEnd>
     requires belongs { ForSome (option_copied published) (IsTimetableOf state.old.problem) }
-    requires branch { IsBranchOf state.old.problem (option_copied published) state.old.present branch.now }
+    requires branch { IsBranchOf state.old.problem (option_copied published) state.old.present
+        branch.now }
     requires step { 0 < length (earlier state.old) }
     requires few { found.old.tried ≤ 1000000 }
     ensures step { IsWithinStep (with_taken state.old []) (with_taken state.new []) }
     ensures back { OnOk result (IsBack state.old state.new) }
-    ensures found { OnOk result (AreFoundIn (tries_of state.old.problem (suc branch.now.spare) (node_of state.old.present branch.now)) (map (suggestion_of state.old.problem (option_copied published.entry)) (leaves_of state.old.problem (suc branch.now.spare) (node_of state.old.present branch.now))) found.old found.new) }
-    ensures too_many { result ≡ Err SuggestEnd.TooMany → 1000000 < found.old.tried + tries_of state.old.problem (suc branch.now.spare) (node_of state.old.present branch.now) }
+    ensures found { OnOk result (AreFoundIn
+        (tries_of state.old.problem (suc branch.now.spare) (node_of state.old.present branch.now))
+        (map (suggestion_of state.old.problem (option_copied published.entry)) (leaves_of
+        state.old.problem (suc branch.now.spare) (node_of state.old.present branch.now)))
+        found.old found.new) }
+    ensures too_many { result ≡ Err SuggestEnd.TooMany
+        → 1000000
+        < found.old.tried
+        + tries_of state.old.problem (suc branch.now.spare)
+        (node_of state.old.present branch.now) }
 {
     let count = domain_size(state.problem(), branch.class);
     found.add_tries(count)?;
@@ -166,14 +186,21 @@ fn try_value(
     found: &mut Suggested,
 ) -> Result<(), SuggestEnd>
     requires belongs { ForSome (option_copied published) (IsTimetableOf state.old.problem) }
-    requires branch { IsBranchOf state.old.problem (option_copied published) state.old.present branch.now }
+    requires branch { IsBranchOf state.old.problem (option_copied published) state.old.present
+        branch.now }
     requires value { IsOfDomain state.old.problem branch.now.class value }
     requires step { 0 < length (earlier state.old) }
     requires few { found.old.tried ≤ 1000000 }
     ensures step { IsWithinStep (with_taken state.old []) (with_taken state.new []) }
     ensures back { OnOk result (IsBack state.old state.new) }
-    ensures found { OnOk result (AreFoundIn (tries_by state.old.problem state.old.present branch.now (value ∷ [])) (suggestions_by state.old.problem (option_copied published.entry) state.old.present branch.now (value ∷ [])) found.old found.new) }
-    ensures too_many { result ≡ Err SuggestEnd.TooMany → 1000000 < found.old.tried + tries_by state.old.problem state.old.present branch.now (value ∷ []) }
+    ensures found { OnOk result (AreFoundIn
+        (tries_by state.old.problem state.old.present branch.now (value ∷ []))
+        (suggestions_by state.old.problem (option_copied published.entry) state.old.present
+        branch.now (value ∷ [])) found.old found.new) }
+    ensures too_many { result ≡ Err SuggestEnd.TooMany
+        → 1000000
+        < found.old.tried
+        + tries_by state.old.problem state.old.present branch.now (value ∷ []) }
 {
     if !branch.gives_child(state, value) {
         return Ok(());
@@ -198,17 +225,30 @@ fn descend(
     found: &mut Suggested,
 ) -> Result<(), SuggestEnd>
     requires belongs { ForSome (option_copied published) (IsTimetableOf state.old.problem) }
-    requires branch { IsBranchOf state.old.problem (option_copied published) state.old.present branch.now }
+    requires branch { IsBranchOf state.old.problem (option_copied published) state.old.present
+        branch.now }
     requires value { IsOfDomain state.old.problem branch.now.class value }
-    requires taken { state.old.taken ≡ conflicts_of state.old.problem state.old.present branch.now.class value }
-    requires gives { gives_child state.old.problem branch.now.spare (node_of state.old.present branch.now) branch.now.class branch.now.others.items value ≡ true }
+    requires taken { state.old.taken
+        ≡ conflicts_of state.old.problem state.old.present branch.now.class value }
+    requires gives { gives_child state.old.problem branch.now.spare
+        (node_of state.old.present branch.now) branch.now.class branch.now.others.items value
+        ≡ true }
     requires some { (length branch.now.others.items + length state.old.taken == 0) ≡ false }
     requires step { 0 < length (earlier state.old) }
     requires few { found.old.tried ≤ 1000000 }
     ensures step { IsWithinStep (with_taken state.old []) (with_taken state.new []) }
     ensures back { OnOk result (IsBack state.old state.new) }
-    ensures found { OnOk result (AreFoundIn (tries_of state.old.problem branch.now.spare (child_of state.old.problem state.old.present branch.now value)) (map (suggestion_of state.old.problem (option_copied published.entry)) (leaves_of state.old.problem branch.now.spare (child_of state.old.problem state.old.present branch.now value))) found.old found.new) }
-    ensures too_many { result ≡ Err SuggestEnd.TooMany → 1000000 < found.old.tried + tries_of state.old.problem branch.now.spare (child_of state.old.problem state.old.present branch.now value) }
+    ensures found { OnOk result (AreFoundIn
+        (tries_of state.old.problem branch.now.spare
+        (child_of state.old.problem state.old.present branch.now value))
+        (map (suggestion_of state.old.problem (option_copied published.entry)) (leaves_of
+        state.old.problem branch.now.spare
+        (child_of state.old.problem state.old.present branch.now value))) found.old found.new) }
+    ensures too_many { result ≡ Err SuggestEnd.TooMany
+        → 1000000
+        < found.old.tried
+        + tries_of state.old.problem branch.now.spare
+        (child_of state.old.problem state.old.present branch.now value) }
 {
     let mark = state.mark_now();
     let next = go_on(alloc, state, published, branch, value)?;
@@ -231,9 +271,13 @@ fn suggest_step(
     requires few { depth ≤ 3 }
     requires step { 0 < length (earlier state.old) }
     ensures step { IsWithinStep (with_taken state.old []) (with_taken state.new []) }
-    ensures suggested { IfOk result (λ now. now ≡ suggested state.old.problem (option_copied published.entry) depth state.old.present class) }
+    ensures suggested { IfOk result (λ now.
+        now
+        ≡ suggested state.old.problem (option_copied published.entry) depth state.old.present
+        class) }
     ensures few { IfOk result (λ now. now.tried ≤ 1000000) }
-    ensures too_many { result ≡ Err SuggestEnd.TooMany → 1000000 < tries_of state.old.problem depth (root_of state.old.present class) }
+    ensures too_many { result ≡ Err SuggestEnd.TooMany
+        → 1000000 < tries_of state.old.problem depth (root_of state.old.present class) }
 {
     let root = Branch {
         path: Vec::new(alloc),
@@ -271,10 +315,19 @@ pub fn suggest(
     requires some { 1 ≤ depth }
     requires few { depth ≤ 3 }
     ensures same { with_taken state.new [] ≡ with_taken state.old [] }
-    ensures suggested { IfOk result (λ now. now ≡ suggested state.old.problem (option_copied published.entry) depth state.old.present class) }
-    ensures none { IfOk result (λ now. (now.best ≡ None) ↔ (suggestions_of state.old.problem (option_copied published.entry) depth state.old.present class ≡ [])) }
+    ensures suggested { IfOk result (λ now.
+        now
+        ≡ suggested state.old.problem (option_copied published.entry) depth state.old.present
+        class) }
+    ensures none { IfOk result (λ now.
+        (now.best ≡ None)
+        ↔ (suggestions_of state.old.problem (option_copied published.entry) depth
+        state.old.present class
+        ≡ [])) }
     ensures few { IfOk result (λ now. now.tried ≤ 1000000) }
-    ensures too_many { result ≢ Err SuggestEnd.Memory → (result ≡ Err SuggestEnd.TooMany) ↔ (1000000 < tries_of state.old.problem depth (root_of state.old.present class)) }
+    ensures too_many { result ≢ Err SuggestEnd.Memory
+        → (result ≡ Err SuggestEnd.TooMany)
+        ↔ (1000000 < tries_of state.old.problem depth (root_of state.old.present class)) }
 {
     state.begin()?;
     let result = suggest_step(alloc, state, published, class, depth);

@@ -92,7 +92,9 @@ fn is_used(spots: &[Spot], day: u8) -> bool
 // The days that some spot has, above the most that are allowed.
 #[tactic(auto, using(tt_base::proofs::Ranges::count_range_more), unfolding(tt_measure::specs::Cells::seven_days))]
 fn days_over(most: u16, spots: &[Spot]) -> u64
-    ensures days { result ≡ count_by (λ day. list_any (λ x. has (day_set x.time.days) day) spots.now) seven_days - most }
+    ensures days { result
+        ≡ count_by (λ day. list_any (λ x. has (day_set x.time.days) day) spots.now) seven_days
+        - most }
     ensures few { result ≤ 7 }
 {
     let mut days: u16 = 0;
@@ -115,7 +117,9 @@ fn meets_in(spots: &[Spot], week: u8) -> bool
 // The weeks that some spot has, above the most that are allowed.
 #[tactic(auto, using(tt_base::proofs::Ranges::count_range_more))]
 fn weeks_over(most: u16, spots: &[Spot]) -> u64
-    ensures weeks { result ≡ count_by (λ week. list_any (λ x. has (week_set x.time.weeks) week) spots.now) places - most }
+    ensures weeks { result
+        ≡ count_by (λ week. list_any (λ x. has (week_set x.time.weeks) week) spots.now) places
+        - most }
     ensures few { result ≤ 128 }
 {
     let mut weeks: u16 = 0;
@@ -158,7 +162,8 @@ fn load_in(spots: &[Spot], week: u8, day: u8) -> u64
 fn load_over_in(most: u16, spots: &[Spot], week: u8) -> u64
     requires few { length spots.now ≤ most_members }
     requires week { week < most_weeks }
-    ensures load { result ≡ sum_by (λ day. load_of (filter (stands_in week day) spots.now) - most) seven_days }
+    ensures load { result
+        ≡ sum_by (λ day. load_of (filter (stands_in week day) spots.now) - most) seven_days }
     ensures small { result ≤ 7 * most_members * 65535 }
 {
     let mut sum = 0;
@@ -173,7 +178,8 @@ fn load_over_in(most: u16, spots: &[Spot], week: u8) -> u64
 fn load_over(most: u16, weeks: u8, spots: &[Spot]) -> u64
     requires few { length spots.now ≤ most_members }
     requires weeks { weeks ≤ most_weeks }
-    ensures load { result ≡ over_cells weeks (λ week day. load_of (filter (stands_in week day) spots.now) - most) }
+    ensures load { result
+        ≡ over_cells weeks (λ week day. load_of (filter (stands_in week day) spots.now) - most) }
     ensures small { result ≤ 128 * (7 * most_members * 65535) }
 {
     let mut sum = 0;

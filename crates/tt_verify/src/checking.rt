@@ -34,7 +34,8 @@ fn add_listing_faults(
 ) -> Result<(), AllocError>
     requires belongs { IsTimetableOf problem.now published.now }
     requires whole { length plan.now ≡ length problem.now.classes }
-    ensures { OnOk result (found.new.items ≡ found.old.items ++ listing_faults problem.now published.now plan.now) }
+    ensures { OnOk result
+        (found.new.items ≡ found.old.items ++ listing_faults problem.now published.now plan.now) }
 {
     let counts = student_counts(alloc, problem, published)?;
     add_class_faults(problem, published, plan, found)?;
@@ -55,7 +56,8 @@ pub fn add_hard_violations(
 ) -> Result<(), AllocError>
     requires whole { length spots.now ≡ length problem.now.classes }
     requires fit { AreSpotsOf problem.now spots.now }
-    ensures found { OnOk result (found.new.items ≡ found.old.items ++ hard_violations problem.now closures.now spots.now) }
+    ensures found { OnOk result
+        (found.new.items ≡ found.old.items ++ hard_violations problem.now closures.now spots.now) }
     ensures hard { OnOk result (AreAsManyAsHard problem.now closures.now spots.now) }
 {
     problem.validity();
@@ -80,9 +82,11 @@ fn findings_on(
     published: &Published,
 ) -> Result<Findings, AllocError>
     requires { IsTimetableOf problem.now published.now }
-    ensures violations { IfOk result (λ f. f.violations.items ≡ violations_of problem.now published.now) }
+    ensures violations { IfOk result
+        (λ f. f.violations.items ≡ violations_of problem.now published.now) }
     ensures hard { IfOk result (λ f. f.hard ≡ (timetable_totals problem.now published.now).hard) }
-    ensures sums { IfOk result (λ f. f.sums ≡ sums_of (timetable_totals problem.now published.now)) }
+    ensures sums { IfOk result
+        (λ f. f.sums ≡ sums_of (timetable_totals problem.now published.now)) }
 {
     problem.validity();
     let plan = published_plan(alloc, problem, published)?;
@@ -104,7 +108,11 @@ fn findings_on(
 // Appends a line for each violation, the line on the sums, and the last line.
 #[tactic(auto, using(std::proofs::Common::append_assoc))]
 fn add_findings(out: &mut Reply, problem: &Problem, findings: &Findings) -> Result<(), AllocError>
-    ensures { OnOk result (out.new ≡ out.old ++ (violation_lines problem.now findings.now.violations.items ++ sum_line findings.now.sums findings.now.hard ++ verdict_line (vec_len findings.now.violations))) }
+    ensures { OnOk result (out.new
+        ≡ out.old
+        ++ (violation_lines problem.now findings.now.violations.items
+        ++ sum_line findings.now.sums findings.now.hard
+        ++ verdict_line (vec_len findings.now.violations))) }
 {
     add_lines(out, problem, findings.violations.as_slice())?;
     add_sum_line(out, &findings.sums, findings.hard)?;

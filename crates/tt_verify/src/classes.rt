@@ -26,7 +26,8 @@ fn add_class_fault(
 ) -> Result<(), AllocError>
     requires listed { class < length published.now.classes }
     requires planned { class < length plan.now }
-    ensures { OnOk result (found.new.items ≡ found.old.items ++ class_fault published.now plan.now class) }
+    ensures { OnOk result
+        (found.new.items ≡ found.old.items ++ class_fault published.now plan.now class) }
 {
     if !published.has(class) {
         found.push(Violation::Missing { class })?;
@@ -46,7 +47,8 @@ pub fn add_class_faults(
 ) -> Result<(), AllocError>
     requires belongs { IsTimetableOf problem.now published.now }
     requires whole { length plan.now ≡ length problem.now.classes }
-    ensures { OnOk result (found.new.items ≡ found.old.items ++ class_faults problem.now published.now plan.now) }
+    ensures { OnOk result
+        (found.new.items ≡ found.old.items ++ class_faults problem.now published.now plan.now) }
 {
     for class in 0..problem.class_count() {
         add_class_fault(published, plan, class, found)?;
@@ -63,7 +65,8 @@ fn add_limit_fault(
     found: &mut Vec<Violation>,
 ) -> Result<(), AllocError>
     requires { class < length problem.now.classes }
-    ensures { OnOk result (found.new.items ≡ found.old.items ++ limit_fault_with problem.now class students) }
+    ensures { OnOk result
+        (found.new.items ≡ found.old.items ++ limit_fault_with problem.now class students) }
 {
     if let Some(limit) = problem.class(class).limit
         && students > limit
@@ -81,7 +84,8 @@ pub fn add_limit_faults(
     found: &mut Vec<Violation>,
 ) -> Result<(), AllocError>
     requires { length counts.now ≡ length problem.now.classes }
-    ensures { OnOk result (found.new.items ≡ found.old.items ++ limit_faults_by problem.now counts.now) }
+    ensures { OnOk result
+        (found.new.items ≡ found.old.items ++ limit_faults_by problem.now counts.now) }
 {
     for class in 0..problem.class_count() {
         add_limit_fault(problem, class, counts[class as usize], found)?;
@@ -122,7 +126,8 @@ fn add_closed_fault(
 ) -> Result<(), AllocError>
     requires class { class < length spots.now }
     requires fit { AreSpotsOf problem.now spots.now }
-    ensures { OnOk result (found.new.items ≡ found.old.items ++ closed_fault problem.now closures.now spots.now class) }
+    ensures { OnOk result (found.new.items
+        ≡ found.old.items ++ closed_fault problem.now closures.now spots.now class) }
 {
     if let Some(spot) = &spots[class as usize]
         && is_closed(problem, closures, spot)
@@ -142,7 +147,8 @@ pub fn add_closed_faults(
 ) -> Result<(), AllocError>
     requires whole { length spots.now ≡ length problem.now.classes }
     requires fit { AreSpotsOf problem.now spots.now }
-    ensures { OnOk result (found.new.items ≡ found.old.items ++ closed_faults problem.now closures.now spots.now) }
+    ensures { OnOk result
+        (found.new.items ≡ found.old.items ++ closed_faults problem.now closures.now spots.now) }
 {
     for class in 0..problem.class_count() {
         add_closed_fault(problem, closures, spots, class, found)?;

@@ -41,7 +41,11 @@ fn add_two_classes(
     class: u32,
     other: u32,
 ) -> Result<(), AllocError>
-    ensures { OnOk result (out.new ≡ out.old ++ (class_text t.now problem.now class ++ class_text (codes " ") problem.now other ++ codes "\n")) }
+    ensures { OnOk result (out.new
+        ≡ out.old
+        ++ (class_text t.now problem.now class
+        ++ class_text (codes " ") problem.now other
+        ++ codes "\n")) }
 {
     add_class(out, t, problem, class)?;
     add_class(out, " ", problem, other)?;

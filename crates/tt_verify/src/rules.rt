@@ -52,7 +52,10 @@ fn add_pairs_of(
     requires rooms { (c : ℕ) → IfSome (spot_at spots.now c) (λ x. IsRoomOf travel.now x.room) }
     requires class { class < length spots.now }
     requires within { All (λ class. class < length spots.now) later.now }
-    ensures { OnOk result (found.new.items ≡ found.old.items ++ pair_faults rule.place (pairs_with (are_related (is_violated rule.kind travel.now) spots.now) class later.now)) }
+    ensures { OnOk result (found.new.items
+        ≡ found.old.items
+        ++ pair_faults rule.place (pairs_with
+        (are_related (is_violated rule.kind travel.now) spots.now) class later.now)) }
 {
     for other in later {
         if breaks(travel, spots, rule.kind, class, *other) {
@@ -76,7 +79,10 @@ fn add_pairs(
 ) -> Result<(), AllocError>
     requires rooms { (c : ℕ) → IfSome (spot_at spots.now c) (λ x. IsRoomOf travel.now x.room) }
     requires within { All (λ class. class < length spots.now) members.now }
-    ensures { OnOk result (found.new.items ≡ found.old.items ++ pair_faults rule.place (related_pairs (are_related (is_violated rule.kind travel.now) spots.now) members.now)) }
+    ensures { OnOk result (found.new.items
+        ≡ found.old.items
+        ++ pair_faults rule.place (related_pairs
+        (are_related (is_violated rule.kind travel.now) spots.now) members.now)) }
 {
     for (place, class) in members.iter().enumerate() {
         let class = *class;
@@ -99,7 +105,8 @@ fn add_amount(
     requires rule { IsValidRule problem.now rule.now }
     requires whole { length spots.now ≡ length problem.now.classes }
     requires fit { AreSpotsOf problem.now spots.now }
-    ensures { OnOk result (found.new.items ≡ found.old.items ++ amount_faults place (rule_amount problem.now spots.now rule.now)) }
+    ensures { OnOk result (found.new.items
+        ≡ found.old.items ++ amount_faults place (rule_amount problem.now spots.now rule.now)) }
 {
     let amount = rule_amount(alloc, problem, spots, rule)?;
     if amount != 0 {
@@ -123,7 +130,8 @@ fn add_rule_faults(
     requires place { place < length problem.now.rules }
     requires whole { length spots.now ≡ length problem.now.classes }
     requires fit { AreSpotsOf problem.now spots.now }
-    ensures { OnOk result (found.new.items ≡ found.old.items ++ rule_faults_at problem.now spots.now place) }
+    ensures { OnOk result
+        (found.new.items ≡ found.old.items ++ rule_faults_at problem.now spots.now place) }
 {
     problem.validity();
     let travel = problem.travel();
@@ -154,7 +162,8 @@ pub fn add_all_rule_faults(
 ) -> Result<(), AllocError>
     requires whole { length spots.now ≡ length problem.now.classes }
     requires fit { AreSpotsOf problem.now spots.now }
-    ensures { OnOk result (found.new.items ≡ found.old.items ++ all_rule_faults problem.now spots.now) }
+    ensures { OnOk result
+        (found.new.items ≡ found.old.items ++ all_rule_faults problem.now spots.now) }
 {
     for place in 0..problem.rule_count() {
         add_rule_faults(alloc, problem, spots, place, found)?;

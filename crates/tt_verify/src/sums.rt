@@ -147,7 +147,8 @@ pub fn sums_of(
     requires spots { spots.now ≡ spots_of problem.now plan.now }
     requires whole { length spots.now ≡ length problem.now.classes }
     requires fit { AreSpotsOf problem.now spots.now }
-    ensures { IfOk result (λ s. s ≡ sums_of (totals_of problem.now [] plan.now published.now.lists)) }
+    ensures { IfOk result
+        (λ s. s ≡ sums_of (totals_of problem.now [] plan.now published.now.lists)) }
 {
     let penalties = Penalties {
         time: time_sum(problem, plan),

@@ -19,7 +19,8 @@ impl<'a> Reason<'a> {
     /// The reason for this status, if the output doesn't say it. `file` is the name that was asked
     /// for last, and `cause` what is said of the call that failed.
     pub fn of(status: u8, file: &'a str, cause: &'a str) -> Option<Reason<'a>>
-        ensures { option_and_then line_of result ≡ reason_text status file.entry.now cause.entry.now }
+        ensures { option_and_then line_of result
+            ≡ reason_text status file.entry.now cause.entry.now }
     {
         match status {
             5..=9 => Some(Reason {

@@ -25,8 +25,15 @@ impl State {
     fn turn(&mut self, beginning: Beginning, class: u32, lock: bool) -> Result<(), AllocError>
         requires may { may_turn lock self.old.present class ≡ true }
         requires begins { MayBegin beginning self.old.entries }
-        ensures now { OnOk result (self.new ≡ record { problem = self.old.problem; present = with_lock self.old.present class lock; entries = turn_of lock class ∷ begun beginning self.old.entries; taken = self.old.taken }) }
-        ensures past { OnOk result (HasPastOf self.old.present (begun beginning self.old.entries) self.new.present self.new.entries) }
+        ensures now { OnOk result (self.new
+            ≡ record {
+              problem = self.old.problem;
+              present = with_lock self.old.present class lock;
+              entries = turn_of lock class ∷ begun beginning self.old.entries;
+              taken = self.old.taken;
+            }) }
+        ensures past { OnOk result (HasPastOf self.old.present (begun beginning self.old.entries)
+            self.new.present self.new.entries) }
         ensures err { OnErr result (self.new ≡ self.old) }
     {
         self.past.reserve(2)?;
@@ -38,9 +45,15 @@ impl State {
     /// Locks a class, as one step. Why it can't be locked, if it is so; then nothing changes.
     #[tactic(auto, using(crate::proofs::PastLemmas::step_desk, crate::proofs::PastLemmas::step_trail))]
     pub fn lock(&mut self, class: u32) -> Result<Option<LockFault>, AllocError>
-        ensures desk { result ≡ Ok None → desk_of self.new ≡ stepped (desk_of self.old) (with_lock self.old.present class true) }
+        ensures desk { result ≡ Ok None
+            → desk_of self.new
+            ≡ stepped (desk_of self.old) (with_lock self.old.present class true) }
         ensures trail { result ≡ Ok None → trail self.new ≡ self.new.present ∷ [] }
-        ensures entries { result ≡ Ok None → self.new.entries ≡ Entry.Locked class ∷ Entry.Mark (point_count self.old.entries) ∷ self.old.entries }
+        ensures entries { result ≡ Ok None
+            → self.new.entries
+            ≡ Entry.Locked class
+            ∷ Entry.Mark (point_count self.old.entries)
+            ∷ self.old.entries }
         ensures taken { result ≡ Ok None → self.new.taken ≡ self.old.taken }
         ensures same { IfOk result (λ fault. OnSome fault (self.new ≡ self.old)) }
         ensures err { OnErr result (self.new ≡ self.old) }
@@ -58,9 +71,15 @@ impl State {
     /// Takes its lock off a class, as one step. Whether it was locked; if not, nothing changes.
     #[tactic(auto, using(crate::proofs::PastLemmas::step_desk, crate::proofs::PastLemmas::step_trail))]
     pub fn unlock(&mut self, class: u32) -> Result<bool, AllocError>
-        ensures desk { result ≡ Ok true → desk_of self.new ≡ stepped (desk_of self.old) (with_lock self.old.present class false) }
+        ensures desk { result ≡ Ok true
+            → desk_of self.new
+            ≡ stepped (desk_of self.old) (with_lock self.old.present class false) }
         ensures trail { result ≡ Ok true → trail self.new ≡ self.new.present ∷ [] }
-        ensures entries { result ≡ Ok true → self.new.entries ≡ Entry.Unlocked class ∷ Entry.Mark (point_count self.old.entries) ∷ self.old.entries }
+        ensures entries { result ≡ Ok true
+            → self.new.entries
+            ≡ Entry.Unlocked class
+            ∷ Entry.Mark (point_count self.old.entries)
+            ∷ self.old.entries }
         ensures taken { result ≡ Ok true → self.new.taken ≡ self.old.taken }
         ensures same { result ≡ Ok false → self.new ≡ self.old }
         ensures err { OnErr result (self.new ≡ self.old) }
@@ -79,10 +98,12 @@ impl State {
     pub fn unlock_step(&mut self, class: u32) -> Result<(), AllocError>
         requires locked { is_locked_in self.old.present class ≡ true }
         requires step { 0 < length (earlier self.old) }
-        ensures desk { OnOk result (desk_of self.new ≡ moved_to (desk_of self.old) (with_lock self.old.present class false)) }
+        ensures desk { OnOk result (desk_of self.new
+            ≡ moved_to (desk_of self.old) (with_lock self.old.present class false)) }
         ensures trail { OnOk result (trail self.new ≡ trail self.old ++ self.new.present ∷ []) }
         ensures step { OnOk result (IsWithinStep self.old self.new) }
-        ensures entries { OnOk result (self.new.entries ≡ Entry.Unlocked class ∷ Entry.Point ∷ self.old.entries) }
+        ensures entries { OnOk result
+            (self.new.entries ≡ Entry.Unlocked class ∷ Entry.Point ∷ self.old.entries) }
         ensures err { OnErr result (self.new ≡ self.old) }
     {
         self.turn(Beginning::Moment, class, false)
@@ -90,8 +111,16 @@ impl State {
 
     // Locks each placed class, or takes each lock off. How many locks turned.
     fn turn_all(&mut self, lock: bool) -> Result<u32, AllocError>
-        ensures now { OnOk result (self.new ≡ record { problem = self.old.problem; present = all_turned lock self.old.present; entries = noted_by (turn_of lock) (turning lock self.old.present) (begun Beginning.Step self.old.entries); taken = self.old.taken }) }
-        ensures past { OnOk result (HasPastOf self.old.present (begun Beginning.Step self.old.entries) self.new.present self.new.entries) }
+        ensures now { OnOk result (self.new
+            ≡ record {
+              problem = self.old.problem;
+              present = all_turned lock self.old.present;
+              entries = noted_by (turn_of lock) (turning lock self.old.present)
+                  (begun Beginning.Step self.old.entries);
+              taken = self.old.taken;
+            }) }
+        ensures past { OnOk result (HasPastOf self.old.present
+            (begun Beginning.Step self.old.entries) self.new.present self.new.entries) }
         ensures count { IfOk result (λ count. count ≡ length (turning lock self.old.present)) }
         ensures err { OnErr result (self.new ≡ self.old) }
     {
@@ -105,10 +134,13 @@ impl State {
     /// Locks each placed class, as one step. How many of them weren't locked before.
     #[tactic(auto, using(crate::proofs::PastLemmas::step_desk, crate::proofs::PastLemmas::step_trail))]
     pub fn lock_all(&mut self) -> Result<u32, AllocError>
-        ensures desk { OnOk result (desk_of self.new ≡ stepped (desk_of self.old) (all_locked self.old.present)) }
+        ensures desk { OnOk result
+            (desk_of self.new ≡ stepped (desk_of self.old) (all_locked self.old.present)) }
         ensures count { IfOk result (λ count. count ≡ length (lockable self.old.present)) }
         ensures trail { OnOk result (trail self.new ≡ self.new.present ∷ []) }
-        ensures entries { OnOk result (self.new.entries ≡ noted_by Entry.Locked (lockable self.old.present) (Entry.Mark (point_count self.old.entries) ∷ self.old.entries)) }
+        ensures entries { OnOk result (self.new.entries
+            ≡ noted_by Entry.Locked (lockable self.old.present)
+            (Entry.Mark (point_count self.old.entries) ∷ self.old.entries)) }
         ensures taken { OnOk result (self.new.taken ≡ self.old.taken) }
         ensures err { OnErr result (self.new ≡ self.old) }
     {
@@ -118,10 +150,13 @@ impl State {
     /// Takes the lock off each class that is locked, as one step. How many these were.
     #[tactic(auto, using(crate::proofs::PastLemmas::step_desk, crate::proofs::PastLemmas::step_trail))]
     pub fn unlock_all(&mut self) -> Result<u32, AllocError>
-        ensures desk { OnOk result (desk_of self.new ≡ stepped (desk_of self.old) (none_locked self.old.present)) }
+        ensures desk { OnOk result
+            (desk_of self.new ≡ stepped (desk_of self.old) (none_locked self.old.present)) }
         ensures count { IfOk result (λ count. count ≡ length (locked_classes self.old.present)) }
         ensures trail { OnOk result (trail self.new ≡ self.new.present ∷ []) }
-        ensures entries { OnOk result (self.new.entries ≡ noted_by Entry.Unlocked (locked_classes self.old.present) (Entry.Mark (point_count self.old.entries) ∷ self.old.entries)) }
+        ensures entries { OnOk result (self.new.entries
+            ≡ noted_by Entry.Unlocked (locked_classes self.old.present)
+            (Entry.Mark (point_count self.old.entries) ∷ self.old.entries)) }
         ensures taken { OnOk result (self.new.taken ≡ self.old.taken) }
         ensures err { OnErr result (self.new ≡ self.old) }
     {

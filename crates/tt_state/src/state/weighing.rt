@@ -28,7 +28,8 @@ impl State {
     /// The tolls of the whole conflict set of a class at a value, which was found last.
     #[tactic(auto, unfolding(crate::specs::Weights::weight_of))]
     pub fn weight(&self, class: u32, value: Value) -> u128
-        requires taken { self.now.taken ≡ conflicts_of self.now.problem self.now.present class value }
+        requires taken { self.now.taken
+            ≡ conflicts_of self.now.problem self.now.present class value }
         ensures weight { result ≡ weight_of self.now.problem self.now.present class value }
     {
         self.problem().validity();

@@ -1,48 +1,57 @@
 use Rattle.tt_pool.specs.Pools.{chain_at}
 use Rattle.tt_pool.proofs.Moves.{moved_within}
-use Rattle.tt_pool.proofs.PoolLemmas.{pair_with_free, Changes-taken, IsPool-changed, chains-taken, lists-taken, item-taken}
+use Rattle.tt_pool.proofs.Paths.{stands_at, first_of}
+use Rattle.tt_pool.proofs.PoolLemmas.{free_room, pair_with_free, Changes-taken, IsPool-changed, chains-taken, lists-taken, item-taken}
 use Rattle.tt_pool.proofs.chain.take_out.Goals as goal
 
-pub transfer-moved-requires-clause-chains : goal.transfer-moved-requires-clause-chains
-transfer-moved-requires-clause-chains c =
-    pair_with_free c.args.nodes.now c.args.lists.now c.args.free c.args.list c.requires.pool c.requires.list
+pub transfer-moved-requires : goal.transfer-moved-requires
+transfer-moved-requires g c = (
+  pair_with_free c.args.nodes.now c.args.lists.now c.args.free c.args.list c.requires.0 c.requires.1.0,
+  (
+    c.requires.1.1,
+    (
+      first_of c.args.nodes.now c.args.free,
+      free_room c.args.nodes.now c.args.lists.now c.args.free c.requires.0,
+    ),
+  ),
+)
 
-pub bounds-nodes-moved : goal.bounds-nodes-moved
-bounds-nodes-moved c =
-    moved_within c.args.nodes.now c.transfer-moved.new.nodes (chain_at c.args.lists.now c.args.list) c.args.free c.args.place.at
-    c.transfer-moved.result.node.0 (pair_with_free c.args.nodes.now c.args.lists.now c.args.free c.args.list c.requires.pool c.requires.list)
-    c.transfer-moved.ensures.node c.requires.at c.transfer-moved.auto.nodes
+pub bounds-nodes-node : goal.bounds-nodes-node
+bounds-nodes-node g c =
+    moved_within c.args.nodes.now c.transfer-moved.new.nodes (chain_at c.args.lists.now c.args.list) c.args.free g.at
+    c.args.node.0 (pair_with_free c.args.nodes.now c.args.lists.now c.args.free c.args.list c.requires.0 c.requires.1.0)
+    (stands_at _ _ _ _ _ c.requires.1.1) c.requires.1.1.within c.transfer-moved.auto.nodes
 
 pub returns-clause-pool : goal.returns-clause-pool
-returns-clause-pool c =
+returns-clause-pool g c =
     IsPool-changed c.args.nodes.now c.transfer-moved.new.nodes c.args.lists.now c.args.free c.args.list c.transfer-moved.result.to
     c.transfer-moved.result.from
-    (Changes-taken c.args.nodes.now c.transfer-moved.new.nodes c.args.lists.now c.args.free c.args.list c.args.place.at
-    c.transfer-moved.result.node.0 c.transfer-moved.result.to c.transfer-moved.result.from c.requires.pool c.requires.list c.requires.at
+    (Changes-taken c.args.nodes.now c.transfer-moved.new.nodes c.args.lists.now c.args.free c.args.list g.at
+    c.args.node.0 c.transfer-moved.result.to c.transfer-moved.result.from c.requires.0 c.requires.1.0 c.requires.1.1.within
     c.transfer-moved.auto.nodes c.transfer-moved.ensures.from c.transfer-moved.ensures.to c.transfer-moved.ensures.less
-    c.transfer-moved.ensures.more c.transfer-moved.ensures.node c.transfer-moved.ensures.others)
+    c.transfer-moved.ensures.more (stands_at _ _ _ _ _ c.requires.1.1) c.transfer-moved.ensures.others)
 
 pub returns-clause-lists : goal.returns-clause-lists
-returns-clause-lists c =
-    lists-taken c.args.nodes.now c.transfer-moved.new.nodes c.args.lists.now c.args.free c.args.list c.args.place.at c.transfer-moved.result.to
+returns-clause-lists g c =
+    lists-taken c.args.nodes.now c.transfer-moved.new.nodes c.args.lists.now c.args.free c.args.list g.at c.transfer-moved.result.to
     c.transfer-moved.result.from
-    (Changes-taken c.args.nodes.now c.transfer-moved.new.nodes c.args.lists.now c.args.free c.args.list c.args.place.at
-    c.transfer-moved.result.node.0 c.transfer-moved.result.to c.transfer-moved.result.from c.requires.pool c.requires.list c.requires.at
+    (Changes-taken c.args.nodes.now c.transfer-moved.new.nodes c.args.lists.now c.args.free c.args.list g.at
+    c.args.node.0 c.transfer-moved.result.to c.transfer-moved.result.from c.requires.0 c.requires.1.0 c.requires.1.1.within
     c.transfer-moved.auto.nodes c.transfer-moved.ensures.from c.transfer-moved.ensures.to c.transfer-moved.ensures.less
-    c.transfer-moved.ensures.more c.transfer-moved.ensures.node c.transfer-moved.ensures.others)
+    c.transfer-moved.ensures.more (stands_at _ _ _ _ _ c.requires.1.1) c.transfer-moved.ensures.others)
     c.transfer-moved.ensures.from c.transfer-moved.ensures.items
 
 pub returns-clause-item : goal.returns-clause-item
-returns-clause-item c =
-    item-taken c.args.nodes.now c.transfer-moved.new.nodes c.args.lists.now c.args.list c.args.place.at c.transfer-moved.result.node.0
-    c.requires.list c.requires.at c.transfer-moved.ensures.items c.transfer-moved.ensures.node
+returns-clause-item g c =
+    item-taken c.args.nodes.now c.transfer-moved.new.nodes c.args.lists.now c.args.list g.at c.args.node.0
+    c.requires.1.0 c.requires.1.1.within c.transfer-moved.ensures.items (stands_at _ _ _ _ _ c.requires.1.1)
 
 pub returns-clause-chains : goal.returns-clause-chains
-returns-clause-chains c =
-    chains-taken c.args.nodes.now c.transfer-moved.new.nodes c.args.lists.now c.args.free c.args.list c.args.place.at c.transfer-moved.result.to
+returns-clause-chains g c =
+    chains-taken c.args.nodes.now c.transfer-moved.new.nodes c.args.lists.now c.args.free c.args.list g.at c.transfer-moved.result.to
     c.transfer-moved.result.from
-    (Changes-taken c.args.nodes.now c.transfer-moved.new.nodes c.args.lists.now c.args.free c.args.list c.args.place.at
-    c.transfer-moved.result.node.0 c.transfer-moved.result.to c.transfer-moved.result.from c.requires.pool c.requires.list c.requires.at
+    (Changes-taken c.args.nodes.now c.transfer-moved.new.nodes c.args.lists.now c.args.free c.args.list g.at
+    c.args.node.0 c.transfer-moved.result.to c.transfer-moved.result.from c.requires.0 c.requires.1.0 c.requires.1.1.within
     c.transfer-moved.auto.nodes c.transfer-moved.ensures.from c.transfer-moved.ensures.to c.transfer-moved.ensures.less
-    c.transfer-moved.ensures.more c.transfer-moved.ensures.node c.transfer-moved.ensures.others)
+    c.transfer-moved.ensures.more (stands_at _ _ _ _ _ c.requires.1.1) c.transfer-moved.ensures.others)
     c.transfer-moved.ensures.from

@@ -4,7 +4,7 @@ use Rattle.tt_plan.specs.Domain.{domain_of}
 use Rattle.tt_state.specs.History.{Held}
 use Rattle.tt_search.specs.PlacingNow.{burden_by}
 use Rattle.tt_search.specs.Turns.{is_available}
-use Rattle.tt_search.proofs.LeastLemmas.{few_least, one_further, one_passes}
+use Rattle.tt_search.proofs.LeastLemmas.{few_least, none_kept, one_further, one_passes}
 use Rattle.tt_search.proofs.ListLemmas.{on_err}
 use Rattle.tt_search.proofs.least.LeastValues.find.Goals as goal
 
@@ -15,7 +15,8 @@ loop-k-init c =
       problem = ap (λ (s : Held). s.problem) same;
       present = ap (λ (s : Held). s.present) same;
       entries = ap (λ (s : Held). s.entries) same;
-      least = c.clear.ensures _;
+      known = rw c.clear.ensures.first tt;
+      least = none_kept _ _ _ _ c.clear.new.self c.clear.ensures.first c.clear.ensures.values;
     }
 
 pub loop-k-preserved : goal.loop-k-preserved
@@ -29,7 +30,8 @@ loop-k-preserved c =
       problem = cc;
       present = cc;
       entries = cc;
-      least = one_further (burden_by start.problem start.present c.args.weights.now.outs.items c.args.class) (is_available start.problem start.present c.args.class) (domain_of start.problem c.args.class) c.loop-k.k c.value_at-value.result c.look_at.new.self
+      known = rw (problem, present) at c.look_at.ensures.known;
+      least = one_further start.problem start.present c.args.class (burden_by start.problem start.present c.args.weights.now.outs.items c.args.class) (is_available start.problem start.present c.args.class) (domain_of start.problem c.args.class) c.loop-k.k c.value_at-value.result c.look_at.new.self
           at (looked _ c.loop-k.invariant.least);
     }
 
@@ -40,7 +42,7 @@ returns-clause-few c =
     let problem : c.conflicts_without-others.new.self.problem ≡ start.problem = ap (λ (s : Held). s.problem) c.conflicts_without-others.ensures.same in
     let size = rw (c.problem.ensures, problem) at c.domain_size-k-end.ensures.size in
     let all : take c.loop-k.k domain ≡ domain = take_all c.loop-k.k domain (omega (arith, size)) in
-    omega (arith, size, c.domain_size-k-end.ensures.small, few_least _ _ domain c.loop-k.self (rw all at c.loop-k.invariant.least))
+    omega (arith, size, c.domain_size-k-end.ensures.small, few_least _ _ _ _ _ domain c.loop-k.self (rw all at c.loop-k.invariant.least))
 
 pub returns-in_err-look_at-clause-memory : goal.returns-in_err-look_at-clause-memory
 returns-in_err-look_at-clause-memory c =

@@ -24,7 +24,7 @@ returns-in_default-clause-turn c = λ outs counts.
 pub returns-clause-turn : goal.returns-clause-turn
 returns-clause-turn c = λ outs counts.
     let start = c.args.state.now in
-    let same = least_same start.problem start.present outs c.args.self.now.weights c.in-Some.class _ counts c.in_ok-find.ensures.least.items in
+    let same = least_same start.problem start.present outs c.args.self.now.weights c.in-Some.class _ counts c.in_ok-find.ensures.least.are.items in
     one_class start.problem (record { class = c.args.class_word; value = c.args.value_word }) (record { snapshot = start.present; outs = outs }) c.in-Some.class c.drawn-value.result
     (sym (c.drawn.ensures start.problem start.present c.requires.candidates) ∙ c.in-Some.is)
     (ap (drawn c.args.value_word) (sym same) ∙ sym c.drawn-value.ensures)
@@ -34,7 +34,7 @@ returns-clause-may c =
     let start = c.args.state.now in
     let class = c.in-Some.class in
     drawn_available start.problem start.present class c.args.value_word _ c.drawn-value.result
-    (subst (λ (vs : List Value). All (IsAvailable start.problem start.present class) vs) (sym c.in_ok-find.ensures.least.items) (least_available start.problem start.present class (burden_by start.problem start.present c.args.self.now.weights.outs.items class)))
+    (subst (λ (vs : List Value). All (IsAvailable start.problem start.present class) vs) (sym c.in_ok-find.ensures.least.are.items) (least_available start.problem start.present class (burden_by start.problem start.present c.args.self.now.weights.outs.items class)))
     (sym c.drawn-value.ensures)
 
 pub returns-in_err-find-clause-memory : goal.returns-in_err-find-clause-memory

@@ -1,0 +1,40 @@
+-- Proof. The joint rows of classes, and what a row says of its class.
+use Rattle.std.specs.Prelude.{◌≡◌, ℕ, ◌<◌, ◌≤◌, All, IfSome, List, [], ◌∷◌, Option, None, Some, cond, length, slice_index, slice_index_or, slice_set, sum_by}
+use Rattle.std.specs.Option.{option_map_or}
+use Rattle.tt_bits.specs.declared.times.Spot.{Spot}
+use Rattle.tt_bits.specs.Spots.{spot_at}
+use Rattle.tt_travel.specs.Table.{Table}
+use Rattle.tt_roster.specs.Lists.{Ascends}
+use Rattle.tt_roster.specs.Conflicts.{are_in_conflict, class_conflicts}
+use Rattle.tt_score.specs.declared.rows.JointClass.{JointClass}
+
+-- the row of a class, where it is kept
+abbrev pub row_at : List (Option (List JointClass)) → (class : ℕ) → Option (List JointClass)
+row_at rows class = slice_index_or rows class None
+
+-- the row of a class, empty where none is kept
+abbrev pub kept_row : List (Option (List JointClass)) → (class : ℕ) → List JointClass
+kept_row rows class = option_map_or (λ row. row) (row_at rows class) []
+
+-- a class with its number
+abbrev pub pair_of : (numbers : List ℕ) → (other : ℕ) → JointClass
+pair_of numbers other = record { class = other; number = slice_index numbers other }
+
+-- the number of a class, where it is placed and conflicts with the spot
+abbrev pub pair_at : Table → List (Option Spot) → Spot → JointClass → ℕ
+pair_at t spots x pair = cond (are_in_conflict t (Some x) (spot_at spots pair.class)) pair.number 0
+
+-- the row is of so many classes, and its numbers at those that conflict with a spot are the conflicting pairs with its class there
+pub record IsRowOf (seats : List (List ℕ)) (classes class : ℕ) (row : List JointClass) : Type 0 where
+  pub within : All (λ pair. pair.class < classes) row
+  pub few : length row ≤ classes
+  pub paid : All (Ascends 0 classes) seats → (t : Table) (spots : List (Option Spot)) (x : Spot) → sum_by (pair_at t spots x) row ≡ class_conflicts t spots seats class x
+
+-- each row that is kept is that of its class
+abbrev pub AreRowsOf : (seats : List (List ℕ)) → List (Option (List JointClass)) → Type 0
+AreRowsOf seats rows = (class : ℕ) → IfSome (row_at rows class) (IsRowOf seats (length rows) class)
+
+-- the rows without those of some classes
+abbrev pub rows_without : (classes : List ℕ) → List (Option (List JointClass)) → List (Option (List JointClass))
+rows_without [] rows = rows
+rows_without (class ∷ classes) rows = rows_without classes (slice_set rows class None)
