@@ -68,7 +68,8 @@ pub fn fault<'a>(wrong: Wrong, part: &Field<'a>) -> Fault<'a>
 
 /// The fault at a key of an object, whether or not it has the key.
 pub fn fault_at<'a>(wrong: Wrong, object: &'a Field<'a>, key: &'static str) -> Fault<'a>
-    ensures { fault_of result ≡ record { wrong = wrong; path = shown (at (steps_of object.now.trail) key.now) } }
+    ensures { fault_of result
+        ≡ record { wrong = wrong; path = shown (at (steps_of object.now.trail) key.now) } }
 {
     Fault {
         alloc: object.alloc,

@@ -146,7 +146,8 @@ pub fn optional_reference<'a>(
     key: &'static str,
 ) -> Result<Option<u32>, Fault<'a>>
     requires { IsFew known.now }
-    ensures place { Reads (λ n. n) result (optional (a_reference (known_of known.now)) key.now (part_of object.now)) }
+    ensures place { Reads (λ n. n) result
+        (optional (a_reference (known_of known.now)) key.now (part_of object.now)) }
     ensures below { IfOk result (λ n. IfSome n (λ place. IsAmong known.now place)) }
 {
     match value(object, key) {
@@ -163,7 +164,8 @@ pub fn reference<'a>(
     key: &'static str,
 ) -> Result<u32, Fault<'a>>
     requires { IsFew known.now }
-    ensures place { Reads (λ n. n) result (required (a_reference (known_of known.now)) key.now (part_of object.now)) }
+    ensures place { Reads (λ n. n) result
+        (required (a_reference (known_of known.now)) key.now (part_of object.now)) }
     ensures below { IfOk result (λ n. IsAmong known.now n) }
 {
     match value(object, key) {
@@ -180,7 +182,8 @@ pub fn known_id<'a>(
     key: &'static str,
 ) -> Result<u32, Fault<'a>>
     requires { IsFew known.now }
-    ensures place { Reads (λ n. n) result (required (place_of (known_of known.now)) key.now (part_of object.now)) }
+    ensures place { Reads (λ n. n) result
+        (required (place_of (known_of known.now)) key.now (part_of object.now)) }
     ensures below { IfOk result (λ n. IsAmong known.now n) }
 {
     as_place(known, &required(object, key)?)

@@ -37,7 +37,8 @@ pub fn read_each<X: Drop, T: ItemTable<X>>(
     items: &PartList<'_>,
 ) -> Result<Vec<X>, FileFault>
     requires { T.ready table.now }
-    ensures reads { Gives (λ list. list.items) result (each_as (T.reads table.now) (items_of items.now)) }
+    ensures reads { Gives (λ list. list.items) result
+        (each_as (T.reads table.now) (items_of items.now)) }
     ensures valid { IfOk result (λ list. All (T.valid table.now) list.items) }
     ensures count { IfOk result (λ list. length list.items ≡ length items.now.values.now) }
 {
@@ -77,7 +78,8 @@ pub trait NextTable<S> {
     ) -> Result<(), FileFault>
         requires few { place < most self.now }
         requires valid { valid self.now place before.old }
-        ensures reads { Gives (λ _. seen before.new) result (reads self.now (part_of item.now) (seen before.old)) }
+        ensures reads { Gives (λ _. seen before.new) result
+            (reads self.now (part_of item.now) (seen before.old)) }
         ensures valid { OnOk result (valid self.now (place + 1) before.new) };
 }
 

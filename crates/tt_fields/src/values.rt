@@ -104,7 +104,8 @@ pub fn number<'a>(
     least: u32,
     most: u32,
 ) -> Result<u32, Fault<'a>>
-    ensures reads { Reads (λ n. n) result (required (a_number least most) key.now (part_of object.now)) }
+    ensures reads { Reads (λ n. n) result
+        (required (a_number least most) key.now (part_of object.now)) }
     ensures within { IfOk result (λ n. (least ≤ n) × (n ≤ most)) }
 {
     as_number(&required(object, key)?, least, most)
@@ -136,7 +137,8 @@ pub fn number_or<'a>(
     most: u32,
 ) -> Result<u32, Fault<'a>>
     requires { (least ≤ other) × (other ≤ most) }
-    ensures reads { Reads (λ n. n) result (or_else other (a_number least most) key.now (part_of object.now)) }
+    ensures reads { Reads (λ n. n) result
+        (or_else other (a_number least most) key.now (part_of object.now)) }
     ensures within { IfOk result (λ n. (least ≤ n) × (n ≤ most)) }
 {
     match value(object, key) {
@@ -218,7 +220,8 @@ pub fn as_text<'a>(part: &Field<'a>) -> Result<&'a str, Fault<'a>>
 #[tactic(auto, unfolding(crate::specs::Kinds::a_set, crate::specs::Kinds::required))]
 pub fn days<'a>(object: &'a Field<'a>, key: &'static str, n: u8) -> Result<Days, Fault<'a>>
     requires { n ≤ 7 }
-    ensures reads { Reads (λ d. d) result (required (a_set days_text n) key.now (part_of object.now)) }
+    ensures reads { Reads (λ d. d) result
+        (required (a_set days_text n) key.now (part_of object.now)) }
     ensures below { IfOk result (λ d. day_set d < 2 ^ n) }
 {
     let part = required(object, key)?;
@@ -233,7 +236,8 @@ pub fn days<'a>(object: &'a Field<'a>, key: &'static str, n: u8) -> Result<Days,
 #[tactic(auto, unfolding(crate::specs::Kinds::a_set, crate::specs::Kinds::required))]
 pub fn weeks<'a>(object: &'a Field<'a>, key: &'static str, n: u8) -> Result<Weeks, Fault<'a>>
     requires { n ≤ 128 }
-    ensures reads { Reads (λ w. w) result (required (a_set weeks_text n) key.now (part_of object.now)) }
+    ensures reads { Reads (λ w. w) result
+        (required (a_set weeks_text n) key.now (part_of object.now)) }
     ensures below { IfOk result (λ w. week_set w < 2 ^ n) }
 {
     let part = required(object, key)?;

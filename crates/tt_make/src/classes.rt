@@ -71,7 +71,8 @@ fn push_class(
 ) -> Result<(), AllocError>
     requires some { 1 ≤ rooms }
     requires few { rooms ≤ 2002 }
-    ensures text { OnOk result (out.new.items ≡ out.old.items ++ compact_text (class_of rooms parent id words.old).0) }
+    ensures text { OnOk result
+        (out.new.items ≡ out.old.items ++ compact_text (class_of rooms parent id words.old).0) }
     ensures words { OnOk result (words.new ≡ (class_of rooms parent id words.old).1) }
 {
     let mut times = Vec::new(alloc);
@@ -107,7 +108,8 @@ fn push_rooms(
 ) -> Result<(), AllocError>
     requires some { 1 ≤ rooms }
     requires few { rooms ≤ 2002 }
-    ensures text { OnOk result (out.new.items ≡ out.old.items ++ rooms_text (choices_of rooms id words.old).0) }
+    ensures text { OnOk result
+        (out.new.items ≡ out.old.items ++ rooms_text (choices_of rooms id words.old).0) }
     ensures words { OnOk result (words.new ≡ (choices_of rooms id words.old).1) }
 {
     if id % 10 == 0 {

@@ -66,7 +66,8 @@ fn push_whole(
     requires few { rooms ≤ 2002 }
     requires first { 1 ≤ k }
     requires last { k ≤ 5000 }
-    ensures text { OnOk result (out.new.items ≡ out.old.items ++ compact_text (whole_of rooms k words.old).0) }
+    ensures text { OnOk result
+        (out.new.items ≡ out.old.items ++ compact_text (whole_of rooms k words.old).0) }
     ensures words { OnOk result (words.new ≡ (whole_of rooms k words.old).1) }
 {
     push_field(out, r#"{"configs":[{"id":"#, k)?;
@@ -101,7 +102,8 @@ fn push_last(
     requires first { 1 ≤ k }
     requires last { k ≤ 5000 }
     requires count { count < 4 }
-    ensures text { OnOk result (out.new.items ≡ out.old.items ++ compact_text (last_of rooms count k words.old).0) }
+    ensures text { OnOk result
+        (out.new.items ≡ out.old.items ++ compact_text (last_of rooms count k words.old).0) }
     ensures words { OnOk result (words.new ≡ (last_of rooms count k words.old).1) }
 {
     push_field(out, r#"{"configs":[{"id":"#, k)?;
@@ -132,8 +134,12 @@ fn push_subpart<P: Made>(
 ) -> Result<(), AllocError>
     requires small { from + count < 2 ^ 32 }
     requires covers { (k : ℕ) → from ≤ k → k < from + count → P.covers classes.now k }
-    ensures text { OnOk result (out.new.items ≡ out.old.items ++ compact_text (subpart_data id (draw_each from count (P.made classes.now) words.old).0)) }
-    ensures words { OnOk result (words.new ≡ (draw_each from count (P.made classes.now) words.old).1) }
+    ensures text { OnOk result (out.new.items
+        ≡ out.old.items
+        ++ compact_text
+        (subpart_data id (draw_each from count (P.made classes.now) words.old).0)) }
+    ensures words { OnOk result
+        (words.new ≡ (draw_each from count (P.made classes.now) words.old).1) }
 {
     push_text(out, r#"{"classes":"#)?;
     push_list(alloc, out, words, classes, from, count)?;

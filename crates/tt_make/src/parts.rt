@@ -27,7 +27,8 @@ pub trait Made {
         number: u32,
     ) -> Result<(), AllocError>
         requires { covers self.now number }
-        ensures text { OnOk result (out.new.items ≡ out.old.items ++ compact_text (made self.now number words.old).0) }
+        ensures text { OnOk result
+            (out.new.items ≡ out.old.items ++ compact_text (made self.now number words.old).0) }
         ensures words { OnOk result (words.new ≡ (made self.now number words.old).1) };
 }
 
@@ -42,7 +43,9 @@ pub fn push_list<P: Made>(
 ) -> Result<(), AllocError>
     requires small { from + count < 2 ^ 32 }
     requires covers { (k : ℕ) → from ≤ k → k < from + count → P.covers part.now k }
-    ensures text { OnOk result (out.new.items ≡ out.old.items ++ compact_text (list_data (draw_each from count (P.made part.now) words.old).0)) }
+    ensures text { OnOk result (out.new.items
+        ≡ out.old.items
+        ++ compact_text (list_data (draw_each from count (P.made part.now) words.old).0)) }
     ensures words { OnOk result (words.new ≡ (draw_each from count (P.made part.now) words.old).1) }
 {
     out.push(b'[')?;

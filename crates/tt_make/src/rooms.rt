@@ -40,7 +40,8 @@ impl Made for Rooms {
 #[tactic(auto, unfolding(crate::specs::Rooms::travel))]
 fn push_travel(out: &mut Vec<u8>, words: &mut Lcg64Xsh32, id: u32) -> Result<(), AllocError>
     requires { 1 ≤ id }
-    ensures text { OnOk result (out.new.items ≡ out.old.items ++ travel_text (travel_of id words.old).0) }
+    ensures text { OnOk result
+        (out.new.items ≡ out.old.items ++ travel_text (travel_of id words.old).0) }
     ensures words { OnOk result (words.new ≡ (travel_of id words.old).1) }
 {
     if id == 1 {
@@ -52,7 +53,8 @@ fn push_travel(out: &mut Vec<u8>, words: &mut Lcg64Xsh32, id: u32) -> Result<(),
 
 // Appends the one entry of the travel.
 fn push_entry(out: &mut Vec<u8>, room: u32, value: u32) -> Result<(), AllocError>
-    ensures { OnOk result (out.new.items ≡ out.old.items ++ travel_text (Some (list (travel_entry room value ∷ [])))) }
+    ensures { OnOk result (out.new.items
+        ≡ out.old.items ++ travel_text (Some (list (travel_entry room value ∷ [])))) }
 {
     push_field(out, r#","travel":[{"room":"#, room)?;
     push_field(out, r#","value":"#, value)?;

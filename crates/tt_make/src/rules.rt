@@ -89,7 +89,10 @@ fn push_turn(out: &mut Vec<u8>, k: u32, penalty: u32) -> Result<(), AllocError>
 fn push_four(out: &mut Vec<u8>, k: u32) -> Result<(), AllocError>
     requires first { 1 ≤ k }
     requires last { k ≤ 5000 }
-    ensures { OnOk result (out.new.items ≡ out.old.items ++ compact_text (list (num (4 * k - 3) ∷ num (4 * k - 2) ∷ num (4 * k - 1) ∷ num (4 * k) ∷ []))) }
+    ensures { OnOk result (out.new.items
+        ≡ out.old.items
+        ++ compact_text
+        (list (num (4 * k - 3) ∷ num (4 * k - 2) ∷ num (4 * k - 1) ∷ num (4 * k) ∷ []))) }
 {
     push_field(out, "[", 4 * k - 3)?;
     push_field(out, ",", 4 * k - 2)?;

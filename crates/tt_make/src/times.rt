@@ -85,7 +85,10 @@ fn push_time(out: &mut Vec<u8>, drawn: DrawnTime) -> Result<(), AllocError>
     requires start { drawn.start < 10 }
     requires length { drawn.length < 3 }
     requires weeks { drawn.weeks < 3 }
-    ensures { OnOk result (out.new.items ≡ out.old.items ++ compact_text (time_data drawn.days drawn.start drawn.length drawn.weeks drawn.penalty)) }
+    ensures { OnOk result (out.new.items
+        ≡ out.old.items
+        ++ compact_text
+        (time_data drawn.days drawn.start drawn.length drawn.weeks drawn.penalty)) }
 {
     push_word(out, r#"{"days":"#, day_word(drawn.days))?;
     push_field(out, r#","length":"#, 10 + 6 * drawn.length)?;

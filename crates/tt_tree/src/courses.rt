@@ -54,7 +54,8 @@ pub struct Tree {
 #[tactic(auto, unfolding(crate::specs::Tables::a_room_choice))]
 fn read_room_choice<'a>(context: &Context<'_>, item: &'a Field<'a>) -> Result<RoomChoice, Fault<'a>>
     requires { IsContext context.now }
-    ensures reads { Reads (λ choice. choice) result (a_room_choice (context_of context.now) (part_of item.now)) }
+    ensures reads { Reads (λ choice. choice) result
+        (a_room_choice (context_of context.now) (part_of item.now)) }
     ensures valid { IfOk result (λ choice. IsChoiceAmong context.now.rooms choice) }
 {
     as_object(item)?;
@@ -312,10 +313,12 @@ pub fn read_courses(
     items: &PartList<'_>,
 ) -> Result<Tree, FileFault>
     requires { IsContext context.now }
-    ensures reads { Gives tree_read result (courses_in (context_of context.now) (items_of items.now)) }
+    ensures reads { Gives tree_read result
+        (courses_in (context_of context.now) (items_of items.now)) }
     ensures tree { IfOk result (λ tree. IsTree context.now tree) }
     ensures count { IfOk result (λ tree. length tree.courses.items ≡ length items.now.values.now) }
-    ensures classes { IfOk result (λ tree. HasClasses (items_of items.now) (length tree.configs.subparts.classes.ids.keys)) }
+    ensures classes { IfOk result
+        (λ tree. HasClasses (items_of items.now) (length tree.configs.subparts.classes.ids.keys)) }
 {
     let classes = Classes {
         ids: IndexSet::new(alloc),

@@ -47,9 +47,10 @@ fn enter_travel<'a>(
     requires context { IsContext entries.now.context.now }
     requires room { entries.now.from < entries.now.count }
     requires among { IsTravelAmong entries.now.context.now entries.now.count travel.old }
-    ensures reads { Reads (λ _. travel.new) result
-        (a_travel_entry (context_of entries.now.context.now) entries.now.from (part_of item.now) travel.old) }
-    ensures among { OnOk result (IsTravelAmong entries.now.context.now entries.now.count travel.new) }
+    ensures reads { Reads (λ _. travel.new) result (a_travel_entry
+        (context_of entries.now.context.now) entries.now.from (part_of item.now) travel.old) }
+    ensures among { OnOk result
+        (IsTravelAmong entries.now.context.now entries.now.count travel.new) }
 {
     as_object(item)?;
     let to = reference(&entries.context.rooms, item, "room")?;
@@ -139,8 +140,10 @@ pub fn read_rooms(
     requires context { IsContext context.now }
     requires few { length items.now.values.now ≤ most_rooms }
     requires known { HasIds context.now.rooms (length items.now.values.now) }
-    ensures reads { Gives rooms_read result (rooms_in (context_of context.now) (items_of items.now)) }
-    ensures rooms { IfOk result (λ rooms. IsCampus context.now (length items.now.values.now) rooms) }
+    ensures reads { Gives rooms_read result
+        (rooms_in (context_of context.now) (items_of items.now)) }
+    ensures rooms { IfOk result
+        (λ rooms. IsCampus context.now (length items.now.values.now) rooms) }
     ensures count { IfOk result (λ rooms. length rooms.rooms.items ≡ length items.now.values.now) }
 {
     let count = items.len() as u32;

@@ -46,8 +46,10 @@ fn read_time<'a>(context: &Context<'_>, object: &'a Field<'a>) -> Result<Time, F
 #[tactic(auto, unfolding(crate::specs::Tables::a_time_choice))]
 fn read_time_choice<'a>(context: &Context<'_>, item: &'a Field<'a>) -> Result<TimeChoice, Fault<'a>>
     requires { IsContext context.now }
-    ensures reads { Reads (λ choice. choice) result (a_time_choice (context_of context.now) (part_of item.now)) }
-    ensures valid { IfOk result (λ choice. IsValidTime context.now.nr_days context.now.nr_weeks choice) }
+    ensures reads { Reads (λ choice. choice) result
+        (a_time_choice (context_of context.now) (part_of item.now)) }
+    ensures valid { IfOk result
+        (λ choice. IsValidTime context.now.nr_days context.now.nr_weeks choice) }
 {
     as_object(item)?;
     let time = read_time(context, item)?;
@@ -77,7 +79,8 @@ impl ItemTable<TimeChoice> for TimeTable<'_> {
 #[tactic(auto, unfolding(crate::specs::Tables::a_closed_time))]
 fn read_closed<'a>(context: &Context<'_>, item: &'a Field<'a>) -> Result<Time, Fault<'a>>
     requires { IsContext context.now }
-    ensures reads { Reads (λ t. t) result (a_closed_time (context_of context.now) (part_of item.now)) }
+    ensures reads { Reads (λ t. t) result
+        (a_closed_time (context_of context.now) (part_of item.now)) }
     ensures within { IfOk result (λ t. IsTimeOf context.now.nr_days context.now.nr_weeks t) }
 {
     as_object(item)?;
