@@ -184,6 +184,25 @@ known_item nodes lists backs free ordered seen seen_nodes l item node s =
     ∙ ap (λ (t : List ℕ). slice_index t at) (seen-items_at nodes lists seen l s.seen_is.is s.seen_is.within)
     ∙ eqb-true (slice_index (slice_index_or seen l []) at) item (passes_at_first (λ x. x == item) (slice_index_or seen l []) 0 in_list)
 
+-- so it may be taken, and stands at the place of the item
+pub known_asks : (nodes : List Node) (lists : List Chain) (backs : List Link) (free : Chain) (ordered : Bool) (seen seen_nodes : List (List ℕ))
+    (l item node : ℕ) → IsKnown nodes lists backs free ordered seen seen_nodes l item node
+    → IsPool nodes lists free × (IsBacked backs (length nodes) (chains_of nodes lists) × ((l < length lists)
+    × ((place_in (chain_of nodes (chain_at lists l)) node < (chain_at lists l).len)
+    × (node ≡ after nodes (place_in (chain_of nodes (chain_at lists l)) node) (chain_at lists l).first.0))))
+known_asks nodes lists backs free ordered seen seen_nodes l item node s =
+    take_asks nodes lists backs free ordered seen l (position_or_len (λ x. x == item) (slice_index_or seen l [])) (record { 0 = node }) s.seen_is
+    (seen_lt nodes lists backs free ordered seen l _ s.seen_is (known_lt nodes lists backs free ordered seen seen_nodes l item node s))
+    (known_is nodes lists backs free ordered seen seen_nodes l item node s)
+
+pub known_place : (nodes : List Node) (lists : List Chain) (backs : List Link) (free : Chain) (ordered : Bool) (seen seen_nodes : List (List ℕ))
+    (l item node : ℕ) → IsKnown nodes lists backs free ordered seen seen_nodes l item node
+    → place_in (chain_of nodes (chain_at lists l)) node ≡ position_or_len (λ x. x == item) (slice_index_or seen l [])
+known_place nodes lists backs free ordered seen seen_nodes l item node s =
+    taken_place nodes lists backs free ordered seen l (position_or_len (λ x. x == item) (slice_index_or seen l [])) (record { 0 = node }) s.seen_is
+    (seen_lt nodes lists backs free ordered seen l _ s.seen_is (known_lt nodes lists backs free ordered seen seen_nodes l item node s))
+    (known_is nodes lists backs free ordered seen seen_nodes l item node s)
+
 -- the node at a place stands before the next place
 pub behind_is : (nodes : List Node) (chain : Chain) (at : ℕ) (next : Place) → IsPlace nodes chain next → next.at ≡ at + 1
     → next.before.0 ≡ after nodes at chain.first.0

@@ -8,7 +8,7 @@ ghost use Rattle.std.specs.Prelude.{◌≡◌, ℕ, ◌==◌, ◌+◌, ◌<◌, 
 ghost use Rattle.std.specs.List.{insert, remove, position_or_len};
 ghost use Rattle.std.specs.Iterator.{YieldsFirst, item_count};
 ghost use Rattle.tt_pool.specs.Chains.{after, path, item_of};
-ghost use Rattle.tt_pool.specs.Pools.{Pooled, list_at, nodes_at, lists_of};
+ghost use Rattle.tt_pool.specs.Pools.{Pooled, list_at, nodes_at, lists_of, KeepsNodes};
 
 mod chain;
 mod order;
@@ -89,6 +89,7 @@ impl Pool {
         requires at { at ≤ length (list_at self.old list) }
         requires spare { 1 ≤ self.old.spare }
         ensures lists { self.new.lists ≡ slice_set self.old.lists list (insert (list_at self.old list) at item) }
+        ensures others { KeepsNodes list self.old self.new }
         ensures spare { self.new.spare + 1 ≡ self.old.spare }
     {
         let nodes = self.nodes.as_mut_slice();
@@ -142,6 +143,7 @@ impl Pool {
         requires list { list < length self.old.lists }
         requires found { 0 < count_by (λ x. x == item) (list_at self.old list) }
         ensures lists { self.new.lists ≡ slice_set self.old.lists list (remove (list_at self.old list) (position_or_len (λ x. x == item) (list_at self.old list))) }
+        ensures others { KeepsNodes list self.old self.new }
         ensures spare { self.new.spare ≡ self.old.spare + 1 }
     {
         let nodes = self.nodes.as_mut_slice();
