@@ -46,7 +46,8 @@ fn attach(nodes: &mut [Node], chain: Chain, place: Place, node: Link) -> Chain
     requires room { chain.len < 4294967295 }
     ensures chain { chain_of nodes.new result ≡ insert (chain_of nodes.old chain) place.at node.0 }
     ensures len { result.len ≡ chain.len + 1 }
-    ensures others { KeepsOthers (insert (chain_of nodes.old chain) place.at node.0) nodes.old nodes.new }
+    ensures others { KeepsOthers (insert (chain_of nodes.old chain) place.at node.0) nodes.old
+        nodes.new }
     ensures items { KeepsItems nodes.old nodes.new }
 {
     let Place { at, before } = place;
@@ -112,7 +113,8 @@ fn transfer(
     ensures to { chain_of nodes.new result.to ≡ insert (chain_of nodes.old to) place.at node.0 }
     ensures less { result.from.len + 1 ≡ from.len }
     ensures more { result.to.len ≡ to.len + 1 }
-    ensures others { KeepsOthers (chain_of nodes.old from ++ chain_of nodes.old to) nodes.old nodes.new }
+    ensures others { KeepsOthers (chain_of nodes.old from ++ chain_of nodes.old to) nodes.old
+        nodes.new }
     ensures items { KeepsItems nodes.old nodes.new }
 {
     let from = detach(nodes, from, node, before);
@@ -134,8 +136,12 @@ fn put_in(
     requires place { IsPlace nodes.old (chain_at lists.old list) place }
     requires spare { 1 ≤ free.len }
     ensures pool { IsPool nodes.new lists.new result }
-    ensures lists { lists_of nodes.new lists.new ≡ slice_set (lists_of nodes.old lists.old) list (insert (slice_index_or (lists_of nodes.old lists.old) list []) place.at item) }
-    ensures chains { chains_of nodes.new lists.new ≡ slice_set (chains_of nodes.old lists.old) list (insert (slice_index_or (chains_of nodes.old lists.old) list []) place.at free.first.0) }
+    ensures lists { lists_of nodes.new lists.new
+        ≡ slice_set (lists_of nodes.old lists.old) list
+        (insert (slice_index_or (lists_of nodes.old lists.old) list []) place.at item) }
+    ensures chains { chains_of nodes.new lists.new
+        ≡ slice_set (chains_of nodes.old lists.old) list (insert
+        (slice_index_or (chains_of nodes.old lists.old) list []) place.at free.first.0) }
     ensures spare { result.len + 1 ≡ free.len }
 {
     let node = free.first;
@@ -159,9 +165,14 @@ fn take_out(
     requires list { list < length lists.old }
     requires node { IsNodeAt nodes.old (chain_at lists.old list) at node before }
     ensures pool { IsPool nodes.new lists.new result.0 }
-    ensures lists { lists_of nodes.new lists.new ≡ slice_set (lists_of nodes.old lists.old) list (remove (slice_index_or (lists_of nodes.old lists.old) list []) at) }
-    ensures chains { chains_of nodes.new lists.new ≡ slice_set (chains_of nodes.old lists.old) list (remove (slice_index_or (chains_of nodes.old lists.old) list []) at) }
-    ensures item { result.1 ≡ slice_index (slice_index_or (lists_of nodes.old lists.old) list []) at }
+    ensures lists { lists_of nodes.new lists.new
+        ≡ slice_set (lists_of nodes.old lists.old) list
+        (remove (slice_index_or (lists_of nodes.old lists.old) list []) at) }
+    ensures chains { chains_of nodes.new lists.new
+        ≡ slice_set (chains_of nodes.old lists.old) list
+        (remove (slice_index_or (chains_of nodes.old lists.old) list []) at) }
+    ensures item { result.1
+        ≡ slice_index (slice_index_or (lists_of nodes.old lists.old) list []) at }
     ensures spare { result.0.len ≡ free.len + 1 }
 {
     let first = Place {
@@ -190,8 +201,12 @@ pub fn put(
     requires spare { 1 ≤ free.len }
     ensures pool { IsPool nodes.new lists.new result }
     ensures backs { IsBacked backs.new (length nodes.new) (chains_of nodes.new lists.new) }
-    ensures lists { lists_of nodes.new lists.new ≡ slice_set (lists_of nodes.old lists.old) list (insert (slice_index_or (lists_of nodes.old lists.old) list []) place.at item) }
-    ensures chains { chains_of nodes.new lists.new ≡ slice_set (chains_of nodes.old lists.old) list (insert (slice_index_or (chains_of nodes.old lists.old) list []) place.at free.first.0) }
+    ensures lists { lists_of nodes.new lists.new
+        ≡ slice_set (lists_of nodes.old lists.old) list
+        (insert (slice_index_or (lists_of nodes.old lists.old) list []) place.at item) }
+    ensures chains { chains_of nodes.new lists.new
+        ≡ slice_set (chains_of nodes.old lists.old) list (insert
+        (slice_index_or (chains_of nodes.old lists.old) list []) place.at free.first.0) }
     ensures spare { result.len + 1 ≡ free.len }
 {
     let end = nodes.len() + list as usize;
@@ -220,9 +235,14 @@ pub fn take(
     requires node { node.0 ≡ after nodes.old at (chain_at lists.old list).first.0 }
     ensures pool { IsPool nodes.new lists.new result.0 }
     ensures backs { IsBacked backs.new (length nodes.new) (chains_of nodes.new lists.new) }
-    ensures lists { lists_of nodes.new lists.new ≡ slice_set (lists_of nodes.old lists.old) list (remove (slice_index_or (lists_of nodes.old lists.old) list []) at) }
-    ensures chains { chains_of nodes.new lists.new ≡ slice_set (chains_of nodes.old lists.old) list (remove (slice_index_or (chains_of nodes.old lists.old) list []) at) }
-    ensures item { result.1 ≡ slice_index (slice_index_or (lists_of nodes.old lists.old) list []) at }
+    ensures lists { lists_of nodes.new lists.new
+        ≡ slice_set (lists_of nodes.old lists.old) list
+        (remove (slice_index_or (lists_of nodes.old lists.old) list []) at) }
+    ensures chains { chains_of nodes.new lists.new
+        ≡ slice_set (chains_of nodes.old lists.old) list
+        (remove (slice_index_or (chains_of nodes.old lists.old) list []) at) }
+    ensures item { result.1
+        ≡ slice_index (slice_index_or (lists_of nodes.old lists.old) list []) at }
     ensures spare { result.0.len ≡ free.len + 1 }
 {
     let end = nodes.len() + list as usize;

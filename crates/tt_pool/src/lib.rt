@@ -88,7 +88,8 @@ impl Pool {
         requires list { list < length self.old.lists }
         requires at { at ≤ length (list_at self.old list) }
         requires spare { 1 ≤ self.old.spare }
-        ensures lists { self.new.lists ≡ slice_set self.old.lists list (insert (list_at self.old list) at item) }
+        ensures lists { self.new.lists
+            ≡ slice_set self.old.lists list (insert (list_at self.old list) at item) }
         ensures others { KeepsNodes list self.old self.new }
         ensures spare { self.new.spare + 1 ≡ self.old.spare }
     {
@@ -105,8 +106,12 @@ impl Pool {
     pub fn insert_in_order(&mut self, list: u32, item: u32) -> u32
         requires list { list < length self.old.lists }
         requires spare { 1 ≤ self.old.spare }
-        ensures lists { self.new.lists ≡ slice_set self.old.lists list (insert (list_at self.old list) (position_or_len (nat_lt item) (list_at self.old list)) item) }
-        ensures nodes { self.new.nodes ≡ slice_set self.old.nodes list (insert (nodes_at self.old list) (position_or_len (nat_lt item) (list_at self.old list)) result) }
+        ensures lists { self.new.lists
+            ≡ slice_set self.old.lists list (insert (list_at self.old list)
+            (position_or_len (nat_lt item) (list_at self.old list)) item) }
+        ensures nodes { self.new.nodes
+            ≡ slice_set self.old.nodes list (insert (nodes_at self.old list)
+            (position_or_len (nat_lt item) (list_at self.old list)) result) }
         ensures spare { self.new.spare + 1 ≡ self.old.spare }
     {
         let nodes = self.nodes.as_mut_slice();
@@ -124,8 +129,10 @@ impl Pool {
     pub fn remove(&mut self, list: u32, at: u32) -> u32
         requires list { list < length self.old.lists }
         requires at { at < length (list_at self.old list) }
-        ensures lists { self.new.lists ≡ slice_set self.old.lists list (remove (list_at self.old list) at) }
-        ensures nodes { self.new.nodes ≡ slice_set self.old.nodes list (remove (nodes_at self.old list) at) }
+        ensures lists { self.new.lists
+            ≡ slice_set self.old.lists list (remove (list_at self.old list) at) }
+        ensures nodes { self.new.nodes
+            ≡ slice_set self.old.nodes list (remove (nodes_at self.old list) at) }
         ensures item { result ≡ slice_index (list_at self.old list) at }
         ensures spare { self.new.spare ≡ self.old.spare + 1 }
     {
@@ -142,7 +149,9 @@ impl Pool {
     pub fn remove_item(&mut self, list: u32, item: u32)
         requires list { list < length self.old.lists }
         requires found { 0 < count_by (λ x. x == item) (list_at self.old list) }
-        ensures lists { self.new.lists ≡ slice_set self.old.lists list (remove (list_at self.old list) (position_or_len (λ x. x == item) (list_at self.old list))) }
+        ensures lists { self.new.lists
+            ≡ slice_set self.old.lists list (remove (list_at self.old list)
+            (position_or_len (λ x. x == item) (list_at self.old list))) }
         ensures others { KeepsNodes list self.old self.new }
         ensures spare { self.new.spare ≡ self.old.spare + 1 }
     {
@@ -161,9 +170,15 @@ impl Pool {
     pub fn remove_at_node(&mut self, list: u32, item: u32, node: u32)
         requires list { list < length self.old.lists }
         requires found { 0 < count_by (λ x. x == item) (list_at self.old list) }
-        requires node { node ≡ slice_index (nodes_at self.old list) (position_or_len (λ x. x == item) (list_at self.old list)) }
-        ensures lists { self.new.lists ≡ slice_set self.old.lists list (remove (list_at self.old list) (position_or_len (λ x. x == item) (list_at self.old list))) }
-        ensures nodes { self.new.nodes ≡ slice_set self.old.nodes list (remove (nodes_at self.old list) (position_or_len (λ x. x == item) (list_at self.old list))) }
+        requires node { node
+            ≡ slice_index (nodes_at self.old list)
+            (position_or_len (λ x. x == item) (list_at self.old list)) }
+        ensures lists { self.new.lists
+            ≡ slice_set self.old.lists list (remove (list_at self.old list)
+            (position_or_len (λ x. x == item) (list_at self.old list))) }
+        ensures nodes { self.new.nodes
+            ≡ slice_set self.old.nodes list (remove (nodes_at self.old list)
+            (position_or_len (λ x. x == item) (list_at self.old list))) }
         ensures spare { self.new.spare ≡ self.old.spare + 1 }
     {
         let nodes = self.nodes.as_mut_slice();

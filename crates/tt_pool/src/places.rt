@@ -35,7 +35,8 @@ pub fn place_at(nodes: &[Node], chain: Chain, at: u32) -> Place
 fn place_of(nodes: &[Node], chain: Chain, item: u32) -> Place
     requires { IsChain nodes.now (chain_of nodes.now chain) }
     ensures place { IsPlace nodes.now chain result }
-    ensures at { result.at ≡ position_or_len (λ x. x == item) (map (item_of nodes.now) (chain_of nodes.now chain)) }
+    ensures at { result.at
+        ≡ position_or_len (λ x. x == item) (map (item_of nodes.now) (chain_of nodes.now chain)) }
 {
     let mut before = chain.first;
     let mut node = chain.first;
@@ -57,7 +58,8 @@ fn place_of(nodes: &[Node], chain: Chain, item: u32) -> Place
 fn place_above(nodes: &[Node], chain: Chain, item: u32) -> Place
     requires { IsChain nodes.now (chain_of nodes.now chain) }
     ensures place { IsPlace nodes.now chain result }
-    ensures at { result.at ≡ position_or_len (nat_lt item) (map (item_of nodes.now) (chain_of nodes.now chain)) }
+    ensures at { result.at
+        ≡ position_or_len (nat_lt item) (map (item_of nodes.now) (chain_of nodes.now chain)) }
 {
     let mut before = chain.first;
     let mut node = chain.first;
@@ -88,9 +90,11 @@ pub fn place_to_put(
     requires chain { IsChain nodes.now (chain_of nodes.now chain) }
     requires back { LeadsBack backs.now end (chain_of nodes.now chain) }
     requires end { end < length backs.now }
-    requires order { ordered ≡ true → IsNonDecreasing (map (item_of nodes.now) (chain_of nodes.now chain)) }
+    requires order { ordered ≡ true
+        → IsNonDecreasing (map (item_of nodes.now) (chain_of nodes.now chain)) }
     ensures place { IsPlace nodes.now chain result }
-    ensures at { result.at ≡ position_or_len (nat_lt item) (map (item_of nodes.now) (chain_of nodes.now chain)) }
+    ensures at { result.at
+        ≡ position_or_len (nat_lt item) (map (item_of nodes.now) (chain_of nodes.now chain)) }
 {
     if ordered && chain.len > 0 {
         let last = backs[end];
@@ -118,11 +122,14 @@ pub fn place_to_take(
     requires back { LeadsBack backs.now end (chain_of nodes.now chain) }
     requires end { end < length backs.now }
     requires nodes { length nodes.now ≤ length backs.now }
-    requires order { ordered ≡ true → IsNonDecreasing (map (item_of nodes.now) (chain_of nodes.now chain)) }
+    requires order { ordered ≡ true
+        → IsNonDecreasing (map (item_of nodes.now) (chain_of nodes.now chain)) }
     requires found { 0 < uses item (map (item_of nodes.now) (chain_of nodes.now chain)) }
     ensures place { IsPlace nodes.now chain result }
     ensures at { result.at < chain.len }
-    ensures rest { remove (map (item_of nodes.now) (chain_of nodes.now chain)) result.at ≡ remove (map (item_of nodes.now) (chain_of nodes.now chain)) (position_or_len (λ x. x == item) (map (item_of nodes.now) (chain_of nodes.now chain))) }
+    ensures rest { remove (map (item_of nodes.now) (chain_of nodes.now chain)) result.at
+        ≡ remove (map (item_of nodes.now) (chain_of nodes.now chain)) (position_or_len
+        (λ x. x == item) (map (item_of nodes.now) (chain_of nodes.now chain))) }
 {
     if ordered {
         let last = backs[end];
@@ -174,7 +181,9 @@ pub fn node_at(nodes: &[Node], chain: Chain, place: Place, end: usize) -> usize
 pub fn behind_node(nodes: &[Node], backs: &[Link], end: usize, node: Link) -> usize
     requires node { node.0 < length nodes.now }
     requires end { end < length backs.now }
-    ensures { (chain : Chain) (at : ℕ) → StandsAt nodes.now backs.now end chain at node → result ≡ slice_index (chain_of nodes.now chain ++ end ∷ []) (at + 1) }
+    ensures { (chain : Chain) (at : ℕ)
+        → StandsAt nodes.now backs.now end chain at node
+        → result ≡ slice_index (chain_of nodes.now chain ++ end ∷ []) (at + 1) }
 {
     if backs[end].0 == node.0 {
         return end;
