@@ -20,7 +20,7 @@ use Rattle.tt_roster.proofs.JointLemmas.{one_if}
 use Rattle.tt_roster.proofs.JointLaws.{joint-conflicts}
 use Rattle.tt_score.specs.declared.rows.JointClass.{JointClass}
 use Rattle.tt_score.specs.declared.rows.Span.{Span}
-use Rattle.tt_score.specs.Rows.{AreRowsOf, IsRowOf, kept_row, pair_at, pair_of, row_at, rows_without}
+use Rattle.tt_score.specs.Rows.{AreLeft, AreRowsOf, IsCleared, IsRowOf, kept_row, pair_at, pair_of, row_at}
 use Rattle.tt_score.specs.Spans.{IsSpan, StandsBeside, pairs_in, rows_of, span_at}
 
 -- a class that is touched is one of the row
@@ -220,6 +220,11 @@ pairs-count pairs0 pairs numbers touched i le is =
     let all : length pairs ≡ length (pairs0 ++ map (pair_of numbers) (take i touched)) = ap length is in
     omega (arith, all, length-append pairs0 (map (pair_of numbers) (take i touched)), length-map (take i touched) (pair_of numbers), length-take-le i touched le)
 
+-- the rows without those of some classes
+abbrev pub rows_without : (classes : List ℕ) → List (Option (List JointClass)) → List (Option (List JointClass))
+rows_without [] rows = rows
+rows_without (class ∷ classes) rows = rows_without classes (slice_set rows class None)
+
 -- which rows are left without those of a list, and how many places
 pub row-left : (list : List ℕ) (rows : List (Option (List JointClass))) (c : ℕ) → row_at (rows_without list rows) c ≡ cond (is_listed c list) None (row_at rows c)
 row-left [] rows c = refl
@@ -261,12 +266,19 @@ listed-behind c class rest free =
       | inr apart ↦ rw (ne_eqb c class apart) at free
     ]
 
--- where the list of a student changes, the rows of the classes on neither list stay
-pub rows-changed : (seats : List (List ℕ)) (rows : List (Option (List JointClass))) (student class : ℕ) (list : List ℕ) → AreRowsOf seats rows → All (Ascends 0 (length rows)) seats → student < length seats
-    → ((c : ℕ) → c ≢ class → is_listed c list ≡ is_listed c (list_of seats student)) → AreRowsOf (slice_set seats student list) (rows_without (class ∷ list_of seats student) rows)
-rows-changed seats rows student class list are up lt same = λ c.
+listed-late : (c class : ℕ) (rest : List ℕ) → is_listed c rest ≡ true → is_listed c (class ∷ rest) ≡ true
+listed-late c class rest has =
+    elim (cases_eq c class) [
+      | inl same ↦ listed-here c class rest same
+      | inr apart ↦ rw (ne_eqb c class apart) has
+    ]
+
+-- where a student's list changes, the rows of the classes on neither list stay
+pub rows-changed : (seats : List (List ℕ)) (rows left : List (Option (List JointClass))) (student class : ℕ) (list : List ℕ) → AreRowsOf seats rows → All (Ascends 0 (length rows)) seats → student < length seats
+    → ((c : ℕ) → c ≢ class → is_listed c list ≡ is_listed c (list_of seats student)) → length left ≡ length rows → AreLeft (class ∷ list_of seats student) rows left → AreRowsOf (slice_set seats student list) left
+rows-changed seats rows left student class list are up lt same long is_left = λ c.
     let old = class ∷ list_of seats student in
-    rw (rows-left old rows, row-left old rows c) (
+    rw (long, is_left c) (
     elim (cases_Bool (is_listed c old)) [
       | inl has ↦ rw has tt
       | inr free ↦
@@ -279,6 +291,34 @@ rows-changed seats rows student class list are up lt same = λ c.
             paid = λ _ t spots x. is.paid up t spots x ∙ pays-same t spots seats student c list x lt before (same c apart ∙ before);
           }) (are c))
     ])
+
+-- and no class of the student has one
+pub now-cleared : (seats : List (List ℕ)) (rows left : List (Option (List JointClass))) (student class : ℕ) (list : List ℕ) → student < length seats
+    → ((c : ℕ) → c ≢ class → is_listed c list ≡ is_listed c (list_of seats student)) → AreLeft (class ∷ list_of seats student) rows left → IsCleared (slice_set seats student list) left student
+now-cleared seats rows left student class list lt same is_left = λ c has.
+    let old = list_of seats student in
+    let listed : is_listed c list ≡ true = ap (is_listed c) (sym (get_or-set_same seats student list [] lt)) ∙ has in
+    let here : is_listed c (class ∷ old) ≡ true = elim (cases_eq c class) [
+      | inl e ↦ listed-here c class old e
+      | inr apart ↦ listed-late c class old (sym (same c apart) ∙ listed)
+    ] in
+    is_left c ∙ ap (λ b. cond b None (row_at rows c)) here
+
+-- the rows of a student without any are left where that of one class goes
+pub left-cleared : (seats : List (List ℕ)) (rows : List (Option (List JointClass))) (student class : ℕ) → IsCleared seats rows student → AreLeft (class ∷ list_of seats student) rows (slice_set rows class None)
+left-cleared seats rows student class none = λ c. row-left (class ∷ []) rows c ∙ alike c
+  where
+    empty : (c : ℕ) → row_at rows c ≡ cond (is_listed c (list_of seats student)) None (row_at rows c)
+    empty c = elim (cases_Bool (is_listed c (list_of seats student))) [
+      | inl has ↦ rw has (none c has)
+      | inr free ↦ rw free refl
+    ]
+
+    alike : (c : ℕ) → cond (is_listed c (class ∷ [])) None (row_at rows c) ≡ cond (is_listed c (class ∷ list_of seats student)) None (row_at rows c)
+    alike c = elim (cases_eq c class) [
+      | inl same ↦ rw (eq-eqb c class same) refl
+      | inr apart ↦ rw (ne_eqb c class apart) (empty c)
+    ]
 
 -- another class that comes or goes changes nothing
 pub listed-with : (other class : ℕ) (list : List ℕ) → other ≢ class → is_listed other (with_class class list) ≡ is_listed other list

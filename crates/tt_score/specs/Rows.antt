@@ -1,10 +1,11 @@
 -- Proof. The joint rows of classes, and what a row says of its class.
-use Rattle.std.specs.Prelude.{◌≡◌, ℕ, ◌<◌, ◌≤◌, All, IfSome, List, [], ◌∷◌, Option, None, Some, cond, length, slice_index, slice_index_or, slice_set, sum_by}
+use Rattle.std.specs.Prelude.{◌≡◌, ℕ, ◌<◌, ◌≤◌, All, IfSome, List, [], Option, None, Some, true, cond, length, slice_index, slice_index_or, sum_by}
 use Rattle.std.specs.Option.{option_map_or}
 use Rattle.tt_bits.specs.declared.times.Spot.{Spot}
 use Rattle.tt_bits.specs.Spots.{spot_at}
 use Rattle.tt_travel.specs.Table.{Table}
-use Rattle.tt_roster.specs.Lists.{Ascends}
+use Rattle.tt_base.specs.Lists.{is_listed}
+use Rattle.tt_roster.specs.Lists.{Ascends, list_of}
 use Rattle.tt_roster.specs.Conflicts.{are_in_conflict, class_conflicts}
 use Rattle.tt_score.specs.declared.rows.JointClass.{JointClass}
 
@@ -34,7 +35,10 @@ pub record IsRowOf (seats : List (List ℕ)) (classes class : ℕ) (row : List J
 abbrev pub AreRowsOf : (seats : List (List ℕ)) → List (Option (List JointClass)) → Type 0
 AreRowsOf seats rows = (class : ℕ) → IfSome (row_at rows class) (IsRowOf seats (length rows) class)
 
--- the rows without those of some classes
-abbrev pub rows_without : (classes : List ℕ) → List (Option (List JointClass)) → List (Option (List JointClass))
-rows_without [] rows = rows
-rows_without (class ∷ classes) rows = rows_without classes (slice_set rows class None)
+-- the rows that are left are those of the classes that aren't on a list
+abbrev pub AreLeft : (classes : List ℕ) → List (Option (List JointClass)) → List (Option (List JointClass)) → Type 0
+AreLeft classes rows left = (class : ℕ) → row_at left class ≡ cond (is_listed class classes) None (row_at rows class)
+
+-- no class of the student has a row
+abbrev pub IsCleared : (seats : List (List ℕ)) → List (Option (List JointClass)) → (student : ℕ) → Type 0
+IsCleared seats rows student = (class : ℕ) → is_listed class (list_of seats student) ≡ true → row_at rows class ≡ None

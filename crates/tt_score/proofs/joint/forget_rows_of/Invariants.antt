@@ -1,6 +1,6 @@
 use Rattle.std.proofs.Common.{◌≡◌, ◌∷◌}
 use Rattle.tt_roster.specs.Lists.{list_of}
-use Rattle.tt_score.specs.Rows.{rows_without}
+use Rattle.tt_score.proofs.RowLemmas.{rows_without}
 use Rattle.tt_score.proofs.joint.forget_rows_of.Given as goal
 
 abbrev pub invariant-loop-other : goal.invariant-loop-other
