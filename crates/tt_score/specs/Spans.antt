@@ -30,6 +30,10 @@ pub record StandsBeside (spans : List (Option Span)) (pairs pairs' : List JointC
   pub before : span_at spans class ≡ Some span
   pub same : pairs' ≡ pairs
 
+-- each class that has a span has had it before, with the same pairs
+abbrev pub StandStill : (spans : List (Option Span)) → (pairs : List JointClass) → (spans' : List (Option Span)) → (pairs' : List JointClass) → Type 0
+StandStill spans pairs spans' pairs' = (class : ℕ) → IfSome (span_at spans' class) (StandsBeside spans pairs pairs' class)
+
 -- the spans lie within the pairs, there is room for a row of all classes, and nothing is counted
 pub record HasRows (kept : Inside) : Type 0 where
   pub spans : (class : ℕ) → IfSome (span_at kept.spans.items class) (IsSpan (length kept.pairs.items))

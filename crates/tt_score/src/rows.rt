@@ -1,9 +1,9 @@
 //! The joint rows of classes: how many students a class has in common with each other class.
 
-ghost use Rattle.std.specs.Prelude.{◌≡◌, ℕ, ◌*◌, ◌+◌, ◌<◌, ◌≤◌, ◌^◌, ◌++◌, All, false, None, IfOk, IfSome, IsSome, IsTrue, length, map, replicate, slice_set, vec_capacity};
+ghost use Rattle.std.specs.Prelude.{◌≡◌, ◌+◌, ◌<◌, ◌≤◌, ◌^◌, ◌++◌, All, false, None, IfOk, IsSome, IsTrue, length, map, replicate, slice_set, vec_capacity};
 ghost use Rattle.tt_roster.specs.Joint.{AreTouched};
 ghost use Rattle.tt_score.specs.Rows.{AreRowsOf, IsRowOf, kept_row, row_at, pair_of};
-ghost use Rattle.tt_score.specs.Spans.{IsSpan, StandsBeside, span_at};
+ghost use Rattle.tt_score.specs.Spans.{StandStill};
 
 use std::alloc::{AllocError, Global};
 use std::marker::Model;
@@ -130,7 +130,7 @@ fn make_room(spans: &mut Vec<Option<Span>>, pairs: &mut Vec<JointClass>, room: u
     ensures room { length pairs.new.items + more ≤ room }
     ensures capacity { vec_capacity pairs.new ≡ vec_capacity pairs.old }
     ensures long { length spans.new.items ≡ length spans.old.items }
-    ensures stand { (class : ℕ) → IfSome (span_at spans.new.items class) (StandsBeside spans.old.items pairs.old.items pairs.new.items class) }
+    ensures stand { StandStill spans.old.items pairs.old.items spans.new.items pairs.new.items }
 {
     if (room as usize) - pairs.len() < more as usize {
         pairs.clear();
