@@ -57,7 +57,8 @@ impl Score {
     /// call and `close` take memory.
     pub fn new(alloc: Global, problem: &Problem) -> Result<Score, AllocError>
         ensures plan { IfOk result (λ s. plan_of s ≡ replicate (length problem.now.classes) None) }
-        ensures lists { IfOk result (λ s. student_lists s ≡ replicate (length problem.now.students) []) }
+        ensures lists { IfOk result
+            (λ s. student_lists s ≡ replicate (length problem.now.students) []) }
         ensures closures { IfOk result (λ s. closures_of s ≡ []) }
         ensures fits { IfOk result (λ s. Fits problem.now s) }
     {
@@ -98,7 +99,9 @@ impl Score {
     /// The spots of the placed classes.
     pub fn occupancy(&self) -> &Occupancy
         ensures occupancy { result.now ≡ occupancy_of self.now }
-        ensures spots { (p : Parts) → Fits p self.now → result.now.spots ≡ spots_of p (plan_of self.now) }
+        ensures spots { (p : Parts)
+            → Fits p self.now
+            → result.now.spots ≡ spots_of p (plan_of self.now) }
         ensures rooms { (p : Parts) → Fits p self.now → length p.rooms ≤ result.now.rooms }
     {
         &self.occupancy
@@ -108,7 +111,9 @@ impl Score {
     pub fn roster(&self) -> &Roster
         ensures roster { result.now ≡ roster_of self.now }
         ensures lists { result.now.seats ≡ student_lists self.now }
-        ensures spots { (p : Parts) → Fits p self.now → result.now.spots ≡ spots_of p (plan_of self.now) }
+        ensures spots { (p : Parts)
+            → Fits p self.now
+            → result.now.spots ≡ spots_of p (plan_of self.now) }
     {
         self.roster.roster()
     }
@@ -119,9 +124,12 @@ impl Score {
         requires student { student < length problem.now.students }
         requires class { class < length problem.now.classes }
         requires free { is_listed class (list_of (student_lists self.old) student) ≡ false }
-        requires spare { length (list_of (student_lists self.old) student) < slice_index (roster_of self.old).most student }
+        requires spare { length (list_of (student_lists self.old) student)
+            < slice_index (roster_of self.old).most student }
         ensures plan { plan_of self.new ≡ plan_of self.old }
-        ensures lists { student_lists self.new ≡ slice_set (student_lists self.old) student (with_class class (list_of (student_lists self.old) student)) }
+        ensures lists { student_lists self.new
+            ≡ slice_set (student_lists self.old) student
+            (with_class class (list_of (student_lists self.old) student)) }
         ensures closures { closures_of self.new ≡ closures_of self.old }
         ensures fits { Fits problem.now self.new }
     {
@@ -138,7 +146,9 @@ impl Score {
         requires class { class < length problem.now.classes }
         requires seated { is_listed class (list_of (student_lists self.old) student) ≡ true }
         ensures plan { plan_of self.new ≡ plan_of self.old }
-        ensures lists { student_lists self.new ≡ slice_set (student_lists self.old) student (without_class class (list_of (student_lists self.old) student)) }
+        ensures lists { student_lists self.new
+            ≡ slice_set (student_lists self.old) student
+            (without_class class (list_of (student_lists self.old) student)) }
         ensures closures { closures_of self.new ≡ closures_of self.old }
         ensures fits { Fits problem.now self.new }
     {
@@ -234,7 +244,8 @@ impl Score {
     pub fn close(&mut self, problem: &Problem, room: u32, time: Time) -> Result<(), AllocError>
         requires fits { Fits problem.now self.old }
         requires few { length (closures_of self.old) < 10000 }
-        ensures closures { OnOk result (closures_of self.new ≡ closures_of self.old ++ made room time ∷ []) }
+        ensures closures { OnOk result
+            (closures_of self.new ≡ closures_of self.old ++ made room time ∷ []) }
         ensures plan { plan_of self.new ≡ plan_of self.old }
         ensures lists { student_lists self.new ≡ student_lists self.old }
         ensures fits { Fits problem.now self.new }
@@ -315,7 +326,10 @@ impl Score {
 
     /// The sums over the plan, the lists and the closures.
     pub fn totals(&self) -> Totals
-        ensures { (p : Parts) → Fits p self.now → result ≡ totals_of p (closures_of self.now) (plan_of self.now) (student_lists self.now) }
+        ensures { (p : Parts)
+            → Fits p self.now
+            → result
+            ≡ totals_of p (closures_of self.now) (plan_of self.now) (student_lists self.now) }
     {
         let penalties = Penalties {
             time: self.classes.time,
@@ -339,7 +353,9 @@ impl Score {
     pub fn trial(&mut self, problem: &Problem, class: u32, value: Value) -> u128
         requires fits { Fits problem.now self.old }
         requires value { IsOfDomain problem.now class value }
-        ensures total { result ≡ (totals_of problem.now (closures_of self.old) (slice_set (plan_of self.old) class (Some value)) (student_lists self.old)).total }
+        ensures total { result
+            ≡ (totals_of problem.now (closures_of self.old)
+            (slice_set (plan_of self.old) class (Some value)) (student_lists self.old)).total }
         ensures same { self.new ≡ self.old }
     {
         problem.validity();
@@ -355,7 +371,9 @@ impl Score {
     pub fn conflicts_without(&mut self, problem: &Problem, class: u32) -> u64
         requires fits { Fits problem.now self.old }
         requires class { class < length problem.now.classes }
-        ensures conflicts { result ≡ (totals_of problem.now (closures_of self.old) (slice_set (plan_of self.old) class None) (student_lists self.old)).student }
+        ensures conflicts { result
+            ≡ (totals_of problem.now (closures_of self.old)
+            (slice_set (plan_of self.old) class None) (student_lists self.old)).student }
         ensures same { self.new ≡ self.old }
     {
         let has = self.spot(class);
@@ -376,8 +394,12 @@ impl Score {
     ) -> Option<u128>
         requires fits { Fits problem.now self.old }
         requires value { IsOfDomain problem.now class value }
-        requires others { others ≡ (totals_of problem.now (closures_of self.old) (slice_set (plan_of self.old) class None) (student_lists self.old)).student }
-        ensures total { result ≡ below bound (totals_of problem.now (closures_of self.old) (slice_set (plan_of self.old) class (Some value)) (student_lists self.old)).total }
+        requires others { others
+            ≡ (totals_of problem.now (closures_of self.old)
+            (slice_set (plan_of self.old) class None) (student_lists self.old)).student }
+        ensures total { result
+            ≡ below bound (totals_of problem.now (closures_of self.old)
+            (slice_set (plan_of self.old) class (Some value)) (student_lists self.old)).total }
         ensures same { self.new ≡ self.old }
     {
         problem.validity();
@@ -421,7 +443,8 @@ impl Score {
         requires fits { Fits problem.now self.now }
         requires class { class < length problem.now.classes }
         requires spot { IsSpotOf problem.now class spot }
-        ensures costs { result ≡ cost_sum problem.now (slice_set (occupancy_of self.now).spots class (Some spot)) }
+        ensures costs { result
+            ≡ cost_sum problem.now (slice_set (occupancy_of self.now).spots class (Some spot)) }
         ensures few { result < 2 ^ 100 }
     {
         let placing = Placing {
@@ -441,7 +464,9 @@ impl Score {
     pub fn conflicts(&mut self, problem: &Problem, class: u32, value: Value, listing: &mut Listing)
         requires fits { Fits problem.now self.old }
         requires value { IsOfDomain problem.now class value }
-        requires open { option_and_then (blocked_by problem.now (closures_of self.old) class) (spot_at_value problem.now class value) ≡ None }
+        requires open { option_and_then (blocked_by problem.now (closures_of self.old) class)
+            (spot_at_value problem.now class value)
+            ≡ None }
         requires listing { listing.old.classes ≡ length problem.now.classes }
         ensures set { listing.new.list ≡ conflicts_at problem.now (plan_of self.old) class value }
         ensures classes { listing.new.classes ≡ listing.old.classes }
@@ -476,10 +501,14 @@ impl Score {
     ) -> bool
         requires fits { Fits problem.now self.old }
         requires value { IsOfDomain problem.now class value }
-        requires open { option_and_then (blocked_by problem.now (closures_of self.old) class) (spot_at_value problem.now class value) ≡ None }
+        requires open { option_and_then (blocked_by problem.now (closures_of self.old) class)
+            (spot_at_value problem.now class value)
+            ≡ None }
         requires listing { listing.old.classes ≡ length problem.now.classes }
-        ensures few { result ≡ nat_le (length (conflicts_at problem.now (plan_of self.old) class value)) most }
-        ensures set { IsTrue result → listing.new.list ≡ conflicts_at problem.now (plan_of self.old) class value }
+        ensures few { result
+            ≡ nat_le (length (conflicts_at problem.now (plan_of self.old) class value)) most }
+        ensures set { IsTrue result
+            → listing.new.list ≡ conflicts_at problem.now (plan_of self.old) class value }
         ensures many { result ≡ false → listing.new.list ≡ [] }
         ensures classes { listing.new.classes ≡ listing.old.classes }
         ensures plan { plan_of self.new ≡ plan_of self.old }
