@@ -3,7 +3,6 @@
 ghost use Rattle.std.specs.Prelude.{◌≡◌, ◌≤◌, true, IsTrue};
 
 use std::alloc::{AllocError, Global};
-use std::test::Fail;
 use tt_io::{Files, LineEnd, LineStep, Lines, MemFiles, SureFiles};
 
 // What the next line is, with the line itself where it is whole.
@@ -132,7 +131,7 @@ static CASES: [Case; 10] = [
 ];
 
 #[test]
-fn lines_are_given_whatever_the_pieces(rt: HostRuntime) -> Result<(), Fail> {
+fn lines_are_given_whatever_the_pieces(rt: HostRuntime) {
     for most in [1, 2, 3, 4096] {
         for case in CASES.iter() {
             let so = has_lines(
@@ -141,11 +140,15 @@ fn lines_are_given_whatever_the_pieces(rt: HostRuntime) -> Result<(), Fail> {
                 most,
                 case.limit,
                 case.wanted,
-            )?;
-            assert!(rt; so, "{} with the limit {} by {most}", case.text, case.limit);
+            );
+            assert!(rt;
+                so == Ok(true),
+                "{} with the limit {} by {most}",
+                case.text,
+                case.limit
+            );
         }
     }
-    Ok(())
 }
 
 // So many bytes, a line end, and one byte more.
@@ -183,14 +186,13 @@ fn is_line_of(
 
 // A line of 65,536 bytes is whole, and one of a byte more is passed over once.
 #[test]
-fn long_lines_are_passed_over(rt: HostRuntime) -> Result<(), Fail> {
+fn long_lines_are_passed_over(rt: HostRuntime) {
     for most in [1, 65_536, 65_537, 1_000_000] {
         for (count, step) in AROUND_THE_MOST.iter() {
-            let so = is_line_of(rt.alloc(), *count, most, *step)?;
-            assert!(rt; so, "{count} bytes by {most}");
+            let so = is_line_of(rt.alloc(), *count, most, *step);
+            assert!(rt; so == Ok(true), "{count} bytes by {most}");
         }
     }
-    Ok(())
 }
 
 // Three lines, of which one read gives two. The call of this number fails.
@@ -235,10 +237,9 @@ fn fails_so(
 // A failed read is not the end of the file, and a whole line that is in hand is given before the next
 // read is made. The end of the file is met once.
 #[test]
-fn a_failed_read_is_told(rt: HostRuntime) -> Result<(), Fail> {
+fn a_failed_read_is_told(rt: HostRuntime) {
     for (failing, steps) in FAILING.iter() {
-        let so = fails_so(rt.alloc(), *failing, steps)?;
-        assert!(rt; so, "call {failing}");
+        let so = fails_so(rt.alloc(), *failing, steps);
+        assert!(rt; so == Ok(true), "call {failing}");
     }
-    Ok(())
 }

@@ -4,7 +4,6 @@ use std::alloc::{AllocError, Global};
 use std::cell::Cell;
 use std::fmt::Display;
 use std::io;
-use std::test::Fail;
 use tt_watch::{Progress, StdWatcher, Watcher};
 
 // A standard error that counts what it is handed.
@@ -80,10 +79,14 @@ fn text_of(alloc: Global, progress: Progress) -> Result<String, AllocError> {
     format!(in alloc; "{progress}")
 }
 
+// Whether the line says this.
+fn says(alloc: Global, progress: Progress, want: &str) -> Result<bool, AllocError> {
+    Ok(text_of(alloc, progress)?.as_str() == want)
+}
+
 #[test]
-fn the_line_says_how_far_it_is(rt: HostRuntime) -> Result<(), Fail> {
+fn the_line_says_how_far_it_is(rt: HostRuntime) {
     for (progress, text) in TEXTS.iter() {
-        assert!(rt; text_of(rt.alloc(), *progress)?.as_str() == *text, "{text}");
+        assert!(rt; says(rt.alloc(), *progress, text) == Ok(true), "{text}");
     }
-    Ok(())
 }

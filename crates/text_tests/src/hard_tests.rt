@@ -1,7 +1,8 @@
 //! Tests of what is hard, with closures of a session.
 
+ghost use Rattle.tt_score.specs.Fits.{Fits};
+
 use std::alloc::Global;
-use std::test::Fail;
 use tt_bits::{Days, Time, Weeks};
 use tt_clash::Closures;
 use tt_plan::find;
@@ -28,7 +29,22 @@ fn slot() -> Option<Time> {
     Time::new(days, weeks, 12, 1)
 }
 
-// Whether these are the lines on what is hard, where the class is in the room with this id.
+// Whether these are the lines on what is hard in a timetable.
+fn writes(alloc: Global, problem: &Problem, closures: &Closures, score: &Score, want: &str) -> bool
+    requires { Fits problem.now score.now }
+{
+    let Ok(mut out) = Reply::new(alloc) else {
+        return false;
+    };
+    let mut found = Vec::new(alloc);
+    let spots = score.occupancy().spots();
+    add_hard_violations(alloc, problem, closures, spots, &mut found).is_ok()
+        && add_lines(&mut out, problem, &found).is_ok()
+        && add_count(&mut out, found.len() as u64).is_ok()
+        && out.bytes() == want.as_bytes()
+}
+
+// The same where the class alone is placed, in the room with this id.
 fn tells(alloc: Global, problem: &Problem, closures: &Closures, room: u32, want: &str) -> bool {
     if problem.class_count() == 0 {
         return false;
@@ -36,16 +52,11 @@ fn tells(alloc: Global, problem: &Problem, closures: &Closures, room: u32, want:
     let Ok(value) = find(problem, 0, 1, Some(room)) else {
         return false;
     };
-    let (Ok(mut score), Ok(mut out)) = (Score::new(alloc, problem), Reply::new(alloc)) else {
+    let Ok(mut score) = Score::new(alloc, problem) else {
         return false;
     };
-    let mut found = Vec::new(alloc);
     score.place(problem, 0, value);
-    let spots = score.occupancy().spots();
-    add_hard_violations(alloc, problem, closures, spots, &mut found).is_ok()
-        && add_lines(&mut out, problem, &found).is_ok()
-        && add_count(&mut out, found.len() as u64).is_ok()
-        && out.bytes() == want.as_bytes()
+    writes(alloc, problem, closures, &score, want)
 }
 
 // Whether a closure of the second room counts, and no more once it is lifted.
@@ -62,14 +73,26 @@ fn counts_until_lifted(alloc: Global, problem: &Problem) -> bool {
     counts && tells(alloc, problem, &closures, 2, "violations 0\n")
 }
 
-#[test]
-fn the_file_and_the_closures_close_rooms(rt: HostRuntime) -> Result<(), Fail> {
-    let alloc = rt.alloc();
-    let problem = read(alloc, TWO_ROOMS.as_bytes())?;
+// Whether the file's closure of the first room counts where the class is in it, and the second room's
+// closure until it is lifted.
+fn closes_rooms(alloc: Global, problem: &Problem) -> [bool; 3] {
     let none = Closures::new(alloc);
-    assert!(rt; tells(alloc, &problem, &none, 1, "closed 9\nviolations 1\n"));
-    assert!(rt; tells(alloc, &problem, &none, 2, "violations 0\n"));
-    assert!(rt; counts_until_lifted(alloc, &problem));
-    drop(problem);
-    Ok(())
+    [
+        tells(alloc, problem, &none, 1, "closed 9\nviolations 1\n"),
+        tells(alloc, problem, &none, 2, "violations 0\n"),
+        counts_until_lifted(alloc, problem),
+    ]
+}
+
+// Whether all three hold of the problem that a text holds.
+fn closes_rooms_of(alloc: Global, text: &str) -> bool {
+    match read(alloc, text.as_bytes()) {
+        Ok(problem) => closes_rooms(alloc, &problem) == [true; 3],
+        Err(_) => false,
+    }
+}
+
+#[test]
+fn the_file_and_the_closures_close_rooms(rt: HostRuntime) {
+    assert!(rt; closes_rooms_of(rt.alloc(), TWO_ROOMS));
 }
