@@ -16,7 +16,6 @@ use Rattle.tt_search.specs.Recalled.{recalled_locks, stays_locked}
 use Rattle.tt_search.specs.Turns.{chosen_value, is_available, is_open, price_of}
 use Rattle.tt_published.specs.Published.{published_value}
 use Rattle.tt_published.specs.Timetable.{Timetable}
-use Rattle.tt_state.specs.declared.obstacle.Obstacle.{Obstacle}
 use Rattle.tt_state.specs.declared.obstacle.Obstacle.TheVariants.{Blocked, Held}
 use Rattle.tt_state.specs.Snapshots.{Snapshot, is_locked_in, may_lock, value_in, with_unplaced, with_value}
 use Rattle.tt_state.specs.Values.{blocked_of, conflicts_of, holder_of, obstacle_by, obstacle_of}

@@ -6,15 +6,23 @@ ghost use Rattle.tt_desk.specs.Desk.{command_step, line_step};
 ghost use Rattle.tt_desk.specs.Refusals.{refusal_line};
 ghost use Rattle.tt_desk.specs.Replies.{reply_of};
 ghost use Rattle.tt_desk.specs.Causes.{IsMemoryCause, MayTake};
+ghost use Rattle.tt_desk.specs.Carried.{IsCarriedOut, whole};
 
 use crate::refusal::{Outcome, Refusal};
 use crate::reply::put_refusal;
 use crate::session::Session;
 use crate::wanting::Wanting;
-use std::alloc::Global;
+use std::alloc::{AllocError, Global};
 use tt_script::{Command, Line, read_line};
 use tt_text::Reply;
 use tt_watch::Watcher;
+
+// How a command ends that is carried out with its lines or not at all.
+fn whole(ended: Result<Outcome, AllocError>) -> Result<Outcome, Wanting>
+    ensures { result ≡ whole ended }
+{
+    Ok(ended?)
+}
 
 impl Session {
     // Carries a command out, or says why it is refused. Its own lines are put into an empty reply.
@@ -27,55 +35,56 @@ impl Session {
     ) -> Result<Outcome, Wanting>
         requires empty { reply.old ≡ [] }
         requires depth { HasDepth command }
-        ensures ok { IfOk result (λ outcome. command_step self.old command ≡ record { session = self.new; outcome = outcome; lines = reply.new }) }
-        ensures memory { OnErr result (MayTake self.old command) }
-        ensures kept { result ≡ Err Wanting.Command → self.new ≡ self.old }
-        ensures done { result ≡ Err Wanting.Reply → (command_step self.old command).session ≡ self.new }
-        ensures accepted { result ≡ Err Wanting.Reply → (command_step self.old command).outcome ≡ Outcome.Accepted }
+        ensures { IsCarriedOut (command_step self.old command) (MayTake self.old command)
+            self.old self.new reply.new result }
     {
         match command {
-            Command::Assign { class, time, room } => Ok(self.assign(class, time, room)?),
-            Command::Unassign { class } => Ok(self.unassign(class)?),
+            Command::Assign { class, time, room } => whole(self.assign(class, time, room)),
+            Command::Unassign { class } => whole(self.unassign(class)),
             Command::Force { class, time, room } => self.force(class, time, room, reply),
-            Command::Section { student, classes } => Ok(self.section(student, classes)?),
-            Command::Drop { student } => Ok(self.drop_student(student)?),
-            Command::Enrol { student } => Ok(self.enrol(alloc, student)?),
-            Command::EnrolAll => Ok(self.enrol_all(alloc, reply, watcher)?),
-            Command::Search { turns, seed } => Ok(self.search(alloc, turns, seed, reply, watcher)?),
-            Command::Repair { turns, seed } => Ok(self.repair(alloc, turns, seed, reply, watcher)?),
-            Command::Place { turns, seed } => Ok(self.place(alloc, turns, seed, reply, watcher)?),
+            Command::Section { student, classes } => whole(self.section(student, classes)),
+            Command::Drop { student } => whole(self.drop_student(student)),
+            Command::Enrol { student } => whole(self.enrol(alloc, student)),
+            Command::EnrolAll => whole(self.enrol_all(alloc, reply, watcher)),
+            Command::Search { turns, seed } => whole(self.search(
+                alloc, turns, seed, reply, watcher,
+            )),
+            Command::Repair { turns, seed } => whole(self.repair(
+                alloc, turns, seed, reply, watcher,
+            )),
+            Command::Place { turns, seed } => whole(self.place(alloc, turns, seed, reply, watcher)),
             Command::Improve { rounds, seed } => {
-                Ok(self.improve(alloc, rounds, seed, reply, watcher)?)
+                whole(self.improve(alloc, rounds, seed, reply, watcher))
             }
             Command::Deluge { rounds, seed } => {
-                Ok(self.deluge(alloc, rounds, seed, reply, watcher)?)
+                whole(self.deluge(alloc, rounds, seed, reply, watcher))
             }
-            Command::Recall => Ok(self.recall(alloc)?),
+            Command::Recall => whole(self.recall(alloc)),
             Command::Close {
                 room,
                 days,
                 start,
                 length,
                 weeks,
-            } => Ok(self.close(room, days, start, length, weeks)?),
-            Command::Reopen { room } => Ok(self.reopen(room)?),
-            Command::Lock { class } => Ok(self.lock(class)?),
-            Command::LockAll => Ok(self.lock_all(reply)?),
-            Command::Unlock { class } => Ok(self.unlock(class)?),
-            Command::UnlockAll => Ok(self.unlock_all(reply)?),
+            } => whole(self.close(room, days, start, length, weeks)),
+            Command::Reopen { room } => whole(self.reopen(room)),
+            Command::Lock { class } => whole(self.lock(class)),
+            Command::LockAll => whole(self.lock_all(reply)),
+            Command::Unlock { class } => whole(self.unlock(class)),
+            Command::UnlockAll => whole(self.unlock_all(reply)),
             Command::Undo => Ok(self.undo()),
-            Command::Publish => Ok(self.publish(alloc, reply)?),
-            Command::Draft => Ok(self.draft(alloc, reply)?),
+            Command::Publish => whole(self.publish(alloc, reply)),
+            Command::Draft => whole(self.draft(alloc, reply)),
             Command::Totals => Ok(Outcome::Accepted),
-            Command::Violations => Ok(self.violations(alloc, reply)?),
-            Command::Costs => Ok(self.costs(alloc, reply)?),
-            Command::Explain { class } => Ok(self.explain(class, reply)?),
-            Command::Why { class, time, room } => Ok(self.why(class, time, room, reply)?),
-            Command::Values { class } => Ok(self.values(class, reply)?),
-            Command::Meets { class } => Ok(self.meets(alloc, class, reply)?),
-            Command::Student { student } => Ok(self.student(student, reply)?),
-            Command::Stats { class } => Ok(self.stats(class, reply)?),
-            Command::Suggest { class, depth } => Ok(self.suggest(alloc, class, depth, reply)?),
+            Command::Violations => whole(self.violations(alloc, reply)),
+            Command::Costs => whole(self.costs(alloc, reply)),
+            Command::Explain { class } => whole(self.explain(class, reply)),
+            Command::Why { class, time, room } => whole(self.why(class, time, room, reply)),
+            Command::Values { class } => whole(self.values(class, reply)),
+            Command::Meets { class } => whole(self.meets(alloc, class, reply)),
+            Command::Student { student } => whole(self.student(student, reply)),
+            Command::Stats { class } => whole(self.stats(class, reply)),
+            Command::Suggest { class, depth } => whole(self.suggest(alloc, class, depth, reply)),
             Command::Quit => Ok(Outcome::Ended),
         }
     }

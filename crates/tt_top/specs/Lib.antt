@@ -5,5 +5,6 @@ pub mod PlainRun
 pub mod Wanting
 pub mod Run
 pub mod Ends
+pub mod Started
 pub mod Forms
 pub mod Checks

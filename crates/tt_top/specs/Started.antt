@@ -1,0 +1,11 @@
+-- Proof. What is loaded where a session was to be started.
+use Rattle.std.specs.Prelude.{Result, Ok, Err}
+use Rattle.tt_desk.specs.Desk.{Session}
+use Rattle.tt_top.specs.declared.end.End.{End}
+use Rattle.tt_top.specs.declared.end.End.TheVariants.{Memory}
+use Rattle.tt_top.specs.declared.end.InputFault.{InputFault}
+
+-- the session, unless memory is wanting
+abbrev pub loaded_by : {E : Type 0} → Result Session E → Result (Result Session InputFault) End
+loaded_by (Ok s) = Ok (Ok s)
+loaded_by (Err e) = Err Memory
