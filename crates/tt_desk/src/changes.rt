@@ -42,8 +42,10 @@ fn obstacle_refusal(problem: &Problem, obstacle: Obstacle) -> Refusal
 
 // The places of classes, by their ids, if all of these are known.
 fn class_places(problem: &Problem, ids: Ids) -> Option<Vec<u32>>
-    ensures places { MatchOption result (known_classes problem.now ids ≡ Err Refusal.NoSuchClass) (λ places. known_classes problem.now ids ≡ Ok places.items) }
-    ensures in_range { IfSome result (λ places. All (λ place. place < length problem.now.classes) places.items) }
+    ensures places { MatchOption result (known_classes problem.now ids ≡ Err Refusal.NoSuchClass)
+        (λ places. known_classes problem.now ids ≡ Ok places.items) }
+    ensures in_range { IfSome result
+        (λ places. All (λ place. place < length problem.now.classes) places.items) }
 {
     let mut places = ids.into_vec();
     for place in places.iter_mut() {
@@ -77,7 +79,9 @@ impl Session {
         time: u32,
         room: Option<u32>,
     ) -> Result<Outcome, AllocError>
-        ensures ok { IfOk result (λ outcome. command_step self.old (Command.Assign class time room) ≡ record { session = self.new; outcome = outcome; lines = [] }) }
+        ensures ok { IfOk result (λ outcome.
+            command_step self.old (Command.Assign class time room)
+            ≡ record { session = self.new; outcome = outcome; lines = [] }) }
         ensures memory { OnErr result (MayTake self.old (Command.Assign class time room)) }
         ensures kept { OnErr result (self.new ≡ self.old) }
     {
@@ -99,7 +103,9 @@ impl Session {
     // Takes its value from a class, by its id.
     #[tactic(auto, using(crate::proofs::MovedLemmas::moved_once))]
     pub(crate) fn unassign(&mut self, class: u32) -> Result<Outcome, AllocError>
-        ensures ok { IfOk result (λ outcome. command_step self.old (Command.Unassign class) ≡ record { session = self.new; outcome = outcome; lines = [] }) }
+        ensures ok { IfOk result (λ outcome.
+            command_step self.old (Command.Unassign class)
+            ≡ record { session = self.new; outcome = outcome; lines = [] }) }
         ensures memory { OnErr result (MayTake self.old (Command.Unassign class)) }
         ensures kept { OnErr result (self.new ≡ self.old) }
     {
@@ -118,7 +124,9 @@ impl Session {
 
     // Gives a student the classes of a list, by ids.
     pub(crate) fn section(&mut self, student: u32, classes: Ids) -> Result<Outcome, AllocError>
-        ensures ok { IfOk result (λ outcome. command_step self.old (Command.Section student classes) ≡ record { session = self.new; outcome = outcome; lines = [] }) }
+        ensures ok { IfOk result (λ outcome.
+            command_step self.old (Command.Section student classes)
+            ≡ record { session = self.new; outcome = outcome; lines = [] }) }
         ensures memory { OnErr result (MayTake self.old (Command.Section student classes)) }
         ensures kept { OnErr result (self.new ≡ self.old) }
     {
@@ -142,7 +150,9 @@ impl Session {
 
     // Takes all classes from a student, by the student's id.
     pub(crate) fn drop_student(&mut self, student: u32) -> Result<Outcome, AllocError>
-        ensures ok { IfOk result (λ outcome. command_step self.old (Command.Drop student) ≡ record { session = self.new; outcome = outcome; lines = [] }) }
+        ensures ok { IfOk result (λ outcome.
+            command_step self.old (Command.Drop student)
+            ≡ record { session = self.new; outcome = outcome; lines = [] }) }
         ensures memory { OnErr result (MayTake self.old (Command.Drop student)) }
         ensures kept { OnErr result (self.new ≡ self.old) }
     {
@@ -166,8 +176,11 @@ impl Session {
         length: u16,
         weeks: BitWord,
     ) -> Result<Outcome, AllocError>
-        ensures ok { IfOk result (λ outcome. command_step self.old (Command.Close room days start length weeks) ≡ record { session = self.new; outcome = outcome; lines = [] }) }
-        ensures memory { OnErr result (MayTake self.old (Command.Close room days start length weeks)) }
+        ensures ok { IfOk result (λ outcome.
+            command_step self.old (Command.Close room days start length weeks)
+            ≡ record { session = self.new; outcome = outcome; lines = [] }) }
+        ensures memory { OnErr result
+            (MayTake self.old (Command.Close room days start length weeks)) }
         ensures kept { OnErr result (self.new ≡ self.old) }
     {
         let Some(room) = self.state.problem().room_of(room) else {
@@ -186,7 +199,9 @@ impl Session {
 
     // Lifts all closures of a room, by its id.
     pub(crate) fn reopen(&mut self, room: u32) -> Result<Outcome, AllocError>
-        ensures ok { IfOk result (λ outcome. command_step self.old (Command.Reopen room) ≡ record { session = self.new; outcome = outcome; lines = [] }) }
+        ensures ok { IfOk result (λ outcome.
+            command_step self.old (Command.Reopen room)
+            ≡ record { session = self.new; outcome = outcome; lines = [] }) }
         ensures memory { OnErr result (MayTake self.old (Command.Reopen room)) }
         ensures kept { OnErr result (self.new ≡ self.old) }
     {
@@ -203,7 +218,8 @@ impl Session {
 
     // Goes back by a step.
     pub(crate) fn undo(&mut self) -> Outcome
-        ensures { command_step self.old Command.Undo ≡ record { session = self.new; outcome = result; lines = [] } }
+        ensures { command_step self.old Command.Undo
+            ≡ record { session = self.new; outcome = result; lines = [] } }
     {
         if self.state.undo() {
             self.moved.back(&self.state, &self.published);
@@ -223,11 +239,15 @@ impl Session {
         reply: &mut Reply,
     ) -> Result<Outcome, Wanting>
         requires { reply.old ≡ [] }
-        ensures ok { IfOk result (λ outcome. command_step self.old (Command.Force class time room) ≡ record { session = self.new; outcome = outcome; lines = reply.new }) }
+        ensures ok { IfOk result (λ outcome.
+            command_step self.old (Command.Force class time room)
+            ≡ record { session = self.new; outcome = outcome; lines = reply.new }) }
         ensures memory { OnErr result (MayTake self.old (Command.Force class time room)) }
         ensures kept { result ≡ Err Wanting.Command → self.new ≡ self.old }
-        ensures done { result ≡ Err Wanting.Reply → (command_step self.old (Command.Force class time room)).session ≡ self.new }
-        ensures accepted { result ≡ Err Wanting.Reply → (command_step self.old (Command.Force class time room)).outcome ≡ Outcome.Accepted }
+        ensures done { result ≡ Err Wanting.Reply
+            → (command_step self.old (Command.Force class time room)).session ≡ self.new }
+        ensures accepted { result ≡ Err Wanting.Reply
+            → (command_step self.old (Command.Force class time room)).outcome ≡ Outcome.Accepted }
     {
         let Some(class) = self.state.problem().class_of(class) else {
             return Ok(Outcome::Refused(Refusal::NoSuchClass));

@@ -99,11 +99,15 @@ impl Session {
         reply: &mut Reply,
         watcher: &mut W,
     ) -> Result<Outcome, Wanting>
-        ensures ok { IfOk result (λ outcome. line_step self.old line.now ≡ record { session = self.new; outcome = outcome; lines = reply.new }) }
+        ensures ok { IfOk result (λ outcome.
+            line_step self.old line.now
+            ≡ record { session = self.new; outcome = outcome; lines = reply.new }) }
         ensures memory { OnErr result (IsMemoryCause self.old line.now) }
         ensures kept { result ≡ Err Wanting.Command → self.new ≡ self.old }
-        ensures done { result ≡ Err Wanting.Reply → (line_step self.old line.now).session ≡ self.new }
-        ensures accepted { result ≡ Err Wanting.Reply → (line_step self.old line.now).outcome ≡ Outcome.Accepted }
+        ensures done { result ≡ Err Wanting.Reply
+            → (line_step self.old line.now).session ≡ self.new }
+        ensures accepted { result ≡ Err Wanting.Reply
+            → (line_step self.old line.now).outcome ≡ Outcome.Accepted }
     {
         reply.clear();
         match read_line(alloc, line)? {
@@ -134,8 +138,10 @@ impl Session {
         ensures reply { OnOk result (reply_of (line_step self.old line.now) ≡ reply.new) }
         ensures memory { OnErr result (IsMemoryCause self.old line.now) }
         ensures kept { result ≡ Err Wanting.Command → self.new ≡ self.old }
-        ensures accepted { result ≡ Err Wanting.Reply → (line_step self.old line.now).outcome ≡ Outcome.Accepted }
-        ensures done { result ≡ Err Wanting.Reply → (line_step self.old line.now).session ≡ self.new }
+        ensures accepted { result ≡ Err Wanting.Reply
+            → (line_step self.old line.now).outcome ≡ Outcome.Accepted }
+        ensures done { result ≡ Err Wanting.Reply
+            → (line_step self.old line.now).session ≡ self.new }
         ensures replies { OnErr result (0 < length (reply_of (line_step self.old line.now))) }
     {
         let outcome = self.do_line(alloc, line, reply, watcher)?;

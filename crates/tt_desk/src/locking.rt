@@ -27,12 +27,15 @@ fn lock_refusal(fault: LockFault) -> Refusal
 impl Session {
     /// While no class is locked, what is done and said is what it would be if there were no locks.
     pub fn without_locks(&self)
-        ensures { ((class : ℕ) → is_locked_in self.now.desk.present class ≡ false) → IsWithoutLocks self.now.desk.problem self.now.desk.present }
+        ensures { ((class : ℕ) → is_locked_in self.now.desk.present class ≡ false)
+            → IsWithoutLocks self.now.desk.problem self.now.desk.present }
     {}
 
     // Locks a class, by its id.
     pub(crate) fn lock(&mut self, class: u32) -> Result<Outcome, AllocError>
-        ensures ok { IfOk result (λ outcome. command_step self.old (Command.Lock class) ≡ record { session = self.new; outcome = outcome; lines = [] }) }
+        ensures ok { IfOk result (λ outcome.
+            command_step self.old (Command.Lock class)
+            ≡ record { session = self.new; outcome = outcome; lines = [] }) }
         ensures memory { OnErr result (MayTake self.old (Command.Lock class)) }
         ensures kept { OnErr result (self.new ≡ self.old) }
     {
@@ -51,7 +54,9 @@ impl Session {
     // Locks each placed class, and says how many became locked.
     pub(crate) fn lock_all(&mut self, reply: &mut Reply) -> Result<Outcome, AllocError>
         requires { reply.old ≡ [] }
-        ensures ok { IfOk result (λ outcome. command_step self.old Command.LockAll ≡ record { session = self.new; outcome = outcome; lines = reply.new }) }
+        ensures ok { IfOk result (λ outcome.
+            command_step self.old Command.LockAll
+            ≡ record { session = self.new; outcome = outcome; lines = reply.new }) }
         ensures kept { OnErr result (self.new ≡ self.old) }
     {
         let count = self.state.lock_all()?;
@@ -62,7 +67,9 @@ impl Session {
 
     // Takes the lock off a class, by its id.
     pub(crate) fn unlock(&mut self, class: u32) -> Result<Outcome, AllocError>
-        ensures ok { IfOk result (λ outcome. command_step self.old (Command.Unlock class) ≡ record { session = self.new; outcome = outcome; lines = [] }) }
+        ensures ok { IfOk result (λ outcome.
+            command_step self.old (Command.Unlock class)
+            ≡ record { session = self.new; outcome = outcome; lines = [] }) }
         ensures memory { OnErr result (MayTake self.old (Command.Unlock class)) }
         ensures kept { OnErr result (self.new ≡ self.old) }
     {
@@ -80,7 +87,9 @@ impl Session {
     // Takes the lock off each class, and says how many had one.
     pub(crate) fn unlock_all(&mut self, reply: &mut Reply) -> Result<Outcome, AllocError>
         requires { reply.old ≡ [] }
-        ensures ok { IfOk result (λ outcome. command_step self.old Command.UnlockAll ≡ record { session = self.new; outcome = outcome; lines = reply.new }) }
+        ensures ok { IfOk result (λ outcome.
+            command_step self.old Command.UnlockAll
+            ≡ record { session = self.new; outcome = outcome; lines = reply.new }) }
         ensures kept { OnErr result (self.new ≡ self.old) }
     {
         let count = self.state.unlock_all()?;

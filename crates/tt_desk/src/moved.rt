@@ -53,7 +53,8 @@ fn count_of(state: &State, published: &Published, classes: &[u32]) -> u32
     requires belongs { IsTimetableOf state.now.problem published.now }
     requires within { All (λ class. class < length state.now.problem.classes) classes.now }
     requires few { length classes.now < 2 ^ 32 }
-    ensures count { result ≡ count_by (is_moved state.now.problem state.now.present.plan published.now) classes.now }
+    ensures count { result
+        ≡ count_by (is_moved state.now.problem state.now.present.plan published.now) classes.now }
     ensures few { result ≤ length classes.now }
 {
     state.soundness();
@@ -71,7 +72,8 @@ pub(crate) fn count_among(state: &State, published: &Option<Published>, classes:
     requires belongs { IfSome published.now (IsTimetableOf state.now.problem) }
     requires within { All (λ class. class < length state.now.problem.classes) classes.now }
     requires few { length classes.now < 2 ^ 32 }
-    ensures count { result ≡ moved_among state.now.problem published.now state.now.present.plan classes.now }
+    ensures count { result
+        ≡ moved_among state.now.problem published.now state.now.present.plan classes.now }
     ensures few { result ≤ length classes.now }
 {
     match published {
@@ -85,7 +87,9 @@ pub(crate) fn count_among(state: &State, published: &Option<Published>, classes:
 pub(crate) fn count_with_taken(state: &State, published: &Option<Published>, class: u32) -> u32
     requires belongs { IfSome published.now (IsTimetableOf state.now.problem) }
     requires class { class < length state.now.problem.classes }
-    ensures count { result ≡ moved_among state.now.problem published.now state.now.present.plan (class ∷ state.now.taken) }
+    ensures count { result
+        ≡ moved_among state.now.problem published.now state.now.present.plan
+        (class ∷ state.now.taken) }
     ensures within { All (λ other. other < length state.now.problem.classes) state.now.taken }
     ensures valid { IsValid state.now.problem }
 {
@@ -105,7 +109,9 @@ pub(crate) fn count_with_conflicts(
     requires belongs { IfSome published.now (IsTimetableOf state.old.problem) }
     requires value { IsOfDomain state.old.problem class value }
     ensures count { obstacle_of state.old.problem state.old.present class value ≡ None
-        → result ≡ moved_among state.old.problem published.now state.old.present.plan (class ∷ conflicts_of state.old.problem state.old.present class value) }
+        → result
+        ≡ moved_among state.old.problem published.now state.old.present.plan
+        (class ∷ conflicts_of state.old.problem state.old.present class value) }
     ensures same { with_taken state.new [] ≡ with_taken state.old [] }
 {
     if published.is_none() || state.find_obstacle(class, value).is_some() {
@@ -118,7 +124,8 @@ impl MovedCounts {
     // Those of the present snapshot alone.
     pub(crate) fn new(alloc: Global, state: &State, published: &Option<Published>) -> MovedCounts
         requires { IfSome published.now (IsTimetableOf state.now.problem) }
-        ensures { AreMovedIn state.now.problem published.now (state.now.present ∷ earlier state.now) (result.count ∷ result.before) }
+        ensures { AreMovedIn state.now.problem published.now (state.now.present ∷ earlier state.now)
+            (result.count ∷ result.before) }
     {
         MovedCounts {
             count: count_all(state, published),
@@ -136,7 +143,8 @@ impl MovedCounts {
     // Counts anew, once another timetable is published.
     pub(crate) fn restart(&mut self, state: &State, published: &Option<Published>)
         requires { IfSome published.now (IsTimetableOf state.now.problem) }
-        ensures { AreMovedIn state.now.problem published.now (state.now.present ∷ earlier state.now) (self.new.count ∷ self.new.before) }
+        ensures { AreMovedIn state.now.problem published.now (state.now.present ∷ earlier state.now)
+            (self.new.count ∷ self.new.before) }
     {
         self.before.clear();
         self.count = count_all(state, published);
@@ -146,7 +154,9 @@ impl MovedCounts {
     // nothing is known any more of what was before.
     fn keep(&mut self, published: &Option<Published>)
         ensures now { self.new.count ≡ self.old.count }
-        ensures before { (p : Parts) (t : Option Timetable) (snapshots : List Snapshot) → AreMovedIn p t snapshots (self.old.count ∷ self.old.before) → AreMovedIn p t snapshots self.new.before }
+        ensures before { (p : Parts) (t : Option Timetable) (snapshots : List Snapshot)
+            → AreMovedIn p t snapshots (self.old.count ∷ self.old.before)
+            → AreMovedIn p t snapshots self.new.before }
     {
         if published.is_none() || self.before.push(self.count).is_err() {
             self.before.clear();
@@ -155,9 +165,12 @@ impl MovedCounts {
 
     // Follows a step that leaves each class where it is.
     pub(crate) fn step(&mut self, state: &State, published: &Option<Published>)
-        requires before { AreMovedIn state.now.problem published.now (earlier state.now) (self.old.count ∷ self.old.before) }
-        requires same { self.old.count ≡ moved_in state.now.problem published.now state.now.present.plan }
-        ensures { AreMovedIn state.now.problem published.now (state.now.present ∷ earlier state.now) (self.new.count ∷ self.new.before) }
+        requires before { AreMovedIn state.now.problem published.now (earlier state.now)
+            (self.old.count ∷ self.old.before) }
+        requires same { self.old.count
+            ≡ moved_in state.now.problem published.now state.now.present.plan }
+        ensures { AreMovedIn state.now.problem published.now (state.now.present ∷ earlier state.now)
+            (self.new.count ∷ self.new.before) }
     {
         self.keep(published);
     }
@@ -173,9 +186,12 @@ impl MovedCounts {
         is: u32,
     )
         requires belongs { IfSome published.now (IsTimetableOf state.now.problem) }
-        requires before { AreMovedIn state.now.problem published.now (earlier state.now) (self.old.count ∷ self.old.before) }
-        requires change { moved_in state.now.problem published.now state.now.present.plan + was ≡ self.old.count + is }
-        ensures { AreMovedIn state.now.problem published.now (state.now.present ∷ earlier state.now) (self.new.count ∷ self.new.before) }
+        requires before { AreMovedIn state.now.problem published.now (earlier state.now)
+            (self.old.count ∷ self.old.before) }
+        requires change { moved_in state.now.problem published.now state.now.present.plan + was
+            ≡ self.old.count + is }
+        ensures { AreMovedIn state.now.problem published.now (state.now.present ∷ earlier state.now)
+            (self.new.count ∷ self.new.before) }
     {
         self.keep(published);
         state.problem().validity();
@@ -189,8 +205,10 @@ impl MovedCounts {
     // Follows a step that may move any class.
     pub(crate) fn step_anew(&mut self, state: &State, published: &Option<Published>)
         requires belongs { IfSome published.now (IsTimetableOf state.now.problem) }
-        requires before { AreMovedIn state.now.problem published.now (earlier state.now) (self.old.count ∷ self.old.before) }
-        ensures { AreMovedIn state.now.problem published.now (state.now.present ∷ earlier state.now) (self.new.count ∷ self.new.before) }
+        requires before { AreMovedIn state.now.problem published.now (earlier state.now)
+            (self.old.count ∷ self.old.before) }
+        ensures { AreMovedIn state.now.problem published.now (state.now.present ∷ earlier state.now)
+            (self.new.count ∷ self.new.before) }
     {
         self.keep(published);
         self.count = count_all(state, published);
@@ -199,8 +217,10 @@ impl MovedCounts {
     // Goes back by a step.
     pub(crate) fn back(&mut self, state: &State, published: &Option<Published>)
         requires belongs { IfSome published.now (IsTimetableOf state.now.problem) }
-        requires before { AreMovedIn state.now.problem published.now (state.now.present ∷ earlier state.now) self.old.before }
-        ensures { AreMovedIn state.now.problem published.now (state.now.present ∷ earlier state.now) (self.new.count ∷ self.new.before) }
+        requires before { AreMovedIn state.now.problem published.now
+            (state.now.present ∷ earlier state.now) self.old.before }
+        ensures { AreMovedIn state.now.problem published.now (state.now.present ∷ earlier state.now)
+            (self.new.count ∷ self.new.before) }
     {
         self.count = match self.before.pop() {
             None => count_all(state, published),

@@ -85,7 +85,11 @@ fn add_not_ready(
     unsectioned: u32,
     hard: u64,
 ) -> Result<(), AllocError>
-    ensures text { OnOk result (reply.new ≡ reply.old ++ field (codes "22 not ready ") unplaced ++ field (codes " ") unsectioned ++ field (codes " ") hard) }
+    ensures text { OnOk result (reply.new
+        ≡ reply.old
+        ++ field (codes "22 not ready ") unplaced
+        ++ field (codes " ") unsectioned
+        ++ field (codes " ") hard) }
     ensures full { OnErr result (kept_bytes < length reply.old + most_refusal_bytes) }
     ensures short { OnOk result (length reply.new ≤ length reply.old + most_refusal_bytes) }
 {
@@ -203,7 +207,8 @@ fn add_result(
     published: Option<&Published>,
     suggestion: &Suggestion,
 ) -> Result<(), AllocError>
-    ensures { OnOk result (reply.new ≡ reply.old ++ result_line (option_copied published.entry) suggestion.now) }
+    ensures { OnOk result
+        (reply.new ≡ reply.old ++ result_line (option_copied published.entry) suggestion.now) }
 {
     let moved = moved_then(published, suggestion);
     reply.field("result total ", suggestion.total)?;
@@ -218,7 +223,8 @@ fn add_best(
     published: Option<&Published>,
     best: &Option<Suggestion>,
 ) -> Result<(), AllocError>
-    ensures { OnOk result (reply.new ≡ reply.old ++ best_lines problem.now (option_copied published.entry) best.now) }
+    ensures { OnOk result
+        (reply.new ≡ reply.old ++ best_lines problem.now (option_copied published.entry) best.now) }
 {
     match best {
         None => reply.text("none\n"),
@@ -232,7 +238,10 @@ fn add_best(
 // How many students were enrolled and how many are left, in an empty reply.
 pub(crate) fn put_enrolled(reply: &mut Reply, counts: Enrolled)
     requires { reply.old ≡ [] }
-    ensures { reply.new ≡ field (codes "enrolled ") counts.enrolled ++ field (codes " left ") counts.left ++ codes "\n" }
+    ensures { reply.new
+        ≡ field (codes "enrolled ") counts.enrolled
+        ++ field (codes " left ") counts.left
+        ++ codes "\n" }
 {
     reply
         .field("enrolled ", u128::from(counts.enrolled))
@@ -271,7 +280,8 @@ pub(crate) fn put_turns(reply: &mut Reply, made: u32)
 // How many rounds were made and how many changed something, in an empty reply.
 pub(crate) fn put_rounds(reply: &mut Reply, rounds: u32, changed: u32)
     requires { reply.old ≡ [] }
-    ensures { reply.new ≡ field (codes "rounds ") rounds ++ field (codes " changed ") changed ++ codes "\n" }
+    ensures { reply.new
+        ≡ field (codes "rounds ") rounds ++ field (codes " changed ") changed ++ codes "\n" }
 {
     reply.field("rounds ", u128::from(rounds)).unwrap();
     reply.field(" changed ", u128::from(changed)).unwrap();
@@ -286,7 +296,8 @@ pub(crate) fn add_suggested(
     published: Option<&Published>,
     found: &Suggested,
 ) -> Result<(), AllocError>
-    ensures { OnOk result (reply.new ≡ reply.old ++ suggested_lines problem.now (option_copied published.entry) found.now) }
+    ensures { OnOk result (reply.new
+        ≡ reply.old ++ suggested_lines problem.now (option_copied published.entry) found.now) }
 {
     reply.field("tried ", u128::from(found.tried))?;
     reply.text("\n")?;

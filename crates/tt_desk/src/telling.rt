@@ -16,7 +16,9 @@ impl Session {
     // Tells what each value of a class would cost, by its id.
     pub(crate) fn values(&mut self, class: u32, reply: &mut Reply) -> Result<Outcome, AllocError>
         requires { reply.old ≡ [] }
-        ensures ok { IfOk result (λ outcome. command_step self.old (Command.Values class) ≡ record { session = self.new; outcome = outcome; lines = reply.new }) }
+        ensures ok { IfOk result (λ outcome.
+            command_step self.old (Command.Values class)
+            ≡ record { session = self.new; outcome = outcome; lines = reply.new }) }
         ensures memory { OnErr result (MayTake self.old (Command.Values class)) }
         ensures kept { OnErr result (self.new ≡ self.old) }
     {
@@ -35,7 +37,9 @@ impl Session {
         reply: &mut Reply,
     ) -> Result<Outcome, AllocError>
         requires { reply.old ≡ [] }
-        ensures ok { IfOk result (λ outcome. command_step self.now (Command.Meets class) ≡ record { session = self.now; outcome = outcome; lines = reply.new }) }
+        ensures ok { IfOk result (λ outcome.
+            command_step self.now (Command.Meets class)
+            ≡ record { session = self.now; outcome = outcome; lines = reply.new }) }
         ensures memory { OnErr result (MayTake self.now (Command.Meets class)) }
     {
         let Some(class) = self.state.problem().class_of(class) else {
@@ -48,7 +52,9 @@ impl Session {
     // Tells which classes a student has and which of them conflict, by the student's id.
     pub(crate) fn student(&self, student: u32, reply: &mut Reply) -> Result<Outcome, AllocError>
         requires { reply.old ≡ [] }
-        ensures ok { IfOk result (λ outcome. command_step self.now (Command.Student student) ≡ record { session = self.now; outcome = outcome; lines = reply.new }) }
+        ensures ok { IfOk result (λ outcome.
+            command_step self.now (Command.Student student)
+            ≡ record { session = self.now; outcome = outcome; lines = reply.new }) }
         ensures memory { OnErr result (MayTake self.now (Command.Student student)) }
     {
         let Some(student) = self.state.problem().student_of(student) else {
@@ -61,7 +67,9 @@ impl Session {
     // Tells all that is wrong with the present timetable.
     pub(crate) fn violations(&self, alloc: Global, reply: &mut Reply) -> Result<Outcome, AllocError>
         requires { reply.old ≡ [] }
-        ensures ok { IfOk result (λ outcome. command_step self.now Command.Violations ≡ record { session = self.now; outcome = outcome; lines = reply.new }) }
+        ensures ok { IfOk result (λ outcome.
+            command_step self.now Command.Violations
+            ≡ record { session = self.now; outcome = outcome; lines = reply.new }) }
         ensures memory { OnErr result (MayTake self.now Command.Violations) }
     {
         violations(alloc, &self.state, reply)?;
@@ -71,7 +79,9 @@ impl Session {
     // Tells what the total is made of.
     pub(crate) fn costs(&self, alloc: Global, reply: &mut Reply) -> Result<Outcome, AllocError>
         requires { reply.old ≡ [] }
-        ensures ok { IfOk result (λ outcome. command_step self.now Command.Costs ≡ record { session = self.now; outcome = outcome; lines = reply.new }) }
+        ensures ok { IfOk result (λ outcome.
+            command_step self.now Command.Costs
+            ≡ record { session = self.now; outcome = outcome; lines = reply.new }) }
         ensures memory { OnErr result (MayTake self.now Command.Costs) }
     {
         costs(alloc, &self.state, reply)?;
@@ -81,7 +91,9 @@ impl Session {
     // Tells what there is of the timetable, in the form in which it would be published.
     pub(crate) fn draft(&self, alloc: Global, reply: &mut Reply) -> Result<Outcome, AllocError>
         requires { reply.old ≡ [] }
-        ensures ok { IfOk result (λ outcome. command_step self.now Command.Draft ≡ record { session = self.now; outcome = outcome; lines = reply.new }) }
+        ensures ok { IfOk result (λ outcome.
+            command_step self.now Command.Draft
+            ≡ record { session = self.now; outcome = outcome; lines = reply.new }) }
         ensures memory { OnErr result (MayTake self.now Command.Draft) }
     {
         self.state.soundness();

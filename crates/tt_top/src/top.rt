@@ -24,7 +24,8 @@ const USAGE: &[u8] =
 
 // A run whose words are in no form.
 fn usage<S: Sink>(out: &mut S) -> Result<Done, End>
-    ensures writes { WritesPlain usage_run (S.written out.old) (S.written out.new) (status_of result) }
+    ensures writes { WritesPlain usage_run (S.written out.old) (S.written out.new)
+        (status_of result) }
     ensures cause { HasEndCause End.Sink (S.faults out.old) (S.faults out.new) result }
     ensures no_memory { result ≢ Err End.Memory }
 {
@@ -44,10 +45,11 @@ pub fn run_within<F: Files, S: Sink, W: Watcher>(
     ensures form { IsRun (form_of (map string_bytes words.now)) limit
         (record {
           holds = F.holds files.old;
-          before = moment (F.asked files.old) (F.is_open files.old) (F.left files.old) (S.written out.old) (F.faults files.old) (S.faults out.old);
-          now = moment (F.asked files.new) (F.is_open files.new) (F.left files.new) (S.written out.new) (F.faults files.new) (S.faults out.new);
-        })
-        result }
+          before = moment (F.asked files.old) (F.is_open files.old) (F.left files.old)
+              (S.written out.old) (F.faults files.old) (S.faults out.old);
+          now = moment (F.asked files.new) (F.is_open files.new) (F.left files.new)
+              (S.written out.new) (F.faults files.new) (S.faults out.new);
+        }) result }
 {
     let ended = match read_form(words) {
         Some(Form::Files(words)) => run_files(limit, alloc, words, files, out, watcher),
@@ -83,10 +85,11 @@ pub fn run<F: Files, S: Sink>(alloc: Global, words: &[String], files: &mut F, ou
     ensures form { IsRun (form_of (map string_bytes words.now)) file_limit
         (record {
           holds = F.holds files.old;
-          before = moment (F.asked files.old) (F.is_open files.old) (F.left files.old) (S.written out.old) (F.faults files.old) (S.faults out.old);
-          now = moment (F.asked files.new) (F.is_open files.new) (F.left files.new) (S.written out.new) (F.faults files.new) (S.faults out.new);
-        })
-        result }
+          before = moment (F.asked files.old) (F.is_open files.old) (F.left files.old)
+              (S.written out.old) (F.faults files.old) (S.faults out.old);
+          now = moment (F.asked files.new) (F.is_open files.new) (F.left files.new)
+              (S.written out.new) (F.faults files.new) (S.faults out.new);
+        }) result }
 {
     let mut watcher = Silent;
     run_watched(alloc, words, files, out, &mut watcher)
@@ -103,10 +106,11 @@ pub fn run_watched<F: Files, S: Sink, W: Watcher>(
     ensures form { IsRun (form_of (map string_bytes words.now)) file_limit
         (record {
           holds = F.holds files.old;
-          before = moment (F.asked files.old) (F.is_open files.old) (F.left files.old) (S.written out.old) (F.faults files.old) (S.faults out.old);
-          now = moment (F.asked files.new) (F.is_open files.new) (F.left files.new) (S.written out.new) (F.faults files.new) (S.faults out.new);
-        })
-        result }
+          before = moment (F.asked files.old) (F.is_open files.old) (F.left files.old)
+              (S.written out.old) (F.faults files.old) (S.faults out.old);
+          now = moment (F.asked files.new) (F.is_open files.new) (F.left files.new)
+              (S.written out.new) (F.faults files.new) (S.faults out.new);
+        }) result }
 {
     run_within(FILE_LIMIT, alloc, words, files, out, watcher)
 }

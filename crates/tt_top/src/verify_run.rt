@@ -31,7 +31,8 @@ struct Check {
 // What is found of a solution.
 fn found(alloc: Global, problem: &Problem, solution: &Published) -> Result<Check, AllocError>
     requires { IsTimetableOf problem.now solution.now }
-    ensures { IfOk result (λ c. (names : List (List ℕ)) → checking names problem.now solution.now ≡ check_run names c) }
+    ensures { IfOk result (λ c.
+        (names : List (List ℕ)) → checking names problem.now solution.now ≡ check_run names c) }
 {
     let mut reply = Reply::new(alloc)?;
     let violations = verify(alloc, problem, solution, &mut reply)? != 0;
@@ -46,9 +47,12 @@ fn check_solution<F: Files>(
     solution: &str,
     files: &mut F,
 ) -> Result<Loaded<Check>, End>
-    ensures agrees { (names : List (List ℕ)) → Agrees names (solution_phase limit (F.holds files.old) names problem.now solution.now) (check_seen names result) }
+    ensures agrees { (names : List (List ℕ))
+        → Agrees names (solution_phase limit (F.holds files.old) names problem.now solution.now)
+        (check_seen names result) }
     ensures input { IfOk result (λ l. IfErr l (λ f. f.input ≡ Input.Published)) }
-    ensures reads { IsReadAtMost (limit + 65536) (F.holds files.old) (left_open (F.is_open files.new) (F.left files.new)) solution.now }
+    ensures reads { IsReadAtMost (limit + 65536) (F.holds files.old)
+        (left_open (F.is_open files.new) (F.left files.new)) solution.now }
     ensures fits { IsOk result → HasAtMost limit (F.holds files.old) solution.now }
     ensures no_sink { result ≢ Err End.Sink }
     ensures asks { Asks (F.asked files.old) (F.asked files.new) solution.now }
@@ -68,7 +72,10 @@ fn check_files<F: Files>(
     solution: &str,
     files: &mut F,
 ) -> Result<Loaded<Check>, End>
-    ensures checks { Loads (verify_words problem.now solution.now) limit (F.holds files.old) (left_open (F.is_open files.new) (F.left files.new)) (check_phase limit (F.holds files.old) problem.now solution.now) (F.asked files.old) (F.asked files.new) (check_seen (problem.now ∷ solution.now ∷ []) result) }
+    ensures checks { Loads (verify_words problem.now solution.now) limit (F.holds files.old)
+        (left_open (F.is_open files.new) (F.left files.new))
+        (check_phase limit (F.holds files.old) problem.now solution.now) (F.asked files.old)
+        (F.asked files.new) (check_seen (problem.now ∷ solution.now ∷ []) result) }
     ensures no_sink { result ≢ Err End.Sink }
     ensures cause { HasEndCause End.Files (F.faults files.old) (F.faults files.new) result }
 {
@@ -80,7 +87,8 @@ fn check_files<F: Files>(
 
 // Writes what was found, or the line on the fault of a file.
 fn write_check<S: Sink>(alloc: Global, check: &Loaded<Check>, out: &mut S) -> Result<(), End>
-    ensures written { OnOk result (Writes (S.written out.old) (S.written out.new) (check_text check.now)) }
+    ensures written { OnOk result
+        (Writes (S.written out.old) (S.written out.new) (check_text check.now)) }
     ensures memory { result ≡ Err End.Memory → S.written out.new ≡ S.written out.old }
     ensures front { WritesFront (S.written out.old) (S.written out.new) (check_text check.now) }
     ensures cause { HasEndCause End.Sink (S.faults out.old) (S.faults out.new) result }
@@ -121,10 +129,11 @@ pub fn verify_files<F: Files, S: Sink>(
     ensures { IsVerifyRun problem.now solution.now limit
         (record {
           holds = F.holds files.old;
-          before = moment (F.asked files.old) (F.is_open files.old) (F.left files.old) (S.written out.old) (F.faults files.old) (S.faults out.old);
-          now = moment (F.asked files.new) (F.is_open files.new) (F.left files.new) (S.written out.new) (F.faults files.new) (S.faults out.new);
-        })
-        (status_of result) }
+          before = moment (F.asked files.old) (F.is_open files.old) (F.left files.old)
+              (S.written out.old) (F.faults files.old) (S.faults out.old);
+          now = moment (F.asked files.new) (F.is_open files.new) (F.left files.new)
+              (S.written out.new) (F.faults files.new) (S.faults out.new);
+        }) (status_of result) }
 {
     let check = check_files(limit, alloc, problem, solution, files)?;
     write_check(alloc, &check, out)?;
