@@ -9,7 +9,7 @@ from collections.abc import Iterator
 from contextlib import contextmanager
 from pathlib import Path
 
-from repository import CRATES
+from repository import CRATES, Stop
 
 GATE, SHELF = "must-fail", "wrong-bodies"
 
@@ -23,6 +23,9 @@ def edits_in(folder: Path, shelf: str) -> list[Path]:
 def taken_from_the_shelf(folder: Path) -> Iterator[None]:
     """With the edits of the shelf among those of the gate. None stays there, nor one that an earlier call left."""
     copies = [folder / GATE / edit.name for edit in edits_in(folder, SHELF)]
+    for copy in copies:
+        if copy.exists() and copy.read_bytes() != (folder / SHELF / copy.name).read_bytes():
+            raise Stop(f"{copy.name} of {folder.name} stands in the gate and on the shelf")
     had_folder = (folder / GATE).is_dir()
     try:
         (folder / GATE).mkdir(exist_ok=True)
