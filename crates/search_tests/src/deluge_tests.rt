@@ -2,7 +2,6 @@
 
 use crate::counting::Counting;
 use std::alloc::Global;
-use std::test::Fail;
 use test_help::{assigns, state_of};
 use tt_deluge::{Deluged, deluge};
 use tt_state::State;
@@ -28,21 +27,20 @@ fn pours(alloc: Global, state: &mut State, rounds: u32, seed: u64, changed: u32)
 
 // A class gets the value that is drawn, as one step.
 #[test]
-fn a_class_gets_a_lower_value(rt: HostRuntime) -> Result<(), Fail> {
-    let mut state = state_of(rt.alloc(), TWO_TIMES.as_bytes())?;
+fn a_class_gets_a_lower_value(rt: HostRuntime) {
+    let mut state = state_of(rt.alloc(), TWO_TIMES.as_bytes()).expect(&rt, "state");
     assert!(rt; assigns(&mut state, 0, 1, None));
     assert!(rt; pours(rt.alloc(), &mut state, 1, 1, 1));
     assert!(rt; totals(&state) == (1, 0, 0));
     assert!(rt; state.undo());
     assert!(rt; totals(&state) == (5, 0, 0));
     drop(state);
-    Ok(())
 }
 
 // The watcher is told of each round.
 #[test]
-fn a_deluge_tells_each_round(rt: HostRuntime) -> Result<(), Fail> {
-    let mut state = state_of(rt.alloc(), TWO_TIMES.as_bytes())?;
+fn a_deluge_tells_each_round(rt: HostRuntime) {
+    let mut state = state_of(rt.alloc(), TWO_TIMES.as_bytes()).expect(&rt, "state");
     assert!(rt; assigns(&mut state, 0, 1, None));
     let mut watcher = Counting::new();
     let made = deluge(rt.alloc(), &mut state, 3, 1, &mut watcher);
@@ -55,5 +53,4 @@ fn a_deluge_tells_each_round(rt: HostRuntime) -> Result<(), Fail> {
     assert!(rt; watcher.times == 3);
     assert!(rt; watcher.last == Some(Progress::Rounds { made: 3, of: 3 }));
     drop(state);
-    Ok(())
 }

@@ -2,7 +2,6 @@
 
 use crate::counting::Counting;
 use std::alloc::Global;
-use std::test::Fail;
 use test_help::{assigns, sections, state_of};
 use tt_enrol::{Enrolled, enrol, enrol_all};
 use tt_state::State;
@@ -41,8 +40,8 @@ fn enrols_all(alloc: Global, state: &mut State) -> Option<Enrolled> {
 }
 
 #[test]
-fn students_get_the_least_enrolments(rt: HostRuntime) -> Result<(), Fail> {
-    let mut state = state_of(rt.alloc(), TEXT.as_bytes())?;
+fn students_get_the_least_enrolments(rt: HostRuntime) {
+    let mut state = state_of(rt.alloc(), TEXT.as_bytes()).expect(&rt, "state");
     for class in 0..3 {
         assert!(rt; assigns(&mut state, class, 1, None), "class {class}");
     }
@@ -58,13 +57,12 @@ fn students_get_the_least_enrolments(rt: HostRuntime) -> Result<(), Fail> {
         })
     );
     drop(state);
-    Ok(())
 }
 
 // The watcher is told of each student, also of those who are enrolled already.
 #[test]
-fn an_enrolment_of_all_tells_each_student(rt: HostRuntime) -> Result<(), Fail> {
-    let mut state = state_of(rt.alloc(), TEXT.as_bytes())?;
+fn an_enrolment_of_all_tells_each_student(rt: HostRuntime) {
+    let mut state = state_of(rt.alloc(), TEXT.as_bytes()).expect(&rt, "state");
     assert!(rt; sections(&mut state, 0, [0, 2]));
     let mut watcher = Counting::new();
     let made = enrol_all(rt.alloc(), &mut state, &mut watcher);
@@ -77,5 +75,4 @@ fn an_enrolment_of_all_tells_each_student(rt: HostRuntime) -> Result<(), Fail> {
     assert!(rt; watcher.times == 2);
     assert!(rt; watcher.last == Some(Progress::Students { done: 2, of: 2 }));
     drop(state);
-    Ok(())
 }

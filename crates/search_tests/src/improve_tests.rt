@@ -2,7 +2,6 @@
 
 use crate::counting::Counting;
 use std::alloc::Global;
-use std::test::Fail;
 use test_help::{assigns, sections, state_of};
 use tt_improve::{Improved, improve};
 use tt_state::State;
@@ -78,8 +77,8 @@ fn seats_one_each(state: &State) -> bool {
 // The first of the rounds gives the class its least value, and no later one changes it. The last two
 // steps are taken back one by one.
 #[test]
-fn a_class_gets_the_least_value(rt: HostRuntime) -> Result<(), Fail> {
-    let mut state = state_of(rt.alloc(), TWO_TIMES.as_bytes())?;
+fn a_class_gets_the_least_value(rt: HostRuntime) {
+    let mut state = state_of(rt.alloc(), TWO_TIMES.as_bytes()).expect(&rt, "state");
     assert!(rt; assigns(&mut state, 0, 1, None));
     assert!(rt; totals(&state) == (5, 0, 0));
     assert!(rt; changes(rt.alloc(), &mut state, 1, 1, 1));
@@ -91,13 +90,12 @@ fn a_class_gets_the_least_value(rt: HostRuntime) -> Result<(), Fail> {
     assert!(rt; state.undo());
     assert!(rt; totals(&state) == (5, 0, 0));
     drop(state);
-    Ok(())
 }
 
 // The watcher is told of each round, also of those that are left out.
 #[test]
-fn a_descent_tells_each_round(rt: HostRuntime) -> Result<(), Fail> {
-    let mut state = state_of(rt.alloc(), TWO_TIMES.as_bytes())?;
+fn a_descent_tells_each_round(rt: HostRuntime) {
+    let mut state = state_of(rt.alloc(), TWO_TIMES.as_bytes()).expect(&rt, "state");
     assert!(rt; assigns(&mut state, 0, 1, None));
     let mut watcher = Counting::new();
     let made = improve(rt.alloc(), &mut state, 3, 1, &mut watcher);
@@ -110,15 +108,14 @@ fn a_descent_tells_each_round(rt: HostRuntime) -> Result<(), Fail> {
     assert!(rt; watcher.times == 3);
     assert!(rt; watcher.last == Some(Progress::Rounds { made: 3, of: 3 }));
     drop(state);
-    Ok(())
 }
 
 // The first class can't move before the second has. So where it is drawn first, it is looked at again
 // after the second has moved.
 #[test]
-fn after_a_change_each_object_is_looked_at_again(rt: HostRuntime) -> Result<(), Fail> {
+fn after_a_change_each_object_is_looked_at_again(rt: HostRuntime) {
     for seed in 0..12 {
-        let mut state = state_of(rt.alloc(), ONE_ROOM.as_bytes())?;
+        let mut state = state_of(rt.alloc(), ONE_ROOM.as_bytes()).expect(&rt, "state");
         assert!(rt; assigns(&mut state, 0, 1, Some(1)));
         assert!(rt; assigns(&mut state, 1, 1, Some(1)));
         assert!(rt; totals(&state) == (7, 0, 0));
@@ -126,37 +123,34 @@ fn after_a_change_each_object_is_looked_at_again(rt: HostRuntime) -> Result<(), 
         assert!(rt; totals(&state) == (1, 0, 0), "seed {seed}");
         drop(state);
     }
-    Ok(())
 }
 
 // Rounds without an object are a step nonetheless.
 #[test]
-fn without_an_object_no_round_is_made(rt: HostRuntime) -> Result<(), Fail> {
-    let mut state = state_of(rt.alloc(), TWO_TIMES.as_bytes())?;
+fn without_an_object_no_round_is_made(rt: HostRuntime) {
+    let mut state = state_of(rt.alloc(), TWO_TIMES.as_bytes()).expect(&rt, "state");
     assert!(rt; makes_no_round(rt.alloc(), &mut state));
     assert!(rt; totals(&state) == (0, 0, 1));
     assert!(rt; state.undo());
     assert!(rt; !state.undo());
     drop(state);
-    Ok(())
 }
 
 // A locked class is no object.
 #[test]
-fn a_descent_leaves_a_locked_class(rt: HostRuntime) -> Result<(), Fail> {
-    let mut state = state_of(rt.alloc(), TWO_TIMES.as_bytes())?;
+fn a_descent_leaves_a_locked_class(rt: HostRuntime) {
+    let mut state = state_of(rt.alloc(), TWO_TIMES.as_bytes()).expect(&rt, "state");
     assert!(rt; assigns(&mut state, 0, 1, None));
     assert!(rt; state.lock(0) == Ok(None));
     assert!(rt; makes_no_round(rt.alloc(), &mut state));
     assert!(rt; totals(&state) == (5, 0, 0));
     drop(state);
-    Ok(())
 }
 
 #[test]
-fn one_round_ends_a_conflict_whichever_object_is_drawn(rt: HostRuntime) -> Result<(), Fail> {
+fn one_round_ends_a_conflict_whichever_object_is_drawn(rt: HostRuntime) {
     for seed in 0..12 {
-        let mut state = state_of(rt.alloc(), TWO_COURSES.as_bytes())?;
+        let mut state = state_of(rt.alloc(), TWO_COURSES.as_bytes()).expect(&rt, "state");
         assert!(rt; assigns(&mut state, 0, 1, None));
         assert!(rt; assigns(&mut state, 2, 1, None));
         assert!(rt; sections(&mut state, 0, [0, 2]));
@@ -165,14 +159,13 @@ fn one_round_ends_a_conflict_whichever_object_is_drawn(rt: HostRuntime) -> Resul
         assert!(rt; totals(&state) == (0, 0, 2), "seed {seed}");
         drop(state);
     }
-    Ok(())
 }
 
 // The classes alone end the conflict where there is no other seat for the first student.
 #[test]
-fn a_choice_needs_a_seat(rt: HostRuntime) -> Result<(), Fail> {
+fn a_choice_needs_a_seat(rt: HostRuntime) {
     for seed in 0..12 {
-        let mut state = state_of(rt.alloc(), TWO_COURSES.as_bytes())?;
+        let mut state = state_of(rt.alloc(), TWO_COURSES.as_bytes()).expect(&rt, "state");
         assert!(rt; sections(&mut state, 1, [1, 3]));
         assert!(rt; sections(&mut state, 0, [0, 2]));
         assert!(rt; assigns(&mut state, 0, 1, None));
@@ -182,14 +175,13 @@ fn a_choice_needs_a_seat(rt: HostRuntime) -> Result<(), Fail> {
         assert!(rt; seats_one_each(&state), "seed {seed}");
         drop(state);
     }
-    Ok(())
 }
 
 // A class stays that is the parent of one of another course.
 #[test]
-fn a_choice_keeps_the_parents_of_the_rest(rt: HostRuntime) -> Result<(), Fail> {
+fn a_choice_keeps_the_parents_of_the_rest(rt: HostRuntime) {
     for seed in 0..12 {
-        let mut state = state_of(rt.alloc(), PARENT.as_bytes())?;
+        let mut state = state_of(rt.alloc(), PARENT.as_bytes()).expect(&rt, "state");
         for class in 0..3 {
             assert!(rt; assigns(&mut state, class, 1, None));
         }
@@ -198,5 +190,4 @@ fn a_choice_keeps_the_parents_of_the_rest(rt: HostRuntime) -> Result<(), Fail> {
         assert!(rt; totals(&state) == (1, 1, 0), "seed {seed}");
         drop(state);
     }
-    Ok(())
 }

@@ -1,5 +1,5 @@
 //! Tests of what looks for a better timetable: the least enrolment, descent, the great deluge, the
-//! search, the repair, `place` and `recall`. It has no code of its own.
+//! search, the repair, `place` and `recall`, and suggestions. It has no code of its own.
 #![tactic(auto)]
 
 #[cfg(test)]
@@ -12,3 +12,5 @@ mod enrol_tests;
 mod improve_tests;
 #[cfg(test)]
 mod search_tests;
+#[cfg(test)]
+mod suggest_tests;

@@ -5,7 +5,6 @@ ghost use Rattle.tt_published.specs.Timetable.{IsTimetableOf};
 
 use crate::counting::Counting;
 use std::alloc::Global;
-use std::test::Fail;
 use test_help::{assigns, forces, small_problem, state_of};
 use tt_fields::FileFault;
 use tt_problem::Problem;
@@ -55,6 +54,12 @@ const ONE_OF_TWO: &str = r#"{"nrDays":5,"nrWeeks":5,"slotsPerDay":288,
         {"id":2,"rooms":[{"id":1,"penalty":0}],"times":[
             {"days":"11000","start":100,"length":12,"weeks":"11111","penalty":0}]}]}]}]}]}"#;
 
+// The state with nothing placed of the problem with one class that needs no room.
+fn new_state(alloc: Global) -> Result<State, FileFault> {
+    let problem = small_problem(alloc)?;
+    Ok(State::start(alloc, problem)?)
+}
+
 // The timetable that is published for a problem.
 fn published(alloc: Global, problem: &Problem) -> Result<Published, FileFault>
     ensures { IfOk result (λ t. IsTimetableOf problem.now t) }
@@ -84,17 +89,16 @@ fn totals(state: &State) -> (u128, u32) {
 }
 
 #[test]
-fn a_search_of_no_turn_changes_nothing(rt: HostRuntime) -> Result<(), Fail> {
-    let mut state = State::start(rt.alloc(), small_problem(rt.alloc())?).expect(&rt, "memory");
+fn a_search_of_no_turn_changes_nothing(rt: HostRuntime) {
+    let mut state = new_state(rt.alloc()).expect(&rt, "state");
     assert!(rt; search(rt.alloc(), &mut state, 0, 5, &mut Silent) == Ok(0));
     assert!(rt; totals(&state) == (0, 1));
     drop(state);
-    Ok(())
 }
 
 #[test]
-fn a_search_counts_what_was_pushed_out(rt: HostRuntime) -> Result<(), Fail> {
-    let mut state = state_of(rt.alloc(), ONE_ROOM.as_bytes())?;
+fn a_search_counts_what_was_pushed_out(rt: HostRuntime) {
+    let mut state = state_of(rt.alloc(), ONE_ROOM.as_bytes()).expect(&rt, "state");
     assert!(rt; assigns(&mut state, 0, 1, Some(1)));
     assert!(rt; forces(&mut state, 1, 1, Some(1)));
     assert!(rt; forces(&mut state, 0, 1, Some(1)));
@@ -102,12 +106,11 @@ fn a_search_counts_what_was_pushed_out(rt: HostRuntime) -> Result<(), Fail> {
     assert!(rt; search(rt.alloc(), &mut state, 1, 1, &mut Silent) == Ok(1));
     assert!(rt; totals(&state) == (3, 1));
     drop(state);
-    Ok(())
 }
 
 #[test]
-fn a_search_tells_each_turn(rt: HostRuntime) -> Result<(), Fail> {
-    let mut state = state_of(rt.alloc(), ONE_ROOM.as_bytes())?;
+fn a_search_tells_each_turn(rt: HostRuntime) {
+    let mut state = state_of(rt.alloc(), ONE_ROOM.as_bytes()).expect(&rt, "state");
     let mut watcher = Counting::new();
     assert!(rt; search(rt.alloc(), &mut state, 5, 1, &mut watcher) == Ok(5));
     let last = Progress::Turns {
@@ -118,33 +121,30 @@ fn a_search_tells_each_turn(rt: HostRuntime) -> Result<(), Fail> {
     assert!(rt; watcher.times == 5);
     assert!(rt; watcher.last == Some(last));
     drop(state);
-    Ok(())
 }
 
 #[test]
-fn a_search_takes_the_least_total(rt: HostRuntime) -> Result<(), Fail> {
-    let mut state = state_of(rt.alloc(), TWO_TIMES.as_bytes())?;
+fn a_search_takes_the_least_total(rt: HostRuntime) {
+    let mut state = state_of(rt.alloc(), TWO_TIMES.as_bytes()).expect(&rt, "state");
     assert!(rt; search(rt.alloc(), &mut state, 1, 1, &mut Silent) == Ok(1));
     assert!(rt; totals(&state) == (0, 0));
     drop(state);
-    Ok(())
 }
 
 #[test]
-fn a_repair_keeps_to_what_is_published(rt: HostRuntime) -> Result<(), Fail> {
-    let problem = read(rt.alloc(), TWO_TIMES.as_bytes())?;
+fn a_repair_keeps_to_what_is_published(rt: HostRuntime) {
+    let problem = read(rt.alloc(), TWO_TIMES.as_bytes()).expect(&rt, "problem");
     let published = published(rt.alloc(), &problem).expect(&rt, "published");
     let mut state = State::start(rt.alloc(), problem).expect(&rt, "memory");
     assert!(rt; repair(rt.alloc(), &mut state, &published, 1, 1, &mut Silent) == Ok(1));
     assert!(rt; totals(&state) == (5, 0));
     drop(state);
     drop(published);
-    Ok(())
 }
 
 #[test]
-fn what_is_published_is_recalled(rt: HostRuntime) -> Result<(), Fail> {
-    let problem = read(rt.alloc(), TWO_TIMES.as_bytes())?;
+fn what_is_published_is_recalled(rt: HostRuntime) {
+    let problem = read(rt.alloc(), TWO_TIMES.as_bytes()).expect(&rt, "problem");
     let published = published(rt.alloc(), &problem).expect(&rt, "published");
     let mut state = State::start(rt.alloc(), problem).expect(&rt, "memory");
     assert!(rt; recall(rt.alloc(), &mut state, &published) == Ok(()));
@@ -152,12 +152,11 @@ fn what_is_published_is_recalled(rt: HostRuntime) -> Result<(), Fail> {
     assert!(rt; state.totals().unsectioned == 0);
     drop(state);
     drop(published);
-    Ok(())
 }
 
 #[test]
-fn a_recalled_class_loses_its_lock_where_it_moves(rt: HostRuntime) -> Result<(), Fail> {
-    let problem = read(rt.alloc(), TWO_TIMES.as_bytes())?;
+fn a_recalled_class_loses_its_lock_where_it_moves(rt: HostRuntime) {
+    let problem = read(rt.alloc(), TWO_TIMES.as_bytes()).expect(&rt, "problem");
     let published = published(rt.alloc(), &problem).expect(&rt, "published");
     let mut state = State::start(rt.alloc(), problem).expect(&rt, "memory");
     assert!(rt; assigns(&mut state, 0, 2, None));
@@ -173,12 +172,11 @@ fn a_recalled_class_loses_its_lock_where_it_moves(rt: HostRuntime) -> Result<(),
     assert!(rt; state.is_locked(0));
     drop(state);
     drop(published);
-    Ok(())
 }
 
 #[test]
-fn a_search_pushes_no_locked_class_out(rt: HostRuntime) -> Result<(), Fail> {
-    let mut state = state_of(rt.alloc(), ONE_ROOM.as_bytes())?;
+fn a_search_pushes_no_locked_class_out(rt: HostRuntime) {
+    let mut state = state_of(rt.alloc(), ONE_ROOM.as_bytes()).expect(&rt, "state");
     assert!(rt; assigns(&mut state, 0, 1, Some(1)));
     assert!(rt; locks(&mut state, 0));
     let mut watcher = Counting::new();
@@ -187,21 +185,19 @@ fn a_search_pushes_no_locked_class_out(rt: HostRuntime) -> Result<(), Fail> {
     assert!(rt; totals(&state) == (9, 1));
     assert!(rt; state.is_locked(0));
     drop(state);
-    Ok(())
 }
 
 #[test]
-fn a_class_is_placed_by_turns_that_learn(rt: HostRuntime) -> Result<(), Fail> {
-    let mut state = state_of(rt.alloc(), ONE_TIME.as_bytes())?;
+fn a_class_is_placed_by_turns_that_learn(rt: HostRuntime) {
+    let mut state = state_of(rt.alloc(), ONE_TIME.as_bytes()).expect(&rt, "state");
     assert!(rt; place(rt.alloc(), &mut state, 5, 1, &mut Silent) == Ok(1));
     assert!(rt; totals(&state) == (8, 0));
     drop(state);
-    Ok(())
 }
 
 #[test]
-fn turns_that_learn_are_told_and_undone(rt: HostRuntime) -> Result<(), Fail> {
-    let mut state = state_of(rt.alloc(), ONE_OF_TWO.as_bytes())?;
+fn turns_that_learn_are_told_and_undone(rt: HostRuntime) {
+    let mut state = state_of(rt.alloc(), ONE_OF_TWO.as_bytes()).expect(&rt, "state");
     let mut watcher = Counting::new();
     assert!(rt; place(rt.alloc(), &mut state, 3, 1, &mut watcher) == Ok(3));
     let last = Progress::Turns {
@@ -215,17 +211,15 @@ fn turns_that_learn_are_told_and_undone(rt: HostRuntime) -> Result<(), Fail> {
     assert!(rt; state.undo());
     assert!(rt; totals(&state) == (0, 2));
     drop(state);
-    Ok(())
 }
 
 #[test]
-fn turns_that_learn_push_no_locked_class_out(rt: HostRuntime) -> Result<(), Fail> {
-    let mut state = state_of(rt.alloc(), ONE_OF_TWO.as_bytes())?;
+fn turns_that_learn_push_no_locked_class_out(rt: HostRuntime) {
+    let mut state = state_of(rt.alloc(), ONE_OF_TWO.as_bytes()).expect(&rt, "state");
     assert!(rt; assigns(&mut state, 0, 1, Some(1)));
     assert!(rt; locks(&mut state, 0));
     assert!(rt; place(rt.alloc(), &mut state, 5, 1, &mut Silent) == Ok(5));
     assert!(rt; totals(&state) == (0, 1));
     assert!(rt; state.is_locked(0));
     drop(state);
-    Ok(())
 }

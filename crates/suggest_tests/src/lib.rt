@@ -1,5 +1,0 @@
-//! Tests of suggestions. It has no code of its own.
-#![tactic(auto)]
-
-#[cfg(test)]
-mod answer_tests;
