@@ -141,6 +141,34 @@ fn a_list_out_of_order_is_walked(rt: HostRuntime) {
     assert!(rt; walked(rt.alloc()) == Ok([Some(5), Some(9), Some(2), None]));
 }
 
+// Puts three items into an empty list, each before the others, and takes the one between out at its
+// node: the items before and after.
+fn put_first(pool: &mut Pool) -> ([Option<u32>; 4], [Option<u32>; 4])
+    requires lists { pool.old.lists ≡ [] ∷ [] }
+    requires nodes { pool.old.nodes ≡ [] ∷ [] }
+    requires spare { pool.old.spare ≡ 4 }
+{
+    pool.insert_first(0, 2);
+    let node = pool.insert_first(0, 9);
+    pool.insert_first(0, 5);
+    let items = first_items(pool, 0);
+    pool.remove_at_node(0, 9, node);
+    (items, first_items(pool, 0))
+}
+
+// The same of a new list.
+fn put_and_taken(alloc: Global) -> Result<([Option<u32>; 4], [Option<u32>; 4]), AllocError> {
+    let mut pool = Pool::new(alloc, 1, 4)?;
+    Ok(put_first(&mut pool))
+}
+
+#[test]
+fn an_item_that_came_first_goes_at_its_node(rt: HostRuntime) {
+    let items = [Some(5), Some(9), Some(2), None];
+    let left = [Some(5), Some(2), None, None];
+    assert!(rt; put_and_taken(rt.alloc()) == Ok((items, left)));
+}
+
 // How many items find room in a new pool.
 fn spare_of(alloc: Global, lists: u32, most: u32) -> Result<u32, AllocError>
     requires lists { lists ≤ 20000 }

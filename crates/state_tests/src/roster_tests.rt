@@ -24,9 +24,38 @@ fn seats_a_student(problem: &Problem, roster: &mut Roster) -> bool
     roster.seat(problem, 1, 2);
     let with = [roster.count(2), roster.count(0)] == [1, 0];
     let class = roster.classes(1).next();
-    let student = roster.students(2).next();
     roster.leave(problem, 1, 2);
-    with && [class, student] == [Some(2), Some(1)] && roster.count(2) == 0
+    with && class == Some(2) && roster.count(2) == 0
+}
+
+// Whether both students have a class, and come in order.
+fn has_both(alloc: Global, roster: &Roster, class: u32) -> Result<bool, AllocError> {
+    let students = roster.students(alloc, class)?;
+    Ok(students.as_slice() == [0, 1].as_slice())
+}
+
+// Whether the students of a class come in order, whoever of the two came last.
+fn seats_both_students(
+    alloc: Global,
+    problem: &Problem,
+    roster: &mut Roster,
+) -> Result<bool, AllocError>
+    requires fits { IsRosterOf problem.now roster.old }
+    requires seats { roster.old.seats ≡ replicate (length problem.now.students) [] }
+{
+    if problem.class_count() != 3 || problem.student_count() != 2 {
+        return Ok(false);
+    }
+    if problem.most_seats(0) != 2 || problem.most_seats(1) != 2 {
+        return Ok(false);
+    }
+    roster.seat(problem, 1, 2);
+    roster.seat(problem, 0, 2);
+    let first = has_both(alloc, roster, 2)?;
+    roster.leave(problem, 1, 2);
+    roster.seat(problem, 1, 2);
+    let second = has_both(alloc, roster, 2)?;
+    Ok(first && second)
 }
 
 // Whether a class of a new roster takes a spot and leaves it, without a conflict where nobody has
@@ -77,6 +106,22 @@ fn seats_in_a_roster(alloc: Global, problem: &Problem) -> Result<bool, AllocErro
 fn a_student_gets_a_class_and_leaves_it(rt: HostRuntime) -> Result<(), Fail> {
     let problem = problem(rt.alloc())?;
     let shown = seats_in_a_roster(rt.alloc(), &problem);
+    drop(problem);
+    assert_eq!(rt; shown, Ok(true));
+    Ok(())
+}
+
+// The same of a roster that is made, where nobody has the class at first.
+fn seats_both_in_a_roster(alloc: Global, problem: &Problem) -> Result<bool, AllocError> {
+    let mut roster = Roster::new(alloc, problem)?;
+    let nobody = roster.students(alloc, 2)?.is_empty();
+    Ok(seats_both_students(alloc, problem, &mut roster)? && nobody)
+}
+
+#[test]
+fn students_of_a_class_come_in_order(rt: HostRuntime) -> Result<(), Fail> {
+    let problem = problem(rt.alloc())?;
+    let shown = seats_both_in_a_roster(rt.alloc(), &problem);
     drop(problem);
     assert_eq!(rt; shown, Ok(true));
     Ok(())

@@ -1,10 +1,10 @@
 //! Many lists of numbers in one vector of nodes. After any calls each list is what `insert`,
-//! `insert_in_order`, `remove`, `remove_item` and `remove_at_node` make of it, and `spare` is how
-//! many items more find room (`lists`, `spare`). Where it is told (`nodes`), an item stands at one
-//! node until it goes, and by that goes without a walk. Only `new` takes memory.
+//! `insert_first`, `insert_in_order`, `remove`, `remove_item` and `remove_at_node` make of it, and
+//! `spare` is how many items more find room (`lists`, `spare`). Where it is told (`nodes`), an item
+//! stands at one node until it goes, and by that goes without a walk. Only `new` takes memory.
 #![tactic(auto)]
 
-ghost use Rattle.std.specs.Prelude.{◌≡◌, ℕ, ◌==◌, ◌+◌, ◌<◌, ◌≤◌, List, [], length, map, IfOk, nat_lt, slice_index, slice_set, replicate, count_by};
+ghost use Rattle.std.specs.Prelude.{◌≡◌, ℕ, ◌==◌, ◌+◌, ◌<◌, ◌≤◌, List, [], ◌∷◌, length, map, IfOk, nat_lt, slice_index, slice_set, replicate, count_by};
 ghost use Rattle.std.specs.List.{insert, remove, position_or_len};
 ghost use Rattle.std.specs.Iterator.{YieldsFirst, item_count};
 ghost use Rattle.tt_pool.specs.Chains.{after, path, item_of};
@@ -16,7 +16,7 @@ mod places;
 
 use chain::{Chain, Link, Node, put, take, walk};
 pub use order::place_in_order;
-use places::{next_place, place_at, place_to_put, place_to_take};
+use places::{Place, next_place, place_at, place_to_put, place_to_take};
 use std::alloc::{AllocError, Global};
 use std::marker::Model;
 
@@ -101,17 +101,37 @@ impl Pool {
         self.free = put(nodes, lists, backs, self.free, list, place, item);
     }
 
-    /// Puts an item into a list, before the first that is above it. Answers the node at which it
-    /// stands from then on.
-    pub fn insert_in_order(&mut self, list: u32, item: u32) -> u32
+    /// Puts an item into a list, before all others. Answers the node at which it stands from then on.
+    pub fn insert_first(&mut self, list: u32, item: u32) -> u32
+        requires list { list < length self.old.lists }
+        requires spare { 1 ≤ self.old.spare }
+        ensures lists { self.new.lists
+            ≡ slice_set self.old.lists list (item ∷ list_at self.old list) }
+        ensures nodes { self.new.nodes
+            ≡ slice_set self.old.nodes list (result ∷ nodes_at self.old list) }
+        ensures spare { self.new.spare + 1 ≡ self.old.spare }
+    {
+        let nodes = self.nodes.as_mut_slice();
+        let lists = self.lists.as_mut_slice();
+        let backs = self.backs.as_mut_slice();
+        let node = self.free.first.0;
+        let place = Place {
+            at: 0,
+            before: self.free.first,
+        };
+        self.ordered = false;
+        self.free = put(nodes, lists, backs, self.free, list, place, item);
+        node
+    }
+
+    /// Puts an item into a list, before the first that is above it.
+    pub fn insert_in_order(&mut self, list: u32, item: u32)
         requires list { list < length self.old.lists }
         requires spare { 1 ≤ self.old.spare }
         ensures lists { self.new.lists
             ≡ slice_set self.old.lists list (insert (list_at self.old list)
             (position_or_len (nat_lt item) (list_at self.old list)) item) }
-        ensures nodes { self.new.nodes
-            ≡ slice_set self.old.nodes list (insert (nodes_at self.old list)
-            (position_or_len (nat_lt item) (list_at self.old list)) result) }
+        ensures others { KeepsNodes list self.old self.new }
         ensures spare { self.new.spare + 1 ≡ self.old.spare }
     {
         let nodes = self.nodes.as_mut_slice();
@@ -120,9 +140,7 @@ impl Pool {
         let end = nodes.len() + list as usize;
         let chain = lists[list as usize];
         let place = place_to_put(nodes, backs, chain, end, self.ordered, item);
-        let node = self.free.first.0;
         self.free = put(nodes, lists, backs, self.free, list, place, item);
-        node
     }
 
     /// Takes the item at a place out of a list.

@@ -1,16 +1,18 @@
--- The nodes that stand beside the classes of a row, and those of the students of a class.
-use Rattle.std.proofs.Common.{◌≡◌, ◌≢◌, ◌∙◌, ℕ, ◌+◌, ◌<◌, Bool, true, false, List, [], ◌∷◌, length, get_or, drop, map, replicate, nat_eq, nat_lt, refl, sym, ap, zero, suc, arith, inl, inr}
+-- The nodes that stand beside the classes of a row, and those at which the students of a class stand.
+use Rattle.std.proofs.Common.{◌≡◌, ◌≢◌, ◌∙◌, ℕ, ◌<◌, Bool, true, false, List, [], ◌∷◌, length, get_or, drop, map, replicate, nat_eq, nat_lt, refl, sym, ap, zero, suc, arith, inl, inr}
 use Rattle.std.specs.Prelude.{slice_set, slice_index, slice_index_or, ◌==◌}
 use Rattle.std.specs.List.{insert, remove, position_or_len}
 use Rattle.std.proofs.lemmas.Bool.{cases_Bool, cases_eq, cases_lt, eq-eqb, ne_eqb, lt-ltb, le-ltb}
-use Rattle.std.proofs.lemmas.List.{get_or-set_same, get_or-set_other}
+use Rattle.std.proofs.lemmas.List.{get_or-set_same, get_or-set_other, get_or_read}
 use Rattle.std.proofs.Math.Seq.{drop-cons}
 use Rattle.tt_base.specs.Lists.{is_listed}
-use Rattle.tt_pool.specs.Places.{places_where}
+use Rattle.tt_pool.specs.Chains.{uses}
+use Rattle.tt_pool.proofs.Paths.{uses_other}
 use Rattle.tt_roster.specs.Listed.{ListedClasses, node_in, node_of}
-use Rattle.tt_roster.specs.Seen.{classes_in, picked, nodes_of}
-use Rattle.tt_roster.specs.Lists.{Ascends, with_class, without_class, students_of}
-use Rattle.tt_roster.proofs.ListLemmas.{has-with, has-without}
+use Rattle.tt_roster.specs.Attendees.{AreNodesOf}
+use Rattle.tt_roster.specs.Seen.{classes_in, no_row, row_at}
+use Rattle.tt_roster.specs.Lists.{Ascends, with_class, without_class, list_of}
+use Rattle.tt_roster.proofs.ListLemmas.{has-without}
 use Rattle.tt_roster.proofs.StudentLemmas.{has-with_other, has-without_other, no_list}
 
 -- where a class stands in a list, place by place
@@ -95,146 +97,125 @@ node_in-less other class (a ∷ list) (n ∷ nodes) len ne = elim (cases_eq clas
       rw (position_behind (nat_eq class) a list (ne_eqb class a apart), node_in-less other class list nodes (omega (arith, len)) ne) refl
 ]
 
--- all places are at `from` or behind it
-none_above : {A : Type 0} (f : A → Bool) (k from : ℕ) (xs : List A) → k < from → position_or_len (nat_lt k) (places_where f from xs) ≡ 0
-none_above f k from [] lt = refl
-none_above f k from (x ∷ xs) lt = elim (cases_Bool (f x)) [
-  | inl passes ↦ rw (passes, lt-ltb k from lt) refl
-  | inr fails ↦ rw fails (none_above f k (from + 1) xs (omega arith))
+-- the node of another in a list, where one is gone
+node-left : (s gone : ℕ) (list nodes : List ℕ) → s ≢ gone → 0 < uses gone list
+    → slice_index (remove nodes (position_or_len (λ x. x == gone) list)) (position_or_len (λ x. x == s) (remove list (position_or_len (λ x. x == gone) list))) ≡ slice_index nodes (position_or_len (λ x. x == s) list)
+node-left s gone [] nodes ne found = absurd (omega (arith, found))
+node-left s gone (a ∷ list) nodes ne found = elim (cases_eq a gone) [
+  | inl same ↦
+      let other : (a == s) ≡ false = ne_eqb a s (λ e. ne (sym e ∙ same)) in
+      rw (position_first (λ x. x == gone) a list (eq-eqb a gone same), position_behind (λ x. x == s) a list other) (without_first nodes (position_or_len (λ x. x == s) list))
+  | inr apart ↦
+      let rest = node-left s gone list in
+      let there : 0 < uses gone list = omega (arith, found, uses_other gone a list apart) in
+      rw (position_behind (λ x. x == gone) a list (ne_eqb a gone apart)) (elim (cases_Bool (a == s)) [
+        | inl here ↦ rw (position_first (λ x. x == s) a list here, position_first (λ x. x == s) a (remove list (position_or_len (λ x. x == gone) list)) here) (first_kept nodes (position_or_len (λ x. x == gone) list))
+        | inr other ↦
+            rw (position_behind (λ x. x == s) a list other, position_behind (λ x. x == s) a (remove list (position_or_len (λ x. x == gone) list)) other)
+            (behind nodes (position_or_len (λ x. x == gone) list) (position_or_len (λ x. x == s) (remove list (position_or_len (λ x. x == gone) list))) (position_or_len (λ x. x == s) list) (λ l. rest l ne there))
+      ])
 ]
+  where
+    without_first : (ns : List ℕ) (k : ℕ) → slice_index (remove ns 0) k ≡ slice_index ns (suc k)
+    without_first [] k = refl
+    without_first (n ∷ ns) k = refl
 
--- an element that comes to pass: what it gives comes in, at its place in order
-picked-more : {A : Type 0} (f : A → Bool) (g : A → ℕ) (from i : ℕ) (xs : List A) (x d : A) → i < length xs → f x ≡ true → f (slice_index_or xs i d) ≡ false
-    → picked f g (slice_set xs i x) ≡ insert (picked f g xs) (position_or_len (nat_lt (from + i)) (places_where f from xs)) (g x)
-picked-more f g from i [] x d lt passes failed = absurd (omega (arith, lt))
-picked-more f g from zero (a ∷ xs) x d lt passes failed =
-    let same : from + 0 ≡ from = omega arith in
-    rw (passes, failed, same, none_above f from (from + 1) xs (omega arith)) refl
-picked-more f g from (suc i) (a ∷ xs) x d lt passes failed =
-    let same : from + 1 + i ≡ from + suc i = omega arith in
-    let rest = rw same at (picked-more f g (from + 1) i xs x d (omega (arith, lt)) passes failed) in
-    elim (cases_Bool (f a)) [
-      | inl has ↦
-          let fails : nat_lt (from + suc i) from ≡ false = le-ltb (from + suc i) from (omega arith) in
-          rw (has, position_behind (nat_lt (from + suc i)) from (places_where f (from + 1) xs) fails) (ap (λ l. g a ∷ l) rest)
-      | inr none ↦ rw none rest
-    ]
+    first_kept : (ns : List ℕ) (q : ℕ) → slice_index (remove ns (suc q)) 0 ≡ slice_index ns 0
+    first_kept [] q = refl
+    first_kept (n ∷ ns) q = refl
 
--- an element that no longer passes: what it gave goes
-picked-less : {A : Type 0} (f : A → Bool) (g : A → ℕ) (from i : ℕ) (xs : List A) (x d : A) → i < length xs → f x ≡ false → f (slice_index_or xs i d) ≡ true
-    → picked f g (slice_set xs i x) ≡ remove (picked f g xs) (position_or_len (λ y. y == from + i) (places_where f from xs))
-picked-less f g from i [] x d lt fails passed = absurd (omega (arith, lt))
-picked-less f g from zero (a ∷ xs) x d lt fails passed =
-    let same : from + 0 ≡ from = omega arith in
-    rw (fails, passed, same, eq-eqb from from refl) refl
-picked-less f g from (suc i) (a ∷ xs) x d lt fails passed =
-    let same : from + 1 + i ≡ from + suc i = omega arith in
-    let rest = rw same at (picked-less f g (from + 1) i xs x d (omega (arith, lt)) fails passed) in
-    elim (cases_Bool (f a)) [
-      | inl has ↦
-          let other : (from == from + suc i) ≡ false = ne_eqb from (from + suc i) (λ e. absurd (omega (arith, e))) in
-          rw (has, position_behind (λ y. y == from + suc i) from (places_where f (from + 1) xs) other) (ap (λ l. g a ∷ l) rest)
-      | inr none ↦ rw none rest
-    ]
+    behind : (ns : List ℕ) (q k m : ℕ) → ((l : List ℕ) → slice_index (remove l q) k ≡ slice_index l m) → slice_index (remove ns (suc q)) (suc k) ≡ slice_index ns (suc m)
+    behind [] q k m is = refl
+    behind (n ∷ ns) q k m is = is ns
 
--- what an element that passes gives stands at its place
-picked-at : {A : Type 0} (f : A → Bool) (g : A → ℕ) (from i : ℕ) (xs : List A) (d : A) → i < length xs → f (slice_index_or xs i d) ≡ true
-    → slice_index (picked f g xs) (position_or_len (λ y. y == from + i) (places_where f from xs)) ≡ g (slice_index_or xs i d)
-picked-at f g from i [] d lt passes = absurd (omega (arith, lt))
-picked-at f g from zero (a ∷ xs) d lt passes =
-    let same : from + 0 ≡ from = omega arith in
-    rw (passes, same, eq-eqb from from refl) refl
-picked-at f g from (suc i) (a ∷ xs) d lt passes =
-    let same : from + 1 + i ≡ from + suc i = omega arith in
-    let rest = rw same at (picked-at f g (from + 1) i xs d (omega (arith, lt)) passes) in
-    elim (cases_Bool (f a)) [
-      | inl has ↦
-          let other : (from == from + suc i) ≡ false = ne_eqb from (from + suc i) (λ e. absurd (omega (arith, e))) in
-          rw (has, position_behind (λ y. y == from + suc i) from (places_where f (from + 1) xs) other) rest
-      | inr none ↦ rw none rest
-    ]
-
--- an element that becomes another of the same answer, which gives the same: nothing changes
-picked-same : {A : Type 0} (f : A → Bool) (g : A → ℕ) (i : ℕ) (xs : List A) (x d : A) → i < length xs → f x ≡ f (slice_index_or xs i d)
-    → g x ≡ g (slice_index_or xs i d) → picked f g (slice_set xs i x) ≡ picked f g xs
-picked-same f g i [] x d lt same gives = absurd (omega (arith, lt))
-picked-same f g zero (a ∷ xs) x d lt same gives = rw (same, gives) refl
-picked-same f g (suc i) (a ∷ xs) x d lt same gives = rw (picked-same f g i xs x d (omega (arith, lt)) same gives) refl
-
--- the places of rows are those of their lists
-places-rows : (class from : ℕ) (rows : List ListedClasses)
-    → places_where (λ (row : ListedClasses). is_listed class row.classes) from rows ≡ places_where (is_listed class) from (map classes_in rows)
-places-rows class from [] = refl
-places-rows class from (row ∷ rows) = rw (places-rows class (from + 1) rows) refl
+-- the row of a student has the student's list
+pub list-row : (rows : List ListedClasses) (student : ℕ) → list_of (map classes_in rows) student ≡ (row_at rows student).classes
+list-row [] student = refl
+list-row (row ∷ rows) zero = refl
+list-row (row ∷ rows) (suc student) = list-row rows student
 
 -- the nodes are those of the students who have each class
-abbrev AreNodes : List (List ℕ) → List ListedClasses → Type 0
-AreNodes nodes rows = (class : ℕ) → slice_index_or nodes class [] ≡ nodes_of rows class
+abbrev AreNodes : List (List ℕ) → List (List ℕ) → List ListedClasses → Type 0
+AreNodes nodes lists rows = (class : ℕ) → AreNodesOf (slice_index_or nodes class []) (slice_index_or lists class []) rows class
+
+-- where a row becomes another, which has of another class what it had, the nodes of that class stay
+nodes-other : (nodes students : List ℕ) (rows : List ListedClasses) (student class : ℕ) (row new : ListedClasses) → AreNodesOf nodes students rows class → student < length rows
+    → row ≡ row_at rows student → is_listed class new.classes ≡ is_listed class row.classes → node_of new class ≡ node_of row class
+    → AreNodesOf nodes students (slice_set rows student new) class
+nodes-other nodes students rows student class row new are lt at_row same gives = λ s has. elim (cases_eq s student) [
+  | inl at ↦
+      let now : row_at (slice_set rows student new) s ≡ new = ap (row_at (slice_set rows student new)) at ∙ get_or-set_same rows student new no_row lt in
+      let was : row_at rows s ≡ row = ap (row_at rows) at ∙ sym at_row in
+      let had : is_listed class (row_at rows s).classes ≡ true =
+      ap (λ (r : ListedClasses). is_listed class r.classes) was ∙ sym same ∙ ap (λ (r : ListedClasses). is_listed class r.classes) (sym now) ∙ has in
+      are s had ∙ ap (λ (r : ListedClasses). node_of r class) was ∙ sym gives ∙ ap (λ (r : ListedClasses). node_of r class) (sym now)
+  | inr apart ↦
+      let kept : row_at (slice_set rows student new) s ≡ row_at rows s = get_or-set_other rows student s new no_row apart in
+      are s (ap (λ (r : ListedClasses). is_listed class r.classes) (sym kept) ∙ has) ∙ ap (λ (r : ListedClasses). node_of r class) (sym kept)
+]
 
 -- the nodes, where a student gets a class
-pub nodes-seat : (lists nodes : List (List ℕ)) (rows : List ListedClasses) (student class node : ℕ) (row new : ListedClasses) → AreNodes nodes rows
-    → slice_index_or lists class [] ≡ students_of (map classes_in rows) class → student < length rows → class < length nodes
-    → row ≡ get_or rows student row → is_listed class row.classes ≡ false → new.classes ≡ with_class class row.classes → node_of new class ≡ node
+pub nodes-seat : (lists nodes : List (List ℕ)) (rows : List ListedClasses) (student class node : ℕ) (row new : ListedClasses) → AreNodes nodes lists rows
+    → student < length rows → class < length lists → class < length nodes → row ≡ get_or rows student row → new.classes ≡ with_class class row.classes → node_of new class ≡ node
     → ((other : ℕ) → other ≢ class → node_of new other ≡ node_of row other)
-    → AreNodes (slice_set nodes class (insert (slice_index_or nodes class []) (position_or_len (nat_lt student) (slice_index_or lists class [])) node)) (slice_set rows student new)
-nodes-seat lists nodes rows student class node row new are listed lt within at_row free classes beside others = λ other.
-    let start : 0 + student ≡ student = omega arith in
+    → AreNodes (slice_set nodes class (node ∷ slice_index_or nodes class [])) (slice_set lists class (student ∷ slice_index_or lists class [])) (slice_set rows student new)
+nodes-seat lists nodes rows student class node row new are lt within within_nodes read classes beside others = λ other.
+    let at_row : row ≡ row_at rows student = get_or_read rows student row lt read no_row in
+    let old = slice_index_or lists class [] in
     elim (cases_eq other class) [
       | inl same ↦
-          let has : is_listed class new.classes ≡ true = rw classes (has-with class row.classes) in
-          let had : is_listed class (get_or rows student row).classes ≡ false = rw (← at_row) free in
-          let more = picked-more (λ (r : ListedClasses). is_listed class r.classes) (λ (r : ListedClasses). node_of r class) 0 student rows new row lt has had in
-          rw (same, get_or-set_same nodes class (insert (slice_index_or nodes class []) (position_or_len (nat_lt student) (slice_index_or lists class [])) node) [] within, are class, listed)
-          (sym (rw (start, beside, places-rows class 0 rows) at more))
+          rw (same, get_or-set_same lists class (student ∷ old) [] within, get_or-set_same nodes class (node ∷ slice_index_or nodes class []) [] within_nodes) (λ s has. elim (cases_eq s student) [
+            | inl at ↦
+                let now : row_at (slice_set rows student new) s ≡ new = ap (row_at (slice_set rows student new)) at ∙ get_or-set_same rows student new no_row lt in
+                rw (position_first (λ x. x == s) student old (eq-eqb student s (sym at)), now) (sym beside)
+            | inr apart ↦
+                let kept : row_at (slice_set rows student new) s ≡ row_at rows s = get_or-set_other rows student s new no_row apart in
+                rw (position_behind (λ x. x == s) student old (ne_eqb student s (λ e. apart (sym e))), kept) (are class s (ap (λ (r : ListedClasses). is_listed class r.classes) (sym kept) ∙ has))
+          ])
       | inr apart ↦
-          let has : is_listed other new.classes ≡ is_listed other (get_or rows student row).classes = rw (← at_row, classes) (has-with_other other class row.classes apart) in
-          let gives : node_of new other ≡ node_of (get_or rows student row) other = rw (← at_row) (others other apart) in
-          get_or-set_other nodes class other _ [] apart ∙ are other
-          ∙ sym (picked-same (λ (r : ListedClasses). is_listed other r.classes) (λ (r : ListedClasses). node_of r other) student rows new row lt has gives)
+          rw (get_or-set_other lists class other (student ∷ old) [] apart, get_or-set_other nodes class other (node ∷ slice_index_or nodes class []) [] apart)
+          (nodes-other (slice_index_or nodes other []) (slice_index_or lists other []) rows student other row new (are other) lt at_row
+          (ap (is_listed other) classes ∙ has-with_other other class row.classes apart) (others other apart))
     ]
 
 -- the nodes, where a class goes from a student
-pub nodes-leave : (lists nodes : List (List ℕ)) (rows : List ListedClasses) (student class after : ℕ) (row new : ListedClasses) → AreNodes nodes rows
-    → slice_index_or lists class [] ≡ students_of (map classes_in rows) class → student < length rows → class < length nodes
-    → row ≡ get_or rows student row → Ascends 0 after row.classes → is_listed class row.classes ≡ true → new.classes ≡ without_class class row.classes
+pub nodes-leave : (lists nodes : List (List ℕ)) (rows : List ListedClasses) (student class after : ℕ) (row new : ListedClasses) → AreNodes nodes lists rows
+    → student < length rows → class < length lists → class < length nodes → row ≡ get_or rows student row → 0 < uses student (slice_index_or lists class [])
+    → Ascends 0 after row.classes → is_listed class row.classes ≡ true → new.classes ≡ without_class class row.classes
     → ((other : ℕ) → other ≢ class → node_of new other ≡ node_of row other)
-    → AreNodes (slice_set nodes class (remove (slice_index_or nodes class []) (position_or_len (λ x. x == student) (slice_index_or lists class [])))) (slice_set rows student new)
-nodes-leave lists nodes rows student class after row new are listed lt within at_row up had classes others = λ other.
-    let start : 0 + student ≡ student = omega arith in
+    → AreNodes (slice_set nodes class (remove (slice_index_or nodes class []) (position_or_len (λ x. x == student) (slice_index_or lists class []))))
+    (slice_set lists class (remove (slice_index_or lists class []) (position_or_len (λ x. x == student) (slice_index_or lists class [])))) (slice_set rows student new)
+nodes-leave lists nodes rows student class after row new are lt within within_nodes read found up had classes others = λ other.
+    let at_row : row ≡ row_at rows student = get_or_read rows student row lt read no_row in
+    let old = slice_index_or lists class [] in
+    let place = position_or_len (λ x. x == student) old in
     elim (cases_eq other class) [
       | inl same ↦
-          let gone : is_listed class new.classes ≡ false = rw classes (has-without class 0 after row.classes up) in
-          let here : is_listed class (get_or rows student row).classes ≡ true = rw (← at_row) had in
-          let less = picked-less (λ (r : ListedClasses). is_listed class r.classes) (λ (r : ListedClasses). node_of r class) 0 student rows new row lt gone here in
-          rw (same, get_or-set_same nodes class (remove (slice_index_or nodes class []) (position_or_len (λ x. x == student) (slice_index_or lists class []))) [] within, are class, listed)
-          (sym (rw (start, places-rows class 0 rows) at less))
+          rw (same, get_or-set_same lists class (remove old place) [] within, get_or-set_same nodes class (remove (slice_index_or nodes class []) place) [] within_nodes) (λ s has. elim (cases_eq s student) [
+            | inl at ↦
+                let now : row_at (slice_set rows student new) s ≡ new = ap (row_at (slice_set rows student new)) at ∙ get_or-set_same rows student new no_row lt in
+                let gone : is_listed class new.classes ≡ false = ap (is_listed class) classes ∙ has-without class 0 after row.classes up in
+                absurd (cc (has, now, gone))
+            | inr apart ↦
+                let kept : row_at (slice_set rows student new) s ≡ row_at rows s = get_or-set_other rows student s new no_row apart in
+                rw kept (node-left s student old (slice_index_or nodes class []) apart found ∙ are class s (ap (λ (r : ListedClasses). is_listed class r.classes) (sym kept) ∙ has))
+          ])
       | inr apart ↦
-          let has : is_listed other new.classes ≡ is_listed other (get_or rows student row).classes =
-          rw (← at_row, classes) (has-without_other other class 0 after row.classes up had apart) in
-          let gives : node_of new other ≡ node_of (get_or rows student row) other = rw (← at_row) (others other apart) in
-          get_or-set_other nodes class other _ [] apart ∙ are other
-          ∙ sym (picked-same (λ (r : ListedClasses). is_listed other r.classes) (λ (r : ListedClasses). node_of r other) student rows new row lt has gives)
+          rw (get_or-set_other lists class other (remove old place) [] apart, get_or-set_other nodes class other (remove (slice_index_or nodes class []) place) [] apart)
+          (nodes-other (slice_index_or nodes other []) (slice_index_or lists other []) rows student other row new (are other) lt at_row
+          (ap (is_listed other) classes ∙ has-without_other other class 0 after row.classes up had apart) (others other apart))
     ]
 
 -- a student who has a class stands at the node that the row has for it
-pub node-found : (lists nodes : List (List ℕ)) (rows : List ListedClasses) (student class node : ℕ) (row : ListedClasses) → AreNodes nodes rows
-    → slice_index_or lists class [] ≡ students_of (map classes_in rows) class → student < length rows
+pub node-found : (lists nodes : List (List ℕ)) (rows : List ListedClasses) (student class node : ℕ) (row : ListedClasses) → AreNodes nodes lists rows → student < length rows
     → row ≡ get_or rows student row → is_listed class row.classes ≡ true → node ≡ node_of row class
     → node ≡ slice_index (slice_index_or nodes class []) (position_or_len (λ x. x == student) (slice_index_or lists class []))
-node-found lists nodes rows student class node row are listed lt at_row had is =
-    let start : 0 + student ≡ student = omega arith in
-    let here : is_listed class (get_or rows student row).classes ≡ true = rw (← at_row) had in
-    let there = picked-at (λ (r : ListedClasses). is_listed class r.classes) (λ (r : ListedClasses). node_of r class) 0 student rows row lt here in
-    rw (are class, listed) (is ∙ sym (rw (start, ← at_row, places-rows class 0 rows) at there))
+node-found lists nodes rows student class node row are lt read had is =
+    let at_row : row ≡ row_at rows student = get_or_read rows student row lt read no_row in
+    is ∙ ap (λ (r : ListedClasses). node_of r class) at_row ∙ sym (are class student (ap (λ (r : ListedClasses). is_listed class r.classes) (sym at_row) ∙ had))
 
 -- nobody has a class, and no node stands beside one
-nobody_at : (class n : ℕ) (rows : List ListedClasses) → map classes_in rows ≡ replicate n [] → nodes_of rows class ≡ []
-nobody_at class n [] free = refl
-nobody_at class zero (row ∷ rows) free = absurd (omega (arith, ap length free))
-nobody_at class (suc n) (row ∷ rows) free =
-    let first : row.classes ≡ [] = ap (λ (l : List (List ℕ)). slice_index_or l 0 []) free in
-    rw first (nobody_at class n rows (ap (drop 1) free))
-
-pub nodes-none : (nodes : List (List ℕ)) (rows : List ListedClasses) (classes students : ℕ) → nodes ≡ replicate classes []
-    → map classes_in rows ≡ replicate students [] → AreNodes nodes rows
-nodes-none nodes rows classes students none free = λ class. rw none (no_list classes class ∙ sym (nobody_at class students rows free))
+pub nodes-none : (lists nodes : List (List ℕ)) (rows : List ListedClasses) (students : ℕ) → map classes_in rows ≡ replicate students [] → AreNodes nodes lists rows
+nodes-none lists nodes rows students free = λ class student has.
+    let none : (row_at rows student).classes ≡ [] = sym (list-row rows student) ∙ ap (λ (l : List (List ℕ)). list_of l student) free ∙ no_list students student in
+    absurd (cc (has, none))

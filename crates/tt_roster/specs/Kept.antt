@@ -6,9 +6,10 @@ use Rattle.tt_pool.specs.Pools.{list_at, nodes_at}
 use Rattle.tt_problem.specs.declared.parts.Parts.{Parts}
 use Rattle.tt_problem.specs.Seats.{most_seats}
 use Rattle.tt_roster.specs.declared.roster.Roster.TheInside.{Inside}
-use Rattle.tt_roster.specs.Seen.{classes_in, most_in, nodes_of, seen}
+use Rattle.tt_roster.specs.Attendees.{AreStudentsOf, AreNodesOf}
+use Rattle.tt_roster.specs.Seen.{classes_in, most_in, seen}
 use Rattle.tt_roster.specs.Rostered.{Rostered}
-use Rattle.tt_roster.specs.Lists.{Ascends, list_of, students_of}
+use Rattle.tt_roster.specs.Lists.{Ascends, list_of}
 use Rattle.tt_roster.specs.Conflicts.{student_conflicts}
 
 abbrev pub rostered : Inside → Rostered
@@ -22,10 +23,10 @@ pub record IsIndexed (r : Inside) : Type 0 where
   pub lists : All (Ascends 0 (length r.spots.items)) (map classes_in r.rows.items)
   -- each class has a list, of the students who have it
   pub long : length r.attendees.lists ≡ length r.spots.items
-  pub students : (class : ℕ) → list_at r.attendees class ≡ students_of (map classes_in r.rows.items) class
+  pub students : (class : ℕ) → AreStudentsOf (list_at r.attendees class) (map classes_in r.rows.items) class
   -- each row has for each of its classes the node at which the student stands there
   pub nodes_long : length r.attendees.nodes ≡ length r.spots.items
-  pub nodes : (class : ℕ) → nodes_at r.attendees class ≡ nodes_of r.rows.items class
+  pub nodes : (class : ℕ) → AreNodesOf (nodes_at r.attendees class) (list_at r.attendees class) r.rows.items class
   -- for each seat that the rows have room for, a seat is taken or spare
   pub spare : r.attendees.spare + sum_by length (map classes_in r.rows.items) ≡ sum (map most_in r.rows.items)
 

@@ -1,4 +1,4 @@
-use Rattle.std.proofs.Common.{◌≡◌, ◌∙◌, ap, List, [], ℕ}
+use Rattle.std.proofs.Common.{◌≡◌, ◌∙◌, ap, List, [], ℕ, get_or-set_other}
 use Rattle.std.specs.Prelude.{slice_set, slice_index_or, nat_lt}
 use Rattle.std.specs.List.{insert, position_or_len}
 use Rattle.std.proofs.lemmas.List.{with_items_is}
@@ -85,19 +85,15 @@ invariant_of-self c =
     ∙ ap (λ (t : List (List ℕ)). slice_set t c.args.list (insert (slice_index_or t c.args.list []) c.place_to_put-place.result.at c.args.item)) same
     ∙ ap (λ (at : ℕ). slice_set c.args.self.now.lists c.args.list (insert (slice_index_or c.args.self.now.lists c.args.list []) at c.args.item)) at_is))
 
-pub returns-clause-nodes : goal.returns-clause-nodes
-returns-clause-nodes c =
-    let is = ap (λ (p : Pooled). p.lists) c.self.view_is in
-    let at_is : c.place_to_put-place.result.at ≡ position_or_len (nat_lt c.args.item) (slice_index_or c.args.self.now.lists c.args.list []) =
-    c.place_to_put-place.ensures.at
-    ∙ ap (position_or_len (nat_lt c.args.item))
-    (rw (c.as_mut_slice-nodes.ensures.value, c.as_mut_slice-lists.ensures.value) (seen-items_at _ _ _ c.args.list is c.requires.list)) in
+pub returns-clause-others : goal.returns-clause-others
+returns-clause-others c other ne =
     let same : chains_of c.as_mut_slice-nodes.result.now c.as_mut_slice-lists.result.now ≡ c.args.self.now.nodes =
     rw (c.as_mut_slice-nodes.ensures.value, c.as_mut_slice-lists.ensures.value) (ap (λ (p : Pooled). p.nodes) c.self.view_is) in
     rw (
       with_items_is c.self.inside.nodes c.put-self-inside.new.nodes (c.put-self-inside.auto.nodes ∙ c.as_mut_slice-nodes.ensures.len),
       with_items_is c.self.inside.lists c.put-self-inside.new.lists (c.put-self-inside.auto.lists ∙ c.as_mut_slice-lists.ensures.len),
     )
+    (ap (λ (t : List (List ℕ)). slice_index_or t other [])
     (c.put-self-inside.ensures.chains
-    ∙ ap (λ (t : List (List ℕ)). slice_set t c.args.list (insert (slice_index_or t c.args.list []) c.place_to_put-place.result.at c.self.inside.free.first.0)) same
-    ∙ ap (λ (at : ℕ). slice_set c.args.self.now.nodes c.args.list (insert (slice_index_or c.args.self.now.nodes c.args.list []) at c.self.inside.free.first.0)) at_is)
+    ∙ ap (λ (t : List (List ℕ)). slice_set t c.args.list (insert (slice_index_or t c.args.list []) c.place_to_put-place.result.at c.self.inside.free.first.0)) same)
+    ∙ get_or-set_other c.args.self.now.nodes c.args.list other _ [] ne)
