@@ -409,7 +409,7 @@ impl Score {
             return None;
         }
         let spot = tt_plan::spot(problem, class, value);
-        let sure = self.roster.sure_gain(class, spot);
+        let sure = self.roster.sure_gain(problem, class, spot);
         if paid.total(self.weights, rest, others + sure) >= bound {
             return None;
         }
