@@ -1,5 +1,5 @@
 -- A class that is locked stays where it is, and locked, on the whole way of a search.
-use Rattle.std.proofs.Common.{◌≡◌, ◌≢◌, ℕ, zero, suc, Bool, true, false, Option, Some, None, List, [], ◌∷◌, length, refl, ap, sym, ◌∙◌, arith}
+use Rattle.std.proofs.Common.{◌≡◌, ◌≢◌, ℕ, zero, suc, Bool, true, false, Option, Some, None, List, [], ◌∷◌, length, refl, ap, sym, subst, ◌∙◌, arith}
 use Rattle.std.specs.Prelude.{All, IfSome, is_none, is_some, map, not, option_map, slice_get, slice_index_or}
 use Rattle.std.specs.List.{best_of, list_any, range_with_len}
 use Rattle.std.proofs.lemmas.Bool.{and_parts}
@@ -29,7 +29,7 @@ use Rattle.tt_search.proofs.ChoiceLemmas.{free_of}
 use Rattle.tt_search.proofs.FirstLemmas.{ends_at_first, place_ends_at_first}
 
 -- what all of a list have, each that stands at a place has
-each_at : {A : Type 0} (P : A → Type 0) (xs : List A) (k : ℕ) (x : A) → All P xs → slice_get xs k ≡ Some x → P x
+pub each_at : {A : Type 0} (P : A → Type 0) (xs : List A) (k : ℕ) (x : A) → All P xs → slice_get xs k ≡ Some x → P x
 each_at P xs k x all is = rw (get_or_from_slice_get xs k x x is) at (all k x (slice_get_within xs k x is))
 
 all_cons : {A : Type 0} (P : A → Type 0) (x : A) (xs : List A) → P x → All P xs → All P (x ∷ xs)
@@ -126,15 +126,19 @@ least_available p s class numbers =
       free = free_of p s class _ (filter_passes (is_available p s class) (domain_of p class) k d within);
     })
 
--- and so is the one that a word draws of such values
-pub drawn_available : (p : Parts) (s : Snapshot) (class word : ℕ) (values : List Value) (o : Option Value) → All (IsAvailable p s class) values → drawn word values ≡ o → IfSome o (IsAvailable p s class)
-drawn_available p s class word values None all from = tt
-drawn_available p s class word values (Some v) all from = each_at (IsAvailable p s class) values _ v all from
+-- they are of the class's domain
+pub least_of_domain : (p : Parts) (s : Snapshot) (class : ℕ) (numbers : Value → List ℕ) (values : List Value) → values ≡ all_least numbers (available_values p s class) → All (IsOfDomain p class) values
+least_of_domain p s class numbers values are = subst (λ (vs : List Value). All (IsOfDomain p class) vs) (sym are) (λ k d within. (least_available p s class numbers k d within).domain)
+
+-- and so is what stands at a place among such values
+pub standing_available : (p : Parts) (s : Snapshot) (class k : ℕ) (values : List Value) (o : Option Value) → All (IsAvailable p s class) values → slice_get values k ≡ o → IfSome o (IsAvailable p s class)
+standing_available p s class k values None all from = tt
+standing_available p s class k values (Some v) all from = each_at (IsAvailable p s class) values k v all from
 
 drawn_free : (p : Parts) (m : PlaceMoment) (class word : ℕ) (o : Option Value) → drawn word (least_values p m class) ≡ o → IfSome o (λ v. obstacle_of p m.snapshot class v ≡ None)
 unfolding least_values
 drawn_free p m class word None from = tt
-drawn_free p m class word (Some v) from = (drawn_available p m.snapshot class word (all_least (burden_of p m class) (available_values p m.snapshot class)) (Some v) (least_available p m.snapshot class (burden_of p m class)) from).free
+drawn_free p m class word (Some v) from = (standing_available p m.snapshot class _ (all_least (burden_of p m class) (available_values p m.snapshot class)) (Some v) (least_available p m.snapshot class (burden_of p m class)) from).free
 
 -- the snapshot after a class is forced, if there is a value
 snapshot_after : (p : Parts) (m : PlaceMoment) (class : ℕ) (o : Option Value) → (after_forcing p m class o).snapshot ≡ forced_if p m.snapshot class o

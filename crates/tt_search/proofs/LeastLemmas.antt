@@ -1,27 +1,18 @@
--- The items of a list that are least, as an item is added.
-use Rattle.std.proofs.Common.{◌≡◌, ◌≢◌, ℕ, zero, suc, ◌+◌, ◌≤◌, Bool, true, false, cond, Option, Some, None, List, [], ◌∷◌, ◌++◌, length, refl, ap, sym, ◌∙◌, ◌⊎◌, inl, inr, arith}
-use Rattle.std.specs.Prelude.{All, not, slice_get, slice_index_or, take}
-use Rattle.std.specs.List.{best_of, filter, list_any, sum_by}
-use Rattle.std.proofs.lemmas.List.{append-nil, get_or_default}
-use Rattle.std.proofs.lemmas.List.Elements.{filter-append, filter_agree, filter_more}
+-- The items of a list that are least, as an item is added, and by numbers of one kind and then by those of another.
+use Rattle.std.proofs.Common.{◌≡◌, ℕ, suc, ◌<◌, ◌≤◌, Bool, true, false, cond, Option, Some, None, List, [], ◌∷◌, ◌++◌, length, refl, ap, sym, subst, ◌∙◌, arith}
+use Rattle.std.specs.Prelude.{All, not, slice_get, slice_index_or}
+use Rattle.std.specs.List.{best_of, filter, list_any}
+use Rattle.std.specs.Option.{option_map}
+use Rattle.std.proofs.lemmas.List.{append-nil, append_assoc, get_or_default}
+use Rattle.std.proofs.lemmas.List.Elements.{filter-append, filter_agree}
 use Rattle.std.proofs.lemmas.List.Folds.{list_any_at, list_any_none}
 use Rattle.std.proofs.lemmas.List.Sums.{count_by-le-length, length-filter}
-use Rattle.std.proofs.lemmas.Option.{get_or_from_slice_get, slice_get_within}
 use Rattle.std.proofs.lemmas.List.MinMax.{IsFirstBest-from_best_of}
-use Rattle.tt_base.specs.Lists.{first_least, is_less, least_after}
+use Rattle.tt_base.specs.Lists.{comes_before, first_least, is_less, least_after}
 use Rattle.tt_base.proofs.ListLemmas.{least_after_append}
-use Rattle.tt_bits.specs.declared.times.Value.{Value}
-use Rattle.tt_problem.specs.declared.parts.Parts.{Parts}
-use Rattle.tt_state.specs.Snapshots.{Snapshot}
-use Rattle.tt_state.specs.History.{Held, with_taken}
-use Rattle.tt_state.specs.Values.{conflicts_of, total_with}
-use Rattle.tt_search.specs.declared.price.Price.{Price}
-use Rattle.tt_search.specs.declared.least.LeastValues.{LeastValues}
-use Rattle.tt_search.specs.declared.offer.Offer.{Offer}
-use Rattle.tt_search.specs.Numbers.{IsPriceOf, IsPriced, WeighsLess}
+use Rattle.tt_search.specs.LeastNow.{AreLeastBy, then_by}
 use Rattle.tt_search.specs.PlaceTurns.{all_least}
-use Rattle.tt_search.specs.PlacingNow.{AreLeast, AreLeastOf, burden_by, weight_by}
-use Rattle.tt_search.proofs.PriceLemmas.{order, outweighed}
+use Rattle.tt_search.proofs.PriceLemmas.{front_decides, neither, order, rest_decides}
 
 -- nothing of a list comes before its least
 none_less : {A : Type 0} (numbers : A → List ℕ) (xs : List A) (y : A) → first_least numbers xs ≡ Some y → All (λ w. is_less numbers w y ≡ false) xs
@@ -99,148 +90,204 @@ joined numbers xs y z is not_less =
     ∙ filter-append test xs (z ∷ [])
     ∙ ap (λ ws. ws ++ filter test (z ∷ [])) (sym (least_are numbers xs y is))
 
-empty_by : {A : Type 0} (numbers : A → List ℕ) (xs : List A) → None ≡ first_least numbers xs → xs ≡ []
+-- an item alone is least
+pub alone : {A : Type 0} (numbers : A → List ℕ) (x : A) → all_least numbers (x ∷ []) ≡ x ∷ []
+alone numbers x = rw (not_itself numbers x) refl
+
+-- and so are all where there are fewer than two
+pub all_of_few : {A : Type 0} (numbers : A → List ℕ) (xs : List A) → length xs < 2 → xs ≡ all_least numbers xs
+all_of_few numbers [] few = refl
+all_of_few numbers (x ∷ []) few = sym (alone numbers x)
+all_of_few numbers (x ∷ y ∷ xs) few = absurd (omega (arith, few))
+
+-- no more items are least than there are
+pub few_least : {A : Type 0} (numbers : A → List ℕ) (xs : List A) → length (all_least numbers xs) ≤ length xs
+few_least {A = A} numbers xs =
+    let best = λ (x : A). not (list_any (λ y. is_less numbers y x) xs) in
+    omega (arith, length-filter best xs, count_by-le-length best xs)
+
+-- the first least, where its numbers are known
+first_by : {A : Type 0} (numbers : A → List ℕ) (ns : List ℕ) (o : Option A) → Some ns ≡ option_map numbers o → (y : A) × (o ≡ Some y) × (numbers y ≡ ns)
+first_by numbers ns None is = absurd (cc)
+first_by numbers ns (Some y) is = (y, refl, cc)
+
+empty_by : {A : Type 0} (numbers : A → List ℕ) (xs : List A) → None ≡ option_map numbers (first_least numbers xs) → xs ≡ []
 empty_by numbers [] is = refl
 empty_by numbers (x ∷ xs) is = absurd (cc)
 
--- the first item is the least
-pub first_kept : {A : Type 0} (numbers : A → List ℕ) (xs items : List A) (z : A) → AreLeastOf numbers xs None items → AreLeastOf numbers (xs ++ z ∷ []) (Some z) (z ∷ [])
-first_kept numbers xs items z are = rw (empty_by numbers xs are.first) (record { items = rw (not_itself numbers z) refl; first = refl })
+-- the first item is least
+pub first_kept : {A : Type 0} (numbers : A → List ℕ) (xs found : List A) (z : A) → AreLeastBy numbers xs None found → AreLeastBy numbers (xs ++ z ∷ []) (Some (numbers z)) (z ∷ [])
+first_kept numbers xs found z are = rw (empty_by numbers xs are.lowest) (record { items = sym (alone numbers z); lowest = refl })
 
 -- an item below the least is kept alone
-pub below_kept : {A : Type 0} (numbers : A → List ℕ) (xs items : List A) (y z : A) → AreLeastOf numbers xs (Some y) items → is_less numbers z y ≡ true → AreLeastOf numbers (xs ++ z ∷ []) (Some z) (z ∷ [])
-below_kept numbers xs items y z are less = record {
-  items = sym (below_alone numbers xs y z (sym are.first) less);
-  first = sym (rw less at (next_least numbers xs y z (sym are.first)));
-}
-
--- one above it is passed over
-pub above_passed : {A : Type 0} (numbers : A → List ℕ) (xs items : List A) (y z : A) → AreLeastOf numbers xs (Some y) items → is_less numbers y z ≡ true → AreLeastOf numbers (xs ++ z ∷ []) (Some y) items
-above_passed numbers xs items y z are more =
-    let not_less : is_less numbers z y ≡ false = (order numbers).one_way y z more in
+pub below_kept : {A : Type 0} (numbers : A → List ℕ) (xs found : List A) (ns : List ℕ) (z : A) → AreLeastBy numbers xs (Some ns) found → comes_before (numbers z) ns ≡ true → AreLeastBy numbers (xs ++ z ∷ []) (Some (numbers z)) (z ∷ [])
+below_kept numbers xs found ns z are before =
+    let y = first_by numbers ns (first_least numbers xs) are.lowest in
+    let less : is_less numbers z y.0 ≡ true = rw y.2 before in
     record {
-      items = are.items ∙ sym (joined numbers xs y z (sym are.first) not_less ∙ rw more (append-nil (all_least numbers xs)));
-      first = sym (rw not_less at (next_least numbers xs y z (sym are.first)));
+      items = sym (below_alone numbers xs y.0 z y.1 less);
+      lowest = sym (ap (option_map numbers) (rw less at (next_least numbers xs y.0 z y.1)));
     }
 
--- and one that is neither joins the others
-pub equal_joins : {A : Type 0} (numbers : A → List ℕ) (xs items : List A) (y z : A) → AreLeastOf numbers xs (Some y) items → is_less numbers z y ≡ false → is_less numbers y z ≡ false
-    → AreLeastOf numbers (xs ++ z ∷ []) (Some y) (items ++ z ∷ [])
-equal_joins numbers xs items y z are not_less not_more = record {
-  items = ap (λ ws. ws ++ z ∷ []) are.items ∙ sym (joined numbers xs y z (sym are.first) not_less ∙ rw not_more refl);
-  first = sym (rw not_less at (next_least numbers xs y z (sym are.first)));
-}
+-- one above it is passed over
+pub above_passed : {A : Type 0} (numbers : A → List ℕ) (xs found : List A) (ns : List ℕ) (z : A) → AreLeastBy numbers xs (Some ns) found → comes_before ns (numbers z) ≡ true → AreLeastBy numbers (xs ++ z ∷ []) (Some ns) found
+above_passed numbers xs found ns z are before =
+    let y = first_by numbers ns (first_least numbers xs) are.lowest in
+    let more : is_less numbers y.0 z ≡ true = rw y.2 before in
+    let not_less : is_less numbers z y.0 ≡ false = (order numbers).one_way y.0 z more in
+    record {
+      items = are.items ∙ sym (joined numbers xs y.0 z y.1 not_less ∙ rw more (append-nil (all_least numbers xs)));
+      lowest = sym (ap (option_map numbers) (rw not_less at (next_least numbers xs y.0 z y.1)) ∙ ap Some y.2);
+    }
 
--- what is kept, by its parts
-kept_by : (p : Parts) (s : Snapshot) (class : ℕ) (numbers : Value → List ℕ) (ys : List Value) (l : LeastValues) (o : Offer) (values : List Value) → l.first ≡ Some o → l.values.items ≡ values → IsPriced p s class numbers o
-    → AreLeastOf numbers ys (Some o.value) values → AreLeast p s class numbers ys l
-kept_by p s class numbers ys l o values first items priced are = record {
-  are = rw (first, items) are;
-  priced = rw first priced;
-}
+-- and one of the same numbers joins the others
+pub equal_joins : {A : Type 0} (numbers : A → List ℕ) (xs found : List A) (ns : List ℕ) (z : A) → AreLeastBy numbers xs (Some ns) found → numbers z ≡ ns → AreLeastBy numbers (xs ++ z ∷ []) (Some ns) (found ++ z ∷ [])
+equal_joins numbers xs found ns z are same =
+    let y = first_by numbers ns (first_least numbers xs) are.lowest in
+    let not_less : is_less numbers z y.0 ≡ false = rw (same ∙ sym y.2) (not_itself numbers y.0) in
+    let not_more : is_less numbers y.0 z ≡ false = rw (same ∙ sym y.2) (not_itself numbers y.0) in
+    record {
+      items = ap (λ ws. ws ++ z ∷ []) are.items ∙ sym (joined numbers xs y.0 z y.1 not_less ∙ rw not_more refl);
+      lowest = sym (ap (option_map numbers) (rw not_less at (next_least numbers xs y.0 z y.1)) ∙ ap Some y.2);
+    }
 
-parts_of : (p : Parts) (s : Snapshot) (class : ℕ) (numbers : Value → List ℕ) (ys : List Value) (l : LeastValues) (o : Offer) → l.first ≡ Some o → AreLeast p s class numbers ys l → AreLeastOf numbers ys (Some o.value) l.values.items
-parts_of p s class numbers ys l o first are = rw first at are.are
+-- the items of a list that are least by two kinds of numbers are found by one kind after the other: y is the first of them, x the first by the first kind
+record AreInTurn {A : Type 0} (front rest : A → List ℕ) (xs : List A) : Type 0 where
+  pub x : A
+  pub y : A
+  pub lightest : first_least front xs ≡ Some x
+  pub same : front y ≡ front x
+  pub first : first_least (then_by front rest) xs ≡ Some y
+  pub second : first_least rest (all_least front xs) ≡ Some y
+  pub head : slice_get (all_least (then_by front rest) xs) 0 ≡ Some y
+  pub items : all_least (then_by front rest) xs ≡ all_least rest (all_least front xs)
 
-pub price_of_first : (p : Parts) (s : Snapshot) (class : ℕ) (numbers : Value → List ℕ) (ys : List Value) (l : LeastValues) (o : Offer) → l.first ≡ Some o → AreLeast p s class numbers ys l → IsPriced p s class numbers o
-price_of_first p s class numbers ys l o first are = rw first at are.priced
+-- where an item comes before all by the first kind
+in_turn_below : {A : Type 0} (front rest : A → List ℕ) → ((x y : A) → length (front x) ≡ length (front y)) → (xs : List A) (z : A) → (on : AreInTurn front rest xs) → is_less front z on.x ≡ true → AreInTurn front rest (xs ++ z ∷ [])
+in_turn_below front rest even xs z on less =
+    let both = then_by front rest in
+    let less_both : is_less both z on.y ≡ true = front_decides (front z) (front on.y) (rest z) (rest on.y) (even z on.y) (rw on.same less) in
+    let fronts = below_alone front xs on.x z on.lightest less in
+    let all = below_alone both xs on.y z on.first less_both in
+    record {
+      x = z;
+      y = z;
+      lightest = rw less at (next_least front xs on.x z on.lightest);
+      same = refl;
+      first = rw less_both at (next_least both xs on.y z on.first);
+      second = ap (first_least rest) fronts;
+      head = ap (λ ws. slice_get ws 0) all;
+      items = all ∙ sym (ap (all_least rest) fronts ∙ alone rest z);
+    }
 
--- the least of no value
-pub none_kept : (p : Parts) (s : Snapshot) (class : ℕ) (numbers : Value → List ℕ) (l : LeastValues) → l.first ≡ None → l.values.items ≡ [] → AreLeast p s class numbers [] l
-none_kept p s class numbers l first items = record {
-  are = rw (first, items) (record { items = refl; first = refl });
-  priced = rw first tt;
-}
+-- where it comes behind the least by the first kind
+in_turn_above : {A : Type 0} (front rest : A → List ℕ) → ((x y : A) → length (front x) ≡ length (front y)) → (xs : List A) (z : A) → (on : AreInTurn front rest xs) → is_less front on.x z ≡ true → AreInTurn front rest (xs ++ z ∷ [])
+in_turn_above front rest even xs z on more =
+    let both = then_by front rest in
+    let not_less : is_less front z on.x ≡ false = (order front).one_way on.x z more in
+    let more_both : is_less both on.y z ≡ true = front_decides (front on.y) (front z) (rest on.y) (rest z) (even on.y z) (rw on.same more) in
+    let not_less_both : is_less both z on.y ≡ false = (order both).one_way on.y z more_both in
+    let fronts : all_least front (xs ++ z ∷ []) ≡ all_least front xs = joined front xs on.x z on.lightest not_less ∙ rw more (append-nil (all_least front xs)) in
+    let all : all_least both (xs ++ z ∷ []) ≡ all_least both xs = joined both xs on.y z on.first not_less_both ∙ rw more_both (append-nil (all_least both xs)) in
+    record {
+      x = on.x;
+      y = on.y;
+      lightest = rw not_less at (next_least front xs on.x z on.lightest);
+      same = on.same;
+      first = rw not_less_both at (next_least both xs on.y z on.first);
+      second = ap (first_least rest) fronts ∙ on.second;
+      head = ap (λ ws. slice_get ws 0) all ∙ on.head;
+      items = all ∙ on.items ∙ sym (ap (all_least rest) fronts);
+    }
 
--- the first value is kept alone
-pub set_first : (p : Parts) (s : Snapshot) (class : ℕ) (numbers : Value → List ℕ) (xs : List Value) (o : Offer) (old new : LeastValues) → old.first ≡ None → new.first ≡ Some o → new.values.items ≡ o.value ∷ [] → IsPriced p s class numbers o
-    → AreLeast p s class numbers xs old → AreLeast p s class numbers (xs ++ o.value ∷ []) new
-set_first p s class numbers xs o old new was is items priced are =
-    let none : AreLeastOf numbers xs None old.values.items = rw was at are.are in
-    kept_by p s class numbers (xs ++ o.value ∷ []) new o (o.value ∷ []) is items priced (first_kept numbers xs old.values.items o.value none)
+still_first : {A : Type 0} (xs ys : List A) (y : A) → slice_get xs 0 ≡ Some y → slice_get (xs ++ ys) 0 ≡ Some y
+still_first [] ys y is = absurd (cc)
+still_first (x ∷ xs) ys y is = is
 
--- and so is one that comes before the least so far
-pub set_below : (p : Parts) (s : Snapshot) (class : ℕ) (numbers : Value → List ℕ) (xs : List Value) (o least : Offer) (old new : LeastValues) → old.first ≡ Some least → is_less numbers o.value least.value ≡ true
-    → new.first ≡ Some o → new.values.items ≡ o.value ∷ [] → IsPriced p s class numbers o → AreLeast p s class numbers xs old → AreLeast p s class numbers (xs ++ o.value ∷ []) new
-set_below p s class numbers xs o least old new was less is items priced are =
-    kept_by p s class numbers (xs ++ o.value ∷ []) new o (o.value ∷ []) is items priced
-    (below_kept numbers xs old.values.items least.value o.value (parts_of p s class numbers xs old least was are) less)
-
--- one before which the least so far comes is passed over
-pub left_above : (p : Parts) (s : Snapshot) (class : ℕ) (numbers : Value → List ℕ) (xs : List Value) (v : Value) (least next : Offer) (old new : LeastValues) → old.first ≡ Some least → is_less numbers least.value v ≡ true
-    → new.first ≡ Some next → next.value ≡ least.value → new.values.items ≡ old.values.items → IsPriced p s class numbers next → AreLeast p s class numbers xs old → AreLeast p s class numbers (xs ++ v ∷ []) new
-left_above p s class numbers xs v least next old new was less is same items priced are =
-    kept_by p s class numbers (xs ++ v ∷ []) new next old.values.items is items priced
-    (rw same (above_passed numbers xs old.values.items least.value v (parts_of p s class numbers xs old least was are) less))
-
--- and one that is neither joins the others
-pub joins_equal : (p : Parts) (s : Snapshot) (class : ℕ) (numbers : Value → List ℕ) (xs : List Value) (v : Value) (least next : Offer) (old new : LeastValues) → old.first ≡ Some least → is_less numbers v least.value ≡ false
-    → is_less numbers least.value v ≡ false → new.first ≡ Some next → next.value ≡ least.value → new.values.items ≡ old.values.items ++ v ∷ [] → IsPriced p s class numbers next → AreLeast p s class numbers xs old
-    → AreLeast p s class numbers (xs ++ v ∷ []) new
-joins_equal p s class numbers xs v least next old new was not_less not_more is same items priced are =
-    kept_by p s class numbers (xs ++ v ∷ []) new next (old.values.items ++ v ∷ []) is items priced
-    (rw same (equal_joins numbers xs old.values.items least.value v (parts_of p s class numbers xs old least was are) not_less not_more))
-
--- a value that isn't available, or of which the conflict set has more classes than the least so far weigh, is passed over
-pub passed_over : (p : Parts) (s : Snapshot) (outs : List ℕ) (class : ℕ) (test : Value → Bool) (xs : List Value) (l : LeastValues) (v : Value) → (test v ≡ false) ⊎ WeighsLess l.first (length (conflicts_of p s class v))
-    → AreLeast p s class (burden_by p s outs class) xs l → AreLeast p s class (burden_by p s outs class) (xs ++ filter test (v ∷ [])) l
-passed_over p s outs class test xs l v why are = by (test v) refl
+-- and where it is the same by it, the second kind tells
+in_turn_equal : {A : Type 0} (front rest : A → List ℕ) (xs : List A) (z : A) → (on : AreInTurn front rest xs) → is_less front z on.x ≡ false → is_less front on.x z ≡ false → AreInTurn front rest (xs ++ z ∷ [])
+in_turn_equal {A = A} front rest xs z on not_less not_more = by (is_less rest z on.y) refl
   where
-    numbers : Value → List ℕ
-    numbers = burden_by p s outs class
+    both : A → List ℕ
+    both = then_by front rest
 
-    above : (first : Option Offer) → l.first ≡ first → WeighsLess first (length (conflicts_of p s class v)) → AreLeast p s class numbers (xs ++ v ∷ []) l
-    above None is less = absurd less
-    above (Some o) is less =
-        let priced = price_of_first p s class numbers xs l o is are in
-        left_above p s class numbers xs v o o l l is (outweighed p s class numbers o v (weight_by outs) (λ other. omega arith) (conflicts_of p s class v) _ priced refl less) is refl refl priced are
+    fronts : all_least front (xs ++ z ∷ []) ≡ all_least front xs ++ z ∷ []
+    fronts = joined front xs on.x z on.lightest not_less ∙ rw not_more refl
 
-    passes : test v ≡ true → (test v ≡ false) ⊎ WeighsLess l.first (length (conflicts_of p s class v)) → AreLeast p s class numbers (xs ++ v ∷ []) l
-    passes pass (inl fails) = absurd (apart (sym pass ∙ fails))
-      where
-        apart : true ≡ false → ⊥
-        apart e = cc
-    passes pass (inr less) = above l.first refl less
+    even : front z ≡ front on.y
+    even = neither (front z) (front on.x) not_less not_more ∙ sym on.same
 
-    by : (b : Bool) → test v ≡ b → AreLeast p s class numbers (xs ++ cond b (v ∷ []) []) l
-    by true pass = passes pass why
-    by false fails = rw (append-nil xs) are
+    tells : is_less both z on.y ≡ is_less rest z on.y
+    tells = ap (λ ns. comes_before (ns ++ rest z) (front on.y ++ rest on.y)) even ∙ rest_decides (front on.y) (rest z) (rest on.y)
 
--- what was asked for once its conflict set was found is the price of a value
-pub burden_after : (start after : Held) (outs : List ℕ) (class : ℕ) (v : Value) (weight : ℕ) (price : Price) → after ≡ with_taken start (conflicts_of start.problem start.present class v) → weight ≡ sum_by (weight_by outs) after.taken
-    → price ≡ record { weight = weight; strays = false } → IsPriceOf start.problem start.present class (burden_by start.problem start.present outs class) v price
-burden_after start after outs class v weight price found is same =
-    let taken : after.taken ≡ conflicts_of start.problem start.present class v = ap (λ (h : Held). h.taken) found in
-    rw same (ap (λ (n : ℕ). n ∷ 0 ∷ total_with start.problem start.present class v ∷ []) (is ∙ ap (sum_by (weight_by outs)) taken))
+    tells_back : is_less both on.y z ≡ is_less rest on.y z
+    tells_back = ap (λ ns. comes_before (front on.y ++ rest on.y) (ns ++ rest z)) even ∙ rest_decides (front on.y) (rest on.y) (rest z)
 
--- and one that passes is taken in
-pub passed_on : (p : Parts) (s : Snapshot) (class : ℕ) (numbers : Value → List ℕ) (test : Value → Bool) (xs : List Value) (l : LeastValues) (v : Value) → test v ≡ true → AreLeast p s class numbers (xs ++ v ∷ []) l
-    → AreLeast p s class numbers (xs ++ filter test (v ∷ [])) l
-passed_on p s class numbers test xs l v pass are = rw pass are
+    lightest : first_least front (xs ++ z ∷ []) ≡ Some on.x
+    lightest = rw not_less at (next_least front xs on.x z on.lightest)
 
--- no more values are least than there are
-pub few_least : (p : Parts) (s : Snapshot) (class : ℕ) (numbers : Value → List ℕ) (test : Value → Bool) (domain : List Value) (l : LeastValues) → AreLeast p s class numbers (filter test domain) l → length l.values.items ≤ length domain
-few_least p s class numbers test domain l are =
-    let some = filter test domain in
-    let best = λ (x : Value). not (list_any (λ y. is_less numbers y x) some) in
-    omega (arith, ap length are.are.items, length-filter best some, count_by-le-length best some, length-filter test domain, count_by-le-length test domain)
+    by : (b : Bool) → is_less rest z on.y ≡ b → AreInTurn front rest (xs ++ z ∷ [])
+    by true less =
+        let all = below_alone both xs on.y z on.first (tells ∙ less) in
+        record {
+          x = on.x;
+          y = z;
+          lightest = lightest;
+          same = even ∙ on.same;
+          first = rw (tells ∙ less) at (next_least both xs on.y z on.first);
+          second = ap (first_least rest) fronts ∙ (rw less at (next_least rest (all_least front xs) on.y z on.second));
+          head = ap (λ ws. slice_get ws 0) all;
+          items = all ∙ sym (ap (all_least rest) fronts ∙ below_alone rest (all_least front xs) on.y z on.second less);
+        }
+    by false least =
+        let more = λ (ws : List A) (b : Bool). ws ++ cond (not b) (z ∷ []) [] in
+        let all = joined both xs on.y z on.first (tells ∙ least) in
+        record {
+          x = on.x;
+          y = on.y;
+          lightest = lightest;
+          same = on.same;
+          first = rw (tells ∙ least) at (next_least both xs on.y z on.first);
+          second = ap (first_least rest) fronts ∙ (rw least at (next_least rest (all_least front xs) on.y z on.second));
+          head = ap (λ ws. slice_get ws 0) all ∙ still_first (all_least both xs) _ on.y on.head;
+          items = all ∙ ap (more (all_least both xs)) tells_back ∙ ap (λ ws. more ws (is_less rest on.y z)) on.items ∙ sym (ap (all_least rest) fronts ∙ joined rest (all_least front xs) on.y z on.second least);
+        }
 
--- one value more of a domain
-pub one_further : (p : Parts) (s : Snapshot) (class : ℕ) (numbers : Value → List ℕ) (test : Value → Bool) (domain : List Value) (k : ℕ) (v : Value) (l : LeastValues) → slice_get domain k ≡ Some v
-    → AreLeast p s class numbers (filter test (take k domain) ++ filter test (v ∷ [])) l → AreLeast p s class numbers (filter test (take (k + 1) domain)) l
-one_further p s class numbers test domain k v l at are =
-    let value : slice_index_or domain k v ≡ v = get_or_from_slice_get domain k v v at in
-    let more = rw value at (filter_more test domain k v (slice_get_within domain k v at)) in
-    rw more are
-
--- where an item passes a test, some do
-pub one_passes : {A : Type 0} (test : A → Bool) (xs : List A) (k : ℕ) (x : A) → slice_get xs k ≡ Some x → test x ≡ true → filter test xs ≢ []
-one_passes test [] k x at pass none = absurd (cc)
-one_passes test (y ∷ ys) zero x at pass none =
-    let same : y ≡ x = cc in
-    absurd (cc (sym (rw (same, pass) at none)))
-one_passes test (y ∷ ys) (suc k) x at pass none = by (test y) (one_passes test ys k x at pass) none
+-- so one item more
+in_turn_next : {A : Type 0} (front rest : A → List ℕ) → ((x y : A) → length (front x) ≡ length (front y)) → (xs : List A) (z : A) → AreInTurn front rest xs → AreInTurn front rest (xs ++ z ∷ [])
+in_turn_next front rest even xs z on = by (is_less front z on.x) (is_less front on.x z) refl refl
   where
-    by : (b : Bool) → filter test ys ≢ [] → cond b (y ∷ filter test ys) (filter test ys) ≡ [] → ⊥
-    by true some none = absurd (cc none)
-    by false some none = some none
+    by : (b c : Bool) → is_less front z on.x ≡ b → is_less front on.x z ≡ c → AreInTurn front rest (xs ++ z ∷ [])
+    by true c less more = in_turn_below front rest even xs z on less
+    by false true not_less more = in_turn_above front rest even xs z on more
+    by false false not_less not_more = in_turn_equal front rest xs z on not_less not_more
+
+in_turn_from : {A : Type 0} (front rest : A → List ℕ) → ((x y : A) → length (front x) ≡ length (front y)) → (xs zs : List A) → AreInTurn front rest xs → AreInTurn front rest (xs ++ zs)
+in_turn_from front rest even xs [] on = subst (AreInTurn front rest) (sym (append-nil xs)) on
+in_turn_from front rest even xs (z ∷ zs) on = subst (AreInTurn front rest) (append_assoc xs (z ∷ []) zs) (in_turn_from front rest even (xs ++ z ∷ []) zs (in_turn_next front rest even xs z on))
+
+in_turn : {A : Type 0} (front rest : A → List ℕ) → ((x y : A) → length (front x) ≡ length (front y)) → (x : A) (xs : List A) → AreInTurn front rest (x ∷ xs)
+in_turn front rest even x xs =
+    in_turn_from front rest even (x ∷ []) xs
+    (record {
+      x = x;
+      y = x;
+      lightest = refl;
+      same = refl;
+      first = refl;
+      second = ap (first_least rest) (alone front x);
+      head = ap (λ ws. slice_get ws 0) (alone (then_by front rest) x);
+      items = alone (then_by front rest) x ∙ sym (ap (all_least rest) (alone front x) ∙ alone rest x);
+    })
+
+-- the least of a list by two kinds of numbers are the least by the second kind among those that are least by the first
+pub least_in_turn : {A : Type 0} (front rest : A → List ℕ) → ((x y : A) → length (front x) ≡ length (front y)) → (xs : List A) → all_least rest (all_least front xs) ≡ all_least (then_by front rest) xs
+least_in_turn front rest even [] = refl
+least_in_turn front rest even (x ∷ xs) = sym (in_turn front rest even x xs).items
+
+-- and the first of them is the first least by both
+pub first_in_turn : {A : Type 0} (front rest : A → List ℕ) → ((x y : A) → length (front x) ≡ length (front y)) → (xs : List A) → slice_get (all_least rest (all_least front xs)) 0 ≡ first_least (then_by front rest) xs
+first_in_turn front rest even [] = refl
+first_in_turn front rest even (x ∷ xs) =
+    let on = in_turn front rest even x xs in
+    ap (λ ws. slice_get ws 0) (sym on.items) ∙ on.head ∙ sym on.first

@@ -6,7 +6,7 @@ use Rattle.std.specs.Ordering.{is_lt, nat_cmp, ordering_then}
 use Rattle.std.specs.declared.cmp.Ordering.{Ordering}
 use Rattle.std.specs.declared.cmp.Ordering.TheVariants.{Less, Equal, Greater}
 use Rattle.tt_base.specs.Lists.{is_less}
-use Rattle.std.specs.Option.{option_map, option_map_or}
+use Rattle.std.specs.Option.{option_map_or}
 use Rattle.std.specs.List.{filter, list_any, sum_by}
 use Rattle.std.proofs.lemmas.Bool.Decides.{eqb_tells}
 use Rattle.tt_base.proofs.ListLemmas.{drop_at}
@@ -184,12 +184,3 @@ turn_made p turns seed start made words left pair now trail w best on below is t
     by (Some next) e some =
         let way = rw (made_turn two_words (place_turn p) turns made words left pair m next below is e) at on.way in
         omega (arith, way.counts)
-
--- one leads on where a word draws a class
-pub some_turn : (p : Parts) (words : TurnWords) (m : PlaceMoment) → IsSome (drawn words.class (candidates p m.snapshot)) → IsSome (place_turn p words m)
-unfolding place_turn
-some_turn p words m some = by (drawn words.class (candidates p m.snapshot)) some
-  where
-    by : (o : Option ℕ) → IsSome o → IsSome (option_map (λ class. after_forcing p m class (drawn words.value (least_values p m class))) o)
-    by None some = absurd (cc some)
-    by (Some class) some = refl

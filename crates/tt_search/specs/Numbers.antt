@@ -1,25 +1,20 @@
--- Proof. What the code of a turn keeps: the numbers of prices and ranks, in the order in which they are compared, offers,
--- and moves.
-use Rattle.std.specs.Prelude.{ℕ, ◌≡◌, ◌<◌, List, [], ◌∷◌, ◌++◌, Option, Some, None, IfSome, if◌then◌else◌}
+-- Proof. What the code of a turn keeps: the numbers of prices and ranks, in the order in which they are compared, and moves.
+use Rattle.std.specs.Prelude.{ℕ, ◌≡◌, ◌<◌, List, [], ◌∷◌, Option, Some, None, IfSome, if◌then◌else◌}
 use Rattle.tt_plan.specs.Domain.{IsOfDomain}
 use Rattle.tt_bits.specs.declared.times.Value.{Value}
 use Rattle.tt_problem.specs.declared.parts.Parts.{Parts}
 use Rattle.tt_search.specs.declared.price.Price.{Price}
 use Rattle.tt_search.specs.declared.price.Rank.{Rank}
-use Rattle.tt_search.specs.declared.offer.Offer.{Offer}
 use Rattle.tt_search.specs.declared.turn.Move.{Move}
 use Rattle.tt_state.specs.Snapshots.{Snapshot}
-use Rattle.tt_state.specs.Values.{obstacle_of, total_with}
-use Rattle.tt_base.specs.Lists.{least_after}
-use Rattle.tt_search.specs.Turns.{forced_if}
+use Rattle.tt_state.specs.Values.{obstacle_of}
+use Rattle.tt_state.specs.Weights.{weight_of}
+use Rattle.tt_published.specs.Timetable.{Timetable}
+use Rattle.tt_search.specs.Turns.{forced_if, strays_in}
 
 -- the numbers of a price
 abbrev pub price_numbers : Price → List ℕ
 price_numbers r = r.weight ∷ (if r.strays then 1 else 0) ∷ []
-
--- the same, and behind them the total
-abbrev pub with_total : Price → (total : ℕ) → List ℕ
-with_total r total = price_numbers r ++ total ∷ []
 
 -- the numbers of a rank
 abbrev pub rank_numbers : Rank → List ℕ
@@ -30,33 +25,14 @@ pub record IsAvailable (p : Parts) (s : Snapshot) (class : ℕ) (v : Value) : Ty
   pub domain : IsOfDomain p class v
   pub free : obstacle_of p s class v ≡ None
 
--- the value of an offer is available, and where its total is known, it is the one with the class there
-pub record IsKnown (p : Parts) (s : Snapshot) (class : ℕ) (o : Offer) : Type 0 where
-  pub available : IsAvailable p s class o.value
-  pub total : IfSome o.total (λ total. total ≡ total_with p s class o.value)
+-- the numbers of the price of a value: the weight, and whether it strays from what is published
+abbrev pub prices_of : Parts → Option Timetable → Snapshot → (class : ℕ) → Value → List ℕ
+prices_of p published s class v = weight_of p s class v ∷ strays_in p published class v ∷ []
 
--- with the total, a price has the numbers by which a value is chosen
-abbrev pub IsPriceOf : Parts → Snapshot → (class : ℕ) → (numbers : Value → List ℕ) → Value → Price → Type 0
-IsPriceOf p s class numbers v price = with_total price (total_with p s class v) ≡ numbers v
-
--- the same of an offer
-abbrev pub IsPriced : Parts → Snapshot → (class : ℕ) → (numbers : Value → List ℕ) → Offer → Type 0
-IsPriced p s class numbers o = IsPriceOf p s class numbers o.value o.price
-
--- both of an offer
-pub record IsOffer (p : Parts) (s : Snapshot) (class : ℕ) (numbers : Value → List ℕ) (o : Offer) : Type 0 where
-  pub known : IsKnown p s class o
-  pub priced : IsPriced p s class numbers o
-
--- the best offer so far weighs less than so many classes
-abbrev pub WeighsLess : Option Offer → (count : ℕ) → Type 0
+-- the least price so far weighs less than so many classes
+abbrev pub WeighsLess : Option Price → (count : ℕ) → Type 0
 WeighsLess None count = ⊥
-WeighsLess (Some o) count = o.price.weight < count
-
--- the value that is offered
-abbrev pub offered : Option Offer → Option Value
-offered None = None
-offered (Some o) = Some o.value
+WeighsLess (Some price) count = price.weight < count
 
 -- the value of a move is available, if there is one
 abbrev pub MayMake : Parts → Snapshot → Move → Type 0
@@ -65,8 +41,3 @@ MayMake p s m = IfSome m.value (IsAvailable p s m.class)
 -- a snapshot after a move
 abbrev pub after_move : Parts → Snapshot → Move → Snapshot
 after_move p s m = forced_if p s m.class m.value
-
--- an offer is the first least of what was offered before and a value
-pub record IsBetter (p : Parts) (s : Snapshot) (class : ℕ) (numbers : Value → List ℕ) (best : Option Offer) (v : Value) (o : Offer) : Type 0 where
-  pub priced : IsPriced p s class numbers o
-  pub least : Some o.value ≡ least_after numbers (offered best) (v ∷ [])

@@ -1,25 +1,27 @@
--- Proof. What the code of `place` keeps: how often each class was taken out, and which values are least so far.
-use Rattle.std.specs.Prelude.{ℕ, ◌≡◌, ◌+◌, List, [], ◌∷◌, Option, IfSome, count_by, length, nat_eq, slice_index_or}
+-- Proof. What the code of `place` keeps: how often each class was taken out.
+use Rattle.std.specs.Prelude.{ℕ, ◌≡◌, ◌+◌, List, [], ◌∷◌, count_by, length, nat_eq, slice_index_or}
 use Rattle.std.specs.List.{sum_by}
 use Rattle.std.specs.Option.{option_map_or}
-use Rattle.tt_base.specs.Lists.{first_least}
 use Rattle.tt_bits.specs.declared.times.Value.{Value}
 use Rattle.tt_problem.specs.declared.parts.Parts.{Parts}
 use Rattle.tt_state.specs.Snapshots.{Snapshot}
-use Rattle.tt_state.specs.Values.{conflicts_of, total_with}
-use Rattle.tt_search.specs.declared.least.LeastValues.{LeastValues}
+use Rattle.tt_state.specs.Values.{conflicts_of}
 use Rattle.tt_search.specs.declared.turn.Move.{Move}
 use Rattle.tt_search.specs.declared.weights.ClassWeights.{ClassWeights}
-use Rattle.tt_search.specs.PlaceTurns.{PlaceMoment, after_forcing, all_least}
-use Rattle.tt_search.specs.Numbers.{IsPriced, offered}
+use Rattle.tt_search.specs.LeastNow.{then_by, total_numbers}
+use Rattle.tt_search.specs.PlaceTurns.{PlaceMoment, after_forcing}
 
 -- what a class weighs, by how often each was taken out
 abbrev pub weight_by : (outs : List ℕ) → (class : ℕ) → ℕ
 weight_by outs class = 1 + slice_index_or outs class 0
 
--- the numbers by which a value is chosen, by how often each class was taken out; as in a search none strays
+-- the numbers of the price of a value, by how often each class was taken out; as in a search none strays
+abbrev pub prices_by : Parts → Snapshot → (outs : List ℕ) → (class : ℕ) → Value → List ℕ
+prices_by p s outs class v = sum_by (weight_by outs) (conflicts_of p s class v) ∷ 0 ∷ []
+
+-- the same, and behind them the total
 abbrev pub burden_by : Parts → Snapshot → (outs : List ℕ) → (class : ℕ) → Value → List ℕ
-burden_by p s outs class v = sum_by (weight_by outs) (conflicts_of p s class v) ∷ 0 ∷ total_with p s class v ∷ []
+burden_by p s outs class = then_by (prices_by p s outs class) (total_numbers p s class)
 
 -- there is a count for each class: how often it was taken out
 pub record CountsOuts (p : Parts) (outs : List ℕ) (w : ClassWeights) : Type 0 where
@@ -33,13 +35,3 @@ taken_by m taken = option_map_or (λ v. taken) m.value []
 -- the moment after a move
 abbrev pub moment_after : Parts → Snapshot → (outs : List ℕ) → Move → PlaceMoment
 moment_after p s outs m = after_forcing p (record { snapshot = s; outs = outs }) m.class m.value
-
--- these are the items of a list that are least, and the first of them, where there is one
-pub record AreLeastOf {A : Type 0} (numbers : A → List ℕ) (xs : List A) (least : Option A) (found : List A) : Type 0 where
-  pub items : found ≡ all_least numbers xs
-  pub first : least ≡ first_least numbers xs
-
--- what is kept are the values of a list that are least, and the first of them has its price
-pub record AreLeast (p : Parts) (s : Snapshot) (class : ℕ) (numbers : Value → List ℕ) (xs : List Value) (l : LeastValues) : Type 0 where
-  pub are : AreLeastOf numbers xs (offered l.first) l.values.items
-  pub priced : IfSome l.first (IsPriced p s class numbers)

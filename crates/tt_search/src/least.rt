@@ -1,44 +1,83 @@
-//! The values of a class with the least burden.
+//! The values of a class that are least: by their price, and then by the total with the class there.
 
-ghost use Rattle.std.specs.Prelude.{◌≡◌, ◌≢◌, ◌<◌, ◌≤◌, ◌^◌, ◌∷◌, ◌++◌, [], ℕ, List, true, None, Some, IfNone, IfSome, OnOk, OnErr, length};
-ghost use Rattle.std.specs.List.{filter};
+ghost use Rattle.std.specs.Prelude.{◌≡◌, ◌+◌, ◌<◌, ◌≤◌, ◌∷◌, ◌++◌, [], ℕ, All, List, None, Some, IfNone, IfOk, IfSome, drop, length, slice_get, vec_capacity};
 ghost use Rattle.tt_draw.specs.Words.{drawn};
-ghost use Rattle.tt_plan.specs.Domain.{IsOfDomain};
+ghost use Rattle.tt_plan.specs.Domain.{IsOfDomain, domain_of};
 ghost use Rattle.tt_state.specs.Values.{conflicts_without, total_with};
-ghost use Rattle.tt_search.specs.Turns.{available_values, is_available};
-ghost use Rattle.tt_search.specs.Numbers.{IsKnown, IsPriceOf, IsPriced};
-ghost use Rattle.tt_search.specs.PlacingNow.{AreLeast, burden_by};
+ghost use Rattle.tt_search.specs.Numbers.{price_numbers};
+ghost use Rattle.tt_search.specs.PlaceTurns.{all_least};
+ghost use Rattle.tt_search.specs.LeastNow.{AreKept, AreLightest, HasRoom, total_numbers};
 
-use crate::offer::{Offer, may_be_offered};
 use crate::price::Price;
-use crate::weights::ClassWeights;
 use std::alloc::{AllocError, Global};
 use tt_bits::Value;
 use tt_draw::draw;
-use tt_plan::{domain_size, value_at};
+use tt_plan::domain_size;
+use tt_problem::Problem;
 use tt_state::State;
 
-// The values of a class that are least so far, in the order of its domain, and the first of them as an
-// offer.
+// The values of a class with the least price so far, in the order of its domain, and this price. There
+// is room for the values of each class.
 #[derive(Drop)]
 pub(crate) struct LeastValues {
-    first: Option<Offer>,
+    price: Option<Price>,
     values: Vec<Value>,
 }
 
-// The total with a class at a value, and none where it is above a bound. `others` are the student
-// conflicts without the class.
-fn total_up_to(state: &mut State, class: u32, value: Value, others: u64, most: u128) -> Option<u128>
+// How many values with the least total so far were kept, and this total.
+#[derive(Clone, Copy, Debug, PartialEq, Eq)]
+struct Kept {
+    count: usize,
+    total: Option<u128>,
+}
+
+impl Kept {
+    // How many stay before a value whose total isn't above theirs: none where it is below.
+    fn staying(&self, total: u128) -> usize
+        ensures none { IfNone self.now.total (result ≡ 0) }
+        ensures below { IfSome self.now.total (λ least. total < least → result ≡ 0) }
+        ensures same { IfSome self.now.total (λ least. total ≡ least → result ≡ self.now.count) }
+    {
+        match self.total {
+            Some(least) if total == least => self.count,
+            _ => 0,
+        }
+    }
+}
+
+// The most values that a class has.
+fn most_values(problem: &Problem) -> u32
+    ensures { (class : ℕ)
+        → class < length problem.now.classes
+        → length (domain_of problem.now class) ≤ result }
+{
+    let mut most = 0;
+    for class in 0..problem.class_count() {
+        most = domain_size(problem, class).max(most);
+    }
+    most
+}
+
+// The total with a class at a value, and none where it is above the least so far. `others` are the
+// student conflicts without the class.
+fn total_up_to(
+    state: &mut State,
+    class: u32,
+    value: Value,
+    others: u64,
+    least: Option<u128>,
+) -> Option<u128>
     requires value { IsOfDomain state.old.problem class value }
     requires others { others ≡ conflicts_without state.old.problem state.old.present class }
     ensures same { state.new ≡ state.old }
     ensures total { IfSome result
         (λ total. total ≡ total_with state.old.problem state.old.present class value) }
-    ensures most { IfSome result (λ total. total ≤ most) }
-    ensures none { IfNone result
-        (most < total_with state.old.problem state.old.present class value) }
+    ensures most { IfSome result (λ total. IfSome least (λ lowest. total ≤ lowest)) }
+    ensures none { IfNone result (IfNone least ⊥) }
+    ensures above { IfNone result (IfSome least
+        (λ lowest. lowest < total_with state.old.problem state.old.present class value)) }
 {
-    match most.checked_add(1) {
+    match least.and_then(|total| total.checked_add(1)) {
         None => Some(state.trial(class, value)),
         Some(bound) => state.trial_below(class, value, others, bound),
     }
@@ -46,178 +85,130 @@ fn total_up_to(state: &mut State, class: u32, value: Value, others: u64, most: u
 
 impl LeastValues {
     // No value.
-    pub(crate) fn new(alloc: Global) -> LeastValues {
-        LeastValues {
-            first: None,
-            values: Vec::new(alloc),
-        }
+    pub(crate) fn new(alloc: Global, state: &State) -> Result<LeastValues, AllocError>
+        ensures { IfOk result (HasRoom state.now.problem) }
+    {
+        let most = most_values(state.problem());
+        let values = Vec::with_capacity(alloc, most as usize)?;
+        Ok(LeastValues {
+            price: None,
+            values,
+        })
     }
 
     // Forgets the values.
-    fn clear(&mut self)
-        ensures first { self.new.first ≡ None }
+    pub(crate) fn clear(&mut self)
+        ensures price { self.new.price ≡ None }
         ensures values { self.new.values.items ≡ [] }
+        ensures room { vec_capacity self.new.values ≡ vec_capacity self.old.values }
     {
-        self.first = None;
+        self.price = None;
         self.values.clear();
     }
 
-    // Has this offer alone.
-    fn set(&mut self, offer: Offer) -> Result<(), AllocError>
-        ensures first { self.new.first ≡ Some offer }
-        ensures values { OnOk result (self.new.values.items ≡ offer.value ∷ []) }
+    // The price of the values.
+    pub(crate) fn price(&self) -> Option<Price>
+        ensures { result ≡ self.now.price }
     {
-        self.first = Some(offer);
+        self.price
+    }
+
+    // Has this value alone.
+    fn set(&mut self, value: Value, price: Price)
+        requires room { 0 < vec_capacity self.old.values }
+        ensures price { self.new.price ≡ Some price }
+        ensures values { self.new.values.items ≡ value ∷ [] }
+        ensures room { vec_capacity self.old.values ≤ vec_capacity self.new.values }
+    {
+        self.price = Some(price);
         self.values.clear();
-        self.values.push(offer.value)?;
-        Ok(())
+        self.values.push(value).unwrap();
     }
 
-    // Takes in an offer of the same price as the first of the least so far: it is passed over where its
-    // total is above theirs, and the others go where it is below.
-    fn take_equal(
-        &mut self,
-        state: &mut State,
-        class: u32,
-        others: u64,
-        first: Offer,
-        offer: Offer,
-    ) -> Result<(), AllocError>
-        requires others { others ≡ conflicts_without state.old.problem state.old.present class }
-        requires is_first { self.old.first ≡ Some first }
-        requires first { IsKnown state.old.problem state.old.present class first }
-        requires known { IsKnown state.old.problem state.old.present class offer }
-        ensures same { state.new ≡ state.old }
-        ensures known { IfSome self.new.first (IsKnown state.old.problem state.old.present class) }
-        ensures least { OnOk result ((numbers : Value → List ℕ) (xs : List Value)
-            → IsPriced state.old.problem state.old.present class numbers offer
-            → IsPriceOf state.old.problem state.old.present class numbers offer.value first.price
-            → AreLeast state.old.problem state.old.present class numbers xs self.old
-            → AreLeast state.old.problem state.old.present class numbers (xs ++ offer.value ∷ [])
-            self.new) }
+    // Takes in a value: it is passed over where its price is above that of the others, which go where it
+    // is below.
+    pub(crate) fn take(&mut self, value: Value, price: Price)
+        requires room { length self.old.values.items < vec_capacity self.old.values }
+        ensures room { vec_capacity self.old.values ≤ vec_capacity self.new.values }
+        ensures few { length self.new.values.items ≤ length self.old.values.items + 1 }
+        ensures lightest { (prices : Value → List ℕ) (xs : List Value)
+            → prices value ≡ price_numbers price
+            → AreLightest prices xs self.old
+            → AreLightest prices (xs ++ value ∷ []) self.new }
     {
-        let least = first.total(state, class);
-        self.first = Some(Offer {
-            total: Some(least),
-            ..first
-        });
-        let Some(total) = total_up_to(state, class, offer.value, others, least) else {
-            return Ok(());
+        let Some(least) = self.price else {
+            return self.set(value, price);
         };
-        if total < least {
-            return self.set(Offer {
-                total: Some(total),
-                ..offer
-            });
+        if price.is_below(&least) {
+            return self.set(value, price);
         }
-        self.values.push(offer.value)?;
-        Ok(())
+        if !least.is_below(&price) {
+            self.values.push(value).unwrap();
+        }
     }
 
-    // Takes in an offer: it is passed over where its price is above that of the least so far, and the
-    // others go where it is below. Where the prices are equal, the totals tell.
-    fn take(
-        &mut self,
-        state: &mut State,
-        class: u32,
-        others: u64,
-        offer: Offer,
-    ) -> Result<(), AllocError>
-        requires others { others ≡ conflicts_without state.old.problem state.old.present class }
-        requires first { IfSome self.old.first (IsKnown state.old.problem state.old.present class) }
-        requires known { IsKnown state.old.problem state.old.present class offer }
-        ensures same { state.new ≡ state.old }
-        ensures known { IfSome self.new.first (IsKnown state.old.problem state.old.present class) }
-        ensures least { OnOk result ((numbers : Value → List ℕ) (xs : List Value)
-            → IsPriced state.old.problem state.old.present class numbers offer
-            → AreLeast state.old.problem state.old.present class numbers xs self.old
-            → AreLeast state.old.problem state.old.present class numbers (xs ++ offer.value ∷ [])
-            self.new) }
-    {
-        let Some(first) = self.first else {
-            return self.set(offer);
-        };
-        if offer.price.is_below(&first.price) {
-            return self.set(offer);
-        }
-        if first.price.is_below(&offer.price) {
-            return Ok(());
-        }
-        self.take_equal(state, class, others, first, offer)
-    }
-
-    // Looks at a value, which is passed over where something stands in its way, and for which no memory
-    // is wanted then. `others` are the student conflicts without the class.
-    fn look_at(
-        &mut self,
-        state: &mut State,
-        weights: &ClassWeights,
-        class: u32,
-        value: Value,
-        others: u64,
-    ) -> Result<(), AllocError>
-        requires whole { length weights.now.outs.items ≡ length state.old.problem.classes }
+    // Keeps a value behind those kept so far, unless its total is above theirs. Where it is below, they
+    // go. `others` are the student conflicts without the class.
+    fn keep(&mut self, state: &mut State, class: u32, others: u64, value: Value, kept: Kept) -> Kept
         requires value { IsOfDomain state.old.problem class value }
         requires others { others ≡ conflicts_without state.old.problem state.old.present class }
-        requires first { IfSome self.old.first (IsKnown state.old.problem state.old.present class) }
-        ensures problem { state.new.problem ≡ state.old.problem }
-        ensures present { state.new.present ≡ state.old.present }
-        ensures entries { state.new.entries ≡ state.old.entries }
-        ensures known { IfSome self.new.first (IsKnown state.old.problem state.old.present class) }
-        ensures least { OnOk result ((xs : List Value)
-            → AreLeast state.old.problem state.old.present class
-            (burden_by state.old.problem state.old.present weights.now.outs.items class) xs
-            self.old
-            → AreLeast state.old.problem state.old.present class
-            (burden_by state.old.problem state.old.present weights.now.outs.items class)
-            (xs ++ filter (is_available state.old.problem state.old.present class) (value ∷ []))
-            self.new) }
-        ensures memory { OnErr result
-            (is_available state.old.problem state.old.present class value ≡ true) }
+        requires within { kept.count < length self.old.values.items }
+        ensures same { state.new ≡ state.old }
+        ensures room { vec_capacity self.new.values ≡ vec_capacity self.old.values }
+        ensures len { length self.new.values.items ≡ length self.old.values.items }
+        ensures few { result.count ≤ kept.count + 1 }
+        ensures rest { (k : ℕ)
+            → kept.count < k
+            → drop k self.new.values.items ≡ drop k self.old.values.items }
+        ensures least { (xs : List Value)
+            → AreKept (total_numbers state.old.problem state.old.present class) xs
+            self.old.values.items kept
+            → AreKept (total_numbers state.old.problem state.old.present class)
+            (xs ++ value ∷ []) self.new.values.items result }
     {
-        if !may_be_offered(state, class, value, self.first) {
-            return Ok(());
+        let Some(total) = total_up_to(state, class, value, others, kept.total) else {
+            return kept;
+        };
+        let count = kept.staying(total);
+        self.values[count] = value;
+        Kept {
+            count: count + 1,
+            total: Some(total),
         }
-        let weight = weights.of_taken(state);
-        let price = Price {
-            weight,
-            strays: false,
-        };
-        let offer = Offer {
-            price,
-            total: None,
-            value,
-        };
-        self.take(state, class, others, offer)
     }
 
-    // Finds the values of a class that are least among those in whose way nothing stands. Want of memory
-    // comes only where there is one.
-    pub(crate) fn find(
-        &mut self,
-        state: &mut State,
-        weights: &ClassWeights,
-        class: u32,
-    ) -> Result<(), AllocError>
-        requires whole { length weights.now.outs.items ≡ length state.old.problem.classes }
+    // Keeps of the values those with the least total. No total is asked for where there are fewer than
+    // two.
+    pub(crate) fn keep_least(&mut self, state: &mut State, class: u32)
         requires class { class < length state.old.problem.classes }
-        ensures problem { state.new.problem ≡ state.old.problem }
-        ensures present { state.new.present ≡ state.old.present }
-        ensures entries { state.new.entries ≡ state.old.entries }
-        ensures least { OnOk result (AreLeast state.old.problem state.old.present class
-            (burden_by state.old.problem state.old.present weights.now.outs.items class)
-            (available_values state.old.problem state.old.present class) self.new) }
-        ensures few { OnOk result (length self.new.values.items ≤ 1000000) }
-        ensures memory { OnErr result
-            (available_values state.old.problem state.old.present class ≢ []) }
+        requires values { All (IsOfDomain state.old.problem class) self.old.values.items }
+        ensures same { state.new ≡ state.old }
+        ensures room { vec_capacity self.new.values ≡ vec_capacity self.old.values }
+        ensures few { length self.new.values.items ≤ length self.old.values.items }
+        ensures least { self.new.values.items
+            ≡ all_least (total_numbers state.old.problem state.old.present class)
+            self.old.values.items }
     {
-        self.clear();
-        let others = state.conflicts_without(class);
-        for k in 0..domain_size(state.problem(), class) {
-            let value = value_at(state.problem(), class, k);
-            self.look_at(state, weights, class, value, others)?;
+        if self.values.len() < 2 {
+            return;
         }
-        Ok(())
+        let others = state.conflicts_without(class);
+        let mut kept = Kept {
+            count: 0,
+            total: None,
+        };
+        for place in 0..self.values.len() {
+            let value = self.values[place];
+            kept = self.keep(state, class, others, value, kept);
+        }
+        self.values.truncate(kept.count);
+    }
+
+    // The first of the values.
+    pub(crate) fn first(&self) -> Option<Value>
+        ensures { result ≡ slice_get self.now.values.items 0 }
+    {
+        self.values.first().copied()
     }
 
     // The value that a random word draws.

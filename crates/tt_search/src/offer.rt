@@ -1,60 +1,36 @@
-//! An available value of a class with its price, and the total with the class there, which is asked
-//! for only where it may tell.
+//! Which values of a class may come beside the least so far.
 
 ghost use Rattle.std.specs.Prelude.{◌≡◌, ◌⊎◌, None, IsTrue, true, false, length};
 ghost use Rattle.tt_plan.specs.Domain.{IsOfDomain};
 ghost use Rattle.tt_state.specs.History.{with_taken};
-ghost use Rattle.tt_state.specs.Values.{blocked_of, conflicts_of, total_with};
+ghost use Rattle.tt_state.specs.Values.{blocked_of, conflicts_of};
 ghost use Rattle.tt_search.specs.Turns.{is_available};
-ghost use Rattle.tt_search.specs.Numbers.{IsKnown, WeighsLess};
+ghost use Rattle.tt_search.specs.Numbers.{WeighsLess};
 
 use crate::drawing::is_open;
 use crate::price::Price;
 use tt_bits::Value;
 use tt_state::State;
 
-// A value with its price, and the total with the class there, where it is known.
-#[derive(Clone, Copy, Debug, PartialEq, Eq)]
-pub(crate) struct Offer {
-    pub price: Price,
-    pub total: Option<u128>,
-    pub value: Value,
-}
-
-impl Offer {
-    // The total with the class at the value, asked for where it isn't known.
-    pub(crate) fn total(&self, state: &mut State, class: u32) -> u128
-        requires known { IsKnown state.old.problem state.old.present class self.now }
-        ensures total { result
-            ≡ total_with state.old.problem state.old.present class self.now.value }
-        ensures same { state.new ≡ state.old }
-    {
-        match self.total {
-            None => state.trial(class, self.value),
-            Some(total) => total,
-        }
-    }
-}
-
 // Finds the conflict set of a class at a value that isn't blocked, unless it has more classes than the
-// best offer so far weighs, and so weighs more. Whether it was found.
-fn find_lighter(state: &mut State, class: u32, value: Value, best: Option<Offer>) -> bool
+// least so far weigh, and so weighs more. Whether it was found.
+fn find_lighter(state: &mut State, class: u32, value: Value, least: Option<Price>) -> bool
     requires value { IsOfDomain state.old.problem class value }
     requires open { blocked_of state.old.problem state.old.present.closures class value ≡ None }
     ensures found { IsTrue result
         → state.new
         ≡ with_taken state.old (conflicts_of state.old.problem state.old.present class value) }
     ensures heavier { result ≡ false
-        → WeighsLess best (length (conflicts_of state.old.problem state.old.present class value)) }
+        → WeighsLess least (length (conflicts_of state.old.problem state.old.present class value)) }
     ensures problem { state.new.problem ≡ state.old.problem }
     ensures present { state.new.present ≡ state.old.present }
     ensures entries { state.new.entries ≡ state.old.entries }
 {
-    let Some(least) = best else {
+    let Some(price) = least else {
         state.find_conflicts(class, value);
         return true;
     };
-    match u32::try_from(least.price.weight) {
+    match u32::try_from(price.weight) {
         Ok(most) => state.find_conflicts_within(class, value, most),
         Err(_) => {
             state.find_conflicts(class, value);
@@ -63,13 +39,13 @@ fn find_lighter(state: &mut State, class: u32, value: Value, best: Option<Offer>
     }
 }
 
-// Whether a value may come beside the best offer so far: nothing stands in its way, and its conflict
-// set has no more classes than that offer weighs. The conflict set is found then.
+// Whether a value may come beside those with the least price so far: nothing stands in its way, and its
+// conflict set has no more classes than theirs weigh. The conflict set is found then.
 pub(crate) fn may_be_offered(
     state: &mut State,
     class: u32,
     value: Value,
-    best: Option<Offer>,
+    least: Option<Price>,
 ) -> bool
     requires { IsOfDomain state.old.problem class value }
     ensures found { IsTrue result
@@ -79,13 +55,13 @@ pub(crate) fn may_be_offered(
         → is_available state.old.problem state.old.present class value ≡ true }
     ensures passed { result ≡ false
         → (is_available state.old.problem state.old.present class value ≡ false)
-        ⊎ WeighsLess best
+        ⊎ WeighsLess least
         (length (conflicts_of state.old.problem state.old.present class value)) }
     ensures problem { state.new.problem ≡ state.old.problem }
     ensures present { state.new.present ≡ state.old.present }
     ensures entries { state.new.entries ≡ state.old.entries }
 {
-    if !is_open(state, class, value) || !find_lighter(state, class, value, best) {
+    if !is_open(state, class, value) || !find_lighter(state, class, value, least) {
         return false;
     }
     state.first_locked().is_none()

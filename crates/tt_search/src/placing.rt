@@ -1,15 +1,14 @@
 //! `place`: turns that learn which classes are hard.
 
-ghost use Rattle.std.specs.Prelude.{◌≡◌, ◌<◌, ◌∷◌, [], None, ℕ, List, IfOk, IfSome, IsSome, OnOk, OnErr, length};
+ghost use Rattle.std.specs.Prelude.{◌≡◌, ◌<◌, ◌∷◌, [], None, ℕ, List, IfOk, IfSome, OnOk, OnErr, length};
 ghost use Rattle.std.specs.Option.{option_map};
 ghost use Rattle.tt_state.specs.History.{IsWithinStep, desk_of, earlier, stepped, trail, with_taken};
 ghost use Rattle.tt_state.specs.Snapshots.{StaysLocked};
 ghost use Rattle.tt_search.specs.Least.{IsFirstLeast};
 ghost use Rattle.tt_search.specs.Searched.{rank_of};
 ghost use Rattle.tt_search.specs.PlaceTurns.{all_placed, place_end, place_turn, place_way, places_after};
-ghost use Rattle.tt_draw.specs.Words.{drawn};
 ghost use Rattle.tt_search.specs.Drawing.{AreCandidates};
-ghost use Rattle.tt_search.specs.Turns.{candidates as candidates_of};
+ghost use Rattle.tt_search.specs.LeastNow.{HasRoom};
 ghost use Rattle.tt_search.specs.Numbers.{MayMake};
 ghost use Rattle.tt_search.specs.UnderWay.{IsUnderWay};
 ghost use Rattle.tt_search.specs.WayNow.{BeginsAt};
@@ -26,56 +25,37 @@ use std::alloc::{AllocError, Global};
 use tt_state::State;
 use tt_watch::Watcher;
 
-// What moves are chosen by.
-#[derive(Drop)]
-struct Chooser {
-    weights: ClassWeights,
-    least: LeastValues,
-}
-
-impl Chooser {
-    // Before the first turn.
-    fn new(alloc: Global, state: &State) -> Result<Chooser, AllocError>
-        ensures { IfOk result (λ chooser. CountsOuts state.now.problem [] chooser.weights) }
-    {
-        let weights = ClassWeights::new(alloc, state)?;
-        let least = LeastValues::new(alloc);
-        Ok(Chooser { weights, least })
-    }
-
-    // The class of the turn with two random words, and the value that it is forced to, if it has an
-    // available one. None where there is no candidate. Want of memory comes only where there is one.
-    fn next_move(
-        &mut self,
-        state: &mut State,
-        candidates: &Candidates,
-        class_word: u32,
-        value_word: u32,
-    ) -> Result<Option<Move>, AllocError>
-        requires candidates { AreCandidates state.old.problem state.old.present candidates.now [] }
-        requires whole { length self.old.weights.outs.items ≡ length state.old.problem.classes }
-        ensures problem { state.new.problem ≡ state.old.problem }
-        ensures present { state.new.present ≡ state.old.present }
-        ensures entries { state.new.entries ≡ state.old.entries }
-        ensures weights { self.new.weights ≡ self.old.weights }
-        ensures turn { IfOk result (λ next.
-            (outs : List ℕ)
-            → CountsOuts state.old.problem outs self.old.weights
-            → place_turn state.old.problem (record { class = class_word; value = value_word })
-            (record { snapshot = state.old.present; outs = outs })
-            ≡ option_map (moment_after state.old.problem state.old.present outs) next) }
-        ensures may { IfOk result
-            (λ next. IfSome next (MayMake state.old.problem state.old.present)) }
-        ensures memory { OnErr result
-            (IsSome (drawn class_word (candidates_of state.old.problem state.old.present))) }
-    {
-        let Some(class) = candidates.drawn(class_word) else {
-            return Ok(None);
-        };
-        self.least.find(state, &self.weights, class)?;
-        let value = self.least.drawn(value_word);
-        Ok(Some(Move { class, value }))
-    }
+// The class of the turn with two random words, and the value that it is forced to, if it has an
+// available one. None where there is no candidate.
+fn next_move(
+    state: &mut State,
+    weights: &ClassWeights,
+    candidates: &Candidates,
+    least: &mut LeastValues,
+    class_word: u32,
+    value_word: u32,
+) -> Option<Move>
+    requires candidates { AreCandidates state.old.problem state.old.present candidates.now [] }
+    requires whole { length weights.now.outs.items ≡ length state.old.problem.classes }
+    requires room { HasRoom state.old.problem least.old }
+    ensures problem { state.new.problem ≡ state.old.problem }
+    ensures present { state.new.present ≡ state.old.present }
+    ensures entries { state.new.entries ≡ state.old.entries }
+    ensures room { HasRoom state.old.problem least.new }
+    ensures turn { (outs : List ℕ)
+        → CountsOuts state.old.problem outs weights.now
+        → place_turn state.old.problem (record { class = class_word; value = value_word })
+        (record { snapshot = state.old.present; outs = outs })
+        ≡ option_map (moment_after state.old.problem state.old.present outs) result }
+    ensures may { IfSome result (MayMake state.old.problem state.old.present) }
+{
+    let Some(class) = candidates.drawn(class_word) else {
+        return None;
+    };
+    weights.find_lightest(state, class, least);
+    least.keep_least(state, class);
+    let value = least.drawn(value_word);
+    Some(Move { class, value })
 }
 
 // Makes turns in the last step, until so many are made or there is no candidate. The watcher is told
@@ -83,13 +63,13 @@ impl Chooser {
 fn walk<W: Watcher>(
     state: &mut State,
     way: &mut Way,
-    chooser: &mut Chooser,
+    weights: &mut ClassWeights,
     turns: u32,
     seed: u64,
     watcher: &mut W,
 ) -> Result<u32, AllocError>
     requires begins { BeginsAt state.old.problem None state.old.present way.old }
-    requires counts { CountsOuts state.old.problem [] chooser.old.weights }
+    requires counts { CountsOuts state.old.problem [] weights.old }
     requires step { 0 < length (earlier state.old) }
     requires trail { trail state.old ≡ state.old.present ∷ [] }
     ensures step { IsWithinStep (with_taken state.old []) (with_taken state.new []) }
@@ -105,11 +85,19 @@ fn walk<W: Watcher>(
     for made in 0..turns {
         let class_word = words.next_u32();
         let value_word = words.next_u32();
-        let Some(next) = chooser.next_move(state, &way.candidates, class_word, value_word)? else {
+        let found = next_move(
+            state,
+            weights,
+            &way.candidates,
+            &mut way.least,
+            class_word,
+            value_word,
+        );
+        let Some(next) = found else {
             return Ok(made);
         };
         way.go(state, None, next)?;
-        chooser.weights.count_out(state, next);
+        weights.count_out(state, next);
         watcher.tell(way.progress(made + 1, turns));
     }
     Ok(turns)
@@ -133,9 +121,9 @@ fn place_on<W: Watcher>(
     ensures entries { OnErr result (state.new.entries ≡ state.old.entries) }
 {
     let mut way = Way::new(alloc, state, None)?;
-    let mut chooser = Chooser::new(alloc, state)?;
+    let mut weights = ClassWeights::new(alloc, state)?;
     state.begin()?;
-    let made = walk(state, &mut way, &mut chooser, turns, seed, watcher);
+    let made = walk(state, &mut way, &mut weights, turns, seed, watcher);
     way.end(state, made)
 }
 

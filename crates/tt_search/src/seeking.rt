@@ -47,7 +47,8 @@ fn walk<W: Watcher>(
 {
     let mut words = Lcg64Xsh32::new(seed, 1);
     for made in 0..turns {
-        let Some(next) = next_move(state, published, &way.candidates, words.next_u32()) else {
+        let word = words.next_u32();
+        let Some(next) = next_move(state, published, &way.candidates, &mut way.least, word) else {
             return Ok(made);
         };
         way.go(state, published, next)?;

@@ -1,18 +1,18 @@
 //! A turn: the class that is drawn, and the value of the least price.
 
-ghost use Rattle.std.specs.Prelude.{◌≡◌, ◌<◌, ◌∷◌, [], ℕ, List, Some, IfSome, length};
+ghost use Rattle.std.specs.Prelude.{◌≡◌, ◌+◌, ◌<◌, ◌≤◌, ◌∷◌, ◌++◌, [], List, IfSome, length, vec_capacity};
 ghost use Rattle.std.specs.List.{filter};
 ghost use Rattle.std.specs.Option.{option_copied, option_map, ForSome};
-ghost use Rattle.tt_base.specs.Lists.{least_after};
 ghost use Rattle.tt_published.specs.Timetable.{IsTimetableOf};
-ghost use Rattle.tt_state.specs.Values.{conflicts_without};
-ghost use Rattle.tt_search.specs.Turns.{chosen_value, is_available, price_of, turn_of};
-ghost use Rattle.tt_search.specs.Drawing.{AreCandidates};
 ghost use Rattle.tt_plan.specs.Domain.{IsOfDomain};
-ghost use Rattle.tt_search.specs.Numbers.{IsAvailable, IsBetter, IsKnown, IsOffer, IsPriceOf, IsPriced, MayMake, after_move, offered};
+ghost use Rattle.tt_search.specs.Turns.{available_values, chosen_value, is_available, turn_of};
+ghost use Rattle.tt_search.specs.Drawing.{AreCandidates};
+ghost use Rattle.tt_search.specs.LeastNow.{AreLightest, HasRoom};
+ghost use Rattle.tt_search.specs.Numbers.{IsAvailable, MayMake, after_move, prices_of};
 
 use crate::drawing::Candidates;
-use crate::offer::{Offer, may_be_offered};
+use crate::least::LeastValues;
+use crate::offer::may_be_offered;
 use crate::price::{Price, is_stray};
 use tt_bits::Value;
 use tt_plan::{domain_size, value_at};
@@ -26,123 +26,86 @@ pub(crate) struct Move {
     pub value: Option<Value>,
 }
 
-// Of two offers of the same price the one with the lower total, and of equal ones the first. `others`
-// are the student conflicts without the class.
-fn lower_offer(state: &mut State, class: u32, others: u64, first: Offer, offer: Offer) -> Offer
-    requires others { others ≡ conflicts_without state.old.problem state.old.present class }
-    requires first { IsKnown state.old.problem state.old.present class first }
-    requires known { IsKnown state.old.problem state.old.present class offer }
-    ensures same { state.new ≡ state.old }
-    ensures known { IsKnown state.old.problem state.old.present class result }
-    ensures better { (numbers : Value → List ℕ)
-        → IsPriced state.old.problem state.old.present class numbers first
-        → IsPriced state.old.problem state.old.present class numbers offer
-        → IsPriceOf state.old.problem state.old.present class numbers offer.value first.price
-        → IsBetter state.old.problem state.old.present class numbers (Some first) offer.value
-        result }
-{
-    let least = first.total(state, class);
-    let Some(total) = state.trial_below(class, offer.value, others, least) else {
-        return Offer {
-            total: Some(least),
-            ..first
-        };
-    };
-    Offer {
-        total: Some(total),
-        ..offer
-    }
-}
-
-// The better one of the best offer so far and a new one, and of equal ones the first. `others` are the
-// student conflicts without the class.
-fn better_offer(
-    state: &mut State,
-    class: u32,
-    others: u64,
-    best: Option<Offer>,
-    offer: Offer,
-) -> Offer
-    requires others { others ≡ conflicts_without state.old.problem state.old.present class }
-    requires best { IfSome best (IsKnown state.old.problem state.old.present class) }
-    requires known { IsKnown state.old.problem state.old.present class offer }
-    ensures same { state.new ≡ state.old }
-    ensures known { IsKnown state.old.problem state.old.present class result }
-    ensures better { (numbers : Value → List ℕ)
-        → IfSome best (IsPriced state.old.problem state.old.present class numbers)
-        → IsPriced state.old.problem state.old.present class numbers offer
-        → IsBetter state.old.problem state.old.present class numbers best offer.value result }
-{
-    let Some(first) = best else {
-        return offer;
-    };
-    if offer.price.is_below(&first.price) {
-        return offer;
-    }
-    if first.price.is_below(&offer.price) {
-        return first;
-    }
-    lower_offer(state, class, others, first, offer)
-}
-
-// The best offer once a value was looked at, which is passed over where something stands in its way or
-// its conflict set alone weighs more. `others` are the student conflicts without the class.
+// Looks at a value of a class, which is passed over where something stands in its way or its conflict
+// set alone weighs more than the least so far.
 fn look_at(
     state: &mut State,
     published: Option<&Published>,
     class: u32,
     value: Value,
-    others: u64,
-    best: Option<Offer>,
-) -> Option<Offer>
+    least: &mut LeastValues,
+)
     requires belongs { ForSome (option_copied published) (IsTimetableOf state.old.problem) }
     requires value { IsOfDomain state.old.problem class value }
-    requires others { others ≡ conflicts_without state.old.problem state.old.present class }
-    requires priced { IfSome best (IsOffer state.old.problem state.old.present class
-        (price_of state.old.problem (option_copied published) state.old.present class)) }
+    requires room { length least.old.values.items < vec_capacity least.old.values }
     ensures problem { state.new.problem ≡ state.old.problem }
     ensures present { state.new.present ≡ state.old.present }
     ensures entries { state.new.entries ≡ state.old.entries }
-    ensures priced { IfSome result (IsOffer state.old.problem state.old.present class
-        (price_of state.old.problem (option_copied published.entry) state.old.present class)) }
-    ensures better { offered result
-        ≡ least_after
-        (price_of state.old.problem (option_copied published.entry) state.old.present class)
-        (offered best)
-        (filter (is_available state.old.problem state.old.present class) (value ∷ [])) }
+    ensures room { vec_capacity least.old.values ≤ vec_capacity least.new.values }
+    ensures few { length least.new.values.items ≤ length least.old.values.items + 1 }
+    ensures lightest { (xs : List Value)
+        → AreLightest
+        (prices_of state.old.problem (option_copied published.entry) state.old.present class) xs
+        least.old
+        → AreLightest
+        (prices_of state.old.problem (option_copied published.entry) state.old.present class)
+        (xs ++ filter (is_available state.old.problem state.old.present class) (value ∷ []))
+        least.new }
 {
-    if !may_be_offered(state, class, value, best) {
-        return best;
+    if !may_be_offered(state, class, value, least.price()) {
+        return;
     }
     let weight = state.weight(class, value);
     let strays = is_stray(state.problem(), published, class, value);
-    let offer = Offer {
-        price: Price { weight, strays },
-        total: None,
-        value,
-    };
-    Some(better_offer(state, class, others, best, offer))
+    least.take(value, Price { weight, strays });
 }
 
-// The value chosen for a class, the first of its available values with the least price.
-#[tactic(auto, unfolding(crate::specs::Turns::chosen_value))]
-fn choice(state: &mut State, published: Option<&Published>, class: u32) -> Option<Value>
+// Finds the available values of a class that have the least price.
+fn find_lightest(
+    state: &mut State,
+    published: Option<&Published>,
+    class: u32,
+    least: &mut LeastValues,
+)
     requires belongs { ForSome (option_copied published) (IsTimetableOf state.old.problem) }
     requires class { class < length state.old.problem.classes }
+    requires room { HasRoom state.old.problem least.old }
     ensures problem { state.new.problem ≡ state.old.problem }
     ensures present { state.new.present ≡ state.old.present }
     ensures entries { state.new.entries ≡ state.old.entries }
+    ensures room { HasRoom state.old.problem least.new }
+    ensures lightest { AreLightest
+        (prices_of state.old.problem (option_copied published.entry) state.old.present class)
+        (available_values state.old.problem state.old.present class) least.new }
+{
+    least.clear();
+    for k in 0..domain_size(state.problem(), class) {
+        let value = value_at(state.problem(), class, k);
+        look_at(state, published, class, value, least);
+    }
+}
+
+// The value chosen for a class, the first of its available values with the least price and total.
+fn choice(
+    state: &mut State,
+    published: Option<&Published>,
+    class: u32,
+    least: &mut LeastValues,
+) -> Option<Value>
+    requires belongs { ForSome (option_copied published) (IsTimetableOf state.old.problem) }
+    requires class { class < length state.old.problem.classes }
+    requires room { HasRoom state.old.problem least.old }
+    ensures problem { state.new.problem ≡ state.old.problem }
+    ensures present { state.new.present ≡ state.old.present }
+    ensures entries { state.new.entries ≡ state.old.entries }
+    ensures room { HasRoom state.old.problem least.new }
     ensures choice { result
         ≡ chosen_value state.old.problem (option_copied published.entry) state.old.present class }
     ensures available { IfSome result (IsAvailable state.old.problem state.old.present class) }
 {
-    let others = state.conflicts_without(class);
-    let mut best: Option<Offer> = None;
-    for k in 0..domain_size(state.problem(), class) {
-        let value = value_at(state.problem(), class, k);
-        best = look_at(state, published, class, value, others, best);
-    }
-    best.map(|offer| offer.value)
+    find_lightest(state, published, class, least);
+    least.keep_least(state, class);
+    least.first()
 }
 
 // The class of the turn with a random word and the value that it is forced to, if it has an available
@@ -152,10 +115,13 @@ pub(crate) fn next_move(
     state: &mut State,
     published: Option<&Published>,
     candidates: &Candidates,
+    least: &mut LeastValues,
     word: u32,
 ) -> Option<Move>
     requires belongs { ForSome (option_copied published) (IsTimetableOf state.old.problem) }
     requires candidates { AreCandidates state.old.problem state.old.present candidates.now [] }
+    requires room { HasRoom state.old.problem least.old }
+    ensures room { HasRoom state.old.problem least.new }
     ensures problem { state.new.problem ≡ state.old.problem }
     ensures present { state.new.present ≡ state.old.present }
     ensures entries { state.new.entries ≡ state.old.entries }
@@ -164,6 +130,6 @@ pub(crate) fn next_move(
     ensures may { IfSome result (MayMake state.old.problem state.old.present) }
 {
     let class = candidates.drawn(word)?;
-    let value = choice(state, published, class);
+    let value = choice(state, published, class, least);
     Some(Move { class, value })
 }

@@ -14,6 +14,7 @@ ghost use Rattle.tt_search.specs.UnderWay.{LeadsOn};
 ghost use Rattle.tt_search.specs.WayNow.{BeginsAt, IsWayAt};
 
 use crate::drawing::Candidates;
+use crate::least::LeastValues;
 use crate::moving::MovedClasses;
 use crate::price::{Rank, rank_now};
 use crate::turn::Move;
@@ -29,12 +30,13 @@ pub(crate) struct Best {
     pub mark: u64,
 }
 
-// How far turns have come in the last step: what is kept of the present snapshot, and the best moment
-// so far.
+// How far turns have come in the last step: what is kept of the present snapshot, the values of a turn,
+// and the best moment so far.
 #[derive(Drop)]
 pub(crate) struct Way {
     pub candidates: Candidates,
     moved: MovedClasses,
+    pub least: LeastValues,
     pub best: Best,
 }
 
@@ -96,11 +98,13 @@ impl Way {
     {
         let candidates = Candidates::new(alloc, state)?;
         let moved = MovedClasses::new(alloc, state, published)?;
+        let least = LeastValues::new(alloc, state)?;
         let rank = rank_now(state, moved.count);
         let best = Best { rank, mark: 0 };
         Ok(Way {
             candidates,
             moved,
+            least,
             best,
         })
     }

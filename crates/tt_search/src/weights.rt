@@ -1,11 +1,19 @@
 //! How hard each class is: what it weighs in `place`.
 
-ghost use Rattle.std.specs.Prelude.{◌≡◌, ◌+◌, ◌≤◌, ◌^◌, [], ℕ, IfOk, count_by, length, nat_eq, slice_index_or};
-ghost use Rattle.std.specs.List.{sum_by};
-ghost use Rattle.tt_search.specs.PlacingNow.{CountsOuts, taken_by, weight_by};
+ghost use Rattle.std.specs.Prelude.{◌≡◌, ◌+◌, ◌<◌, ◌≤◌, ◌^◌, ◌∷◌, ◌++◌, [], ℕ, List, IfOk, count_by, length, nat_eq, slice_index_or, vec_capacity};
+ghost use Rattle.std.specs.List.{filter, sum_by};
+ghost use Rattle.tt_plan.specs.Domain.{IsOfDomain};
+ghost use Rattle.tt_search.specs.Turns.{available_values, is_available};
+ghost use Rattle.tt_search.specs.LeastNow.{AreLightest, HasRoom};
+ghost use Rattle.tt_search.specs.PlacingNow.{CountsOuts, prices_by, taken_by, weight_by};
 
+use crate::least::LeastValues;
+use crate::offer::may_be_offered;
+use crate::price::Price;
 use crate::turn::Move;
 use std::alloc::{AllocError, Global};
+use tt_bits::Value;
+use tt_plan::{domain_size, value_at};
 use tt_state::State;
 
 // How hard each class is: how often the turns so far took it out. It weighs 1 more than that.
@@ -68,6 +76,57 @@ impl ClassWeights {
     {
         if made.value.is_some() {
             self.count_taken(state);
+        }
+    }
+
+    // Looks at a value of a class, which is passed over where something stands in its way or its conflict
+    // set has more classes than the least so far weigh.
+    fn look_at(&self, state: &mut State, class: u32, value: Value, least: &mut LeastValues)
+        requires whole { length self.now.outs.items ≡ length state.old.problem.classes }
+        requires value { IsOfDomain state.old.problem class value }
+        requires room { length least.old.values.items < vec_capacity least.old.values }
+        ensures problem { state.new.problem ≡ state.old.problem }
+        ensures present { state.new.present ≡ state.old.present }
+        ensures entries { state.new.entries ≡ state.old.entries }
+        ensures room { vec_capacity least.old.values ≤ vec_capacity least.new.values }
+        ensures few { length least.new.values.items ≤ length least.old.values.items + 1 }
+        ensures lightest { (xs : List Value)
+            → AreLightest
+            (prices_by state.old.problem state.old.present self.now.outs.items class) xs least.old
+            → AreLightest
+            (prices_by state.old.problem state.old.present self.now.outs.items class)
+            (xs ++ filter (is_available state.old.problem state.old.present class) (value ∷ []))
+            least.new }
+    {
+        if !may_be_offered(state, class, value, least.price()) {
+            return;
+        }
+        let weight = self.of_taken(state);
+        let price = Price {
+            weight,
+            strays: false,
+        };
+        least.take(value, price);
+    }
+
+    // Finds the available values of a class that have the least price.
+    pub(crate) fn find_lightest(&self, state: &mut State, class: u32, least: &mut LeastValues)
+        requires whole { length self.now.outs.items ≡ length state.old.problem.classes }
+        requires class { class < length state.old.problem.classes }
+        requires room { HasRoom state.old.problem least.old }
+        ensures problem { state.new.problem ≡ state.old.problem }
+        ensures present { state.new.present ≡ state.old.present }
+        ensures entries { state.new.entries ≡ state.old.entries }
+        ensures room { HasRoom state.old.problem least.new }
+        ensures few { length least.new.values.items ≤ 1000000 }
+        ensures lightest { AreLightest
+            (prices_by state.old.problem state.old.present self.now.outs.items class)
+            (available_values state.old.problem state.old.present class) least.new }
+    {
+        least.clear();
+        for k in 0..domain_size(state.problem(), class) {
+            let value = value_at(state.problem(), class, k);
+            self.look_at(state, class, value, least);
         }
     }
 }

@@ -1,10 +1,8 @@
-use Rattle.std.proofs.Common.{◌≡◌, ℕ, ◌^◌, ◌<◌, ◌≤◌, ◌∙◌, [], refl, subst, sym, arith}
-use Rattle.std.specs.Prelude.{slice_index_or}
-use Rattle.tt_search.specs.declared.weights.ClassWeights.{ClassWeights}
+use Rattle.std.proofs.Common.{◌≡◌, ◌^◌, ◌<◌, ◌∙◌, [], refl, arith}
 use Rattle.tt_state.specs.History.{earlier, trail, with_taken}
 use Rattle.tt_draw.proofs.WordLemmas.{words_from}
 use Rattle.tt_state.proofs.StepLemmas.{within_next, within_same, within_still}
-use Rattle.tt_search.proofs.PlacingLemmas.{all_placing, far_off, next_placing, no_placing, some_turn, starts_placing, turn_made, two_drawn}
+use Rattle.tt_search.proofs.PlacingLemmas.{all_placing, far_off, next_placing, no_placing, starts_placing, turn_made, two_drawn}
 use Rattle.tt_search.proofs.ListLemmas.{on_err}
 use Rattle.tt_search.proofs.placing.walk.Goals as goal
 
@@ -16,88 +14,81 @@ loop-made-init g c =
     record {
       step = within_same (with_taken start []);
       at = begins.at;
-      placing = starts_placing start.problem c.args.turns c.args.seed start.present _ (trail start) c.args.chooser.now.weights c.args.way.now.best c.requires.counts words c.requires.trail begins.ranked begins.first;
+      placing = starts_placing start.problem c.args.turns c.args.seed start.present _ (trail start) c.args.weights.now c.args.way.now.best c.requires.counts words c.requires.trail begins.ranked begins.first;
     }
 
-pub next_move-requires-clause-candidates : goal.next_move-requires-clause-candidates
-next_move-requires-clause-candidates g c = rw c.loop-made.invariant.step.problem c.loop-made.invariant.at.candidates
+pub next_move-found-requires-clause-candidates : goal.next_move-found-requires-clause-candidates
+next_move-found-requires-clause-candidates g c = rw c.loop-made.invariant.step.problem c.loop-made.invariant.at.candidates
 
-pub next_move-requires-clause-whole : goal.next_move-requires-clause-whole
-next_move-requires-clause-whole g c = rw c.loop-made.invariant.step.problem c.loop-made.invariant.placing.counts.whole
+pub next_move-found-requires-clause-whole : goal.next_move-found-requires-clause-whole
+next_move-found-requires-clause-whole g c = rw c.loop-made.invariant.step.problem c.loop-made.invariant.placing.counts.whole
+
+pub next_move-found-requires-clause-room : goal.next_move-found-requires-clause-room
+next_move-found-requires-clause-room g c = rw c.loop-made.invariant.step.problem c.loop-made.invariant.at.room
 
 pub go-requires-clause-at : goal.go-requires-clause-at
-go-requires-clause-at g c = rw (c.next_move.ensures.problem, c.next_move.ensures.present, c.loop-made.invariant.step.problem) c.loop-made.invariant.at
+go-requires-clause-at g c =
+    let begun = c.loop-made.invariant.step.problem in
+    let at = c.loop-made.invariant.at in
+    rw (c.next_move-found.ensures.problem, c.next_move-found.ensures.present, begun) (record { candidates = at.candidates; moved = at.moved; room = rw begun at c.next_move-found.ensures.room })
 
 pub go-requires-clause-step : goal.go-requires-clause-step
 go-requires-clause-step g c =
-    let same : earlier c.next_move.new.state ≡ earlier c.args.state.now = rw (c.next_move.ensures.present, c.next_move.ensures.entries) c.loop-made.invariant.step.earlier in
+    let same : earlier c.next_move-found.new.state ≡ earlier c.args.state.now = rw (c.next_move-found.ensures.present, c.next_move-found.ensures.entries) c.loop-made.invariant.step.earlier in
     rw same c.requires.step
 
 pub loop-made-preserved : goal.loop-made-preserved
 loop-made-preserved g c =
     let start = c.args.state.now in
     let before = c.loop-made.state in
-    let moved = c.next_move.new.state in
+    let moved = c.next_move-found.new.state in
     let after = c.go.new.state in
-    let same_problem = c.next_move.ensures.problem in
-    let same_present = c.next_move.ensures.present in
-    let same_entries = c.next_move.ensures.entries in
+    let same_problem = c.next_move-found.ensures.problem in
+    let same_present = c.next_move-found.ensures.present in
+    let same_entries = c.next_move-found.ensures.entries in
     let begun : before.problem ≡ start.problem = c.loop-made.invariant.step.problem in
     let problem : moved.problem ≡ start.problem = same_problem ∙ begun in
     let same_trail : trail moved ≡ trail before = rw (same_present, same_entries) refl in
     let words = two_drawn c.next_u32-class_word.result c.next_u32-value_word.result _ _ _ c.next_u32-class_word.ensures c.next_u32-value_word.ensures in
-    let turn = rw (begun, c.in-Some.is) at c.in_ok-next.ensures.turn in
+    let turn = rw (begun, c.in-Some.is) at c.next_move-found.ensures.turn in
     record {
       step = within_next _ _ _ c.loop-made.invariant.step (within_next _ _ _ (within_still (with_taken before []) (with_taken moved []) same_problem same_present same_entries refl) c.in_ok-go.ensures.step);
       at = rw problem at c.in_ok-go.ensures.at;
-      placing = next_placing _ _ _ _ c.loop-made.made _ _ _ before.present after.present (trail before) (trail after) c.loop-made.chooser.weights c.count_out.new.self c.loop-made.way.best c.go.new.self.best c.in-Some.next after.taken
+      placing = next_placing _ _ _ _ c.loop-made.made _ _ _ before.present after.present (trail before) (trail after) c.loop-made.weights c.count_out.new.self c.loop-made.way.best c.go.new.self.best c.in-Some.next after.taken
           c.loop-made.invariant.placing (omega arith) words turn (rw (problem, same_present) at c.in_ok-go.ensures.present) (rw (problem, same_present) at c.in_ok-go.ensures.taken) (rw (problem, same_trail) at c.in_ok-go.ensures.best)
-          (rw c.next_move.ensures.weights at c.count_out.ensures.whole) (rw c.next_move.ensures.weights at c.count_out.ensures.counts) c.count_out.ensures.few;
+          c.count_out.ensures.whole c.count_out.ensures.counts c.count_out.ensures.few;
     }
 
 pub count_out-requires-clause-room : goal.count_out-requires-clause-room
 count_out-requires-clause-room g c =
     let below : c.loop-made.made < 2 ^ 32 = omega arith in
-    subst (λ (w : ClassWeights). (class : ℕ) → slice_index_or w.outs.items class 0 ≤ 2 ^ 63) (sym c.next_move.ensures.weights) (far_off _ _ _ _ _ _ _ _ _ _ c.loop-made.invariant.placing below)
+    far_off _ _ _ _ _ _ _ _ _ _ c.loop-made.invariant.placing below
 
 pub returns-in_default-clause-step : goal.returns-in_default-clause-step
 returns-in_default-clause-step g c =
-    within_next _ _ _ c.loop-made.invariant.step (within_still (with_taken c.loop-made.state []) (with_taken c.next_move.new.state []) c.next_move.ensures.problem c.next_move.ensures.present c.next_move.ensures.entries refl)
-
-pub returns-in_err-next-clause-step : goal.returns-in_err-next-clause-step
-returns-in_err-next-clause-step g c =
-    within_next _ _ _ c.loop-made.invariant.step (within_still (with_taken c.loop-made.state []) (with_taken c.next_move.new.state []) c.next_move.ensures.problem c.next_move.ensures.present c.next_move.ensures.entries refl)
+    within_next _ _ _ c.loop-made.invariant.step (within_still (with_taken c.loop-made.state []) (with_taken c.next_move-found.new.state []) c.next_move-found.ensures.problem c.next_move-found.ensures.present c.next_move-found.ensures.entries refl)
 
 pub returns-in_err-go-clause-step : goal.returns-in_err-go-clause-step
 returns-in_err-go-clause-step g c =
     within_next _ _ _ c.loop-made.invariant.step
-    (within_next _ _ _ (within_still (with_taken c.loop-made.state []) (with_taken c.next_move.new.state []) c.next_move.ensures.problem c.next_move.ensures.present c.next_move.ensures.entries refl) c.in_err-go.ensures.step)
+    (within_next _ _ _ (within_still (with_taken c.loop-made.state []) (with_taken c.next_move-found.new.state []) c.next_move-found.ensures.problem c.next_move-found.ensures.present c.next_move-found.ensures.entries refl) c.in_err-go.ensures.step)
 
 pub returns-in_default-clause-way : goal.returns-in_default-clause-way
 returns-in_default-clause-way g c =
-    let same_trail : trail c.next_move.new.state ≡ trail c.loop-made.state = rw (c.next_move.ensures.present, c.next_move.ensures.entries) refl in
+    let same_trail : trail c.next_move-found.new.state ≡ trail c.loop-made.state = rw (c.next_move-found.ensures.present, c.next_move-found.ensures.entries) refl in
     let words = two_drawn c.next_u32-class_word.result c.next_u32-value_word.result _ _ _ c.next_u32-class_word.ensures c.next_u32-value_word.ensures in
-    let turn = rw (c.loop-made.invariant.step.problem, c.in_default.is) at c.in_ok-next.ensures.turn in
-    rw same_trail (no_placing _ _ _ _ c.loop-made.made _ _ _ c.loop-made.state.present (trail c.loop-made.state) c.loop-made.chooser.weights c.loop-made.way.best c.loop-made.invariant.placing words turn)
+    let turn = rw (c.loop-made.invariant.step.problem, c.in_default.is) at c.next_move-found.ensures.turn in
+    rw same_trail (no_placing _ _ _ _ c.loop-made.made _ _ _ c.loop-made.state.present (trail c.loop-made.state) c.loop-made.weights c.loop-made.way.best c.loop-made.invariant.placing words turn)
 
 pub returns-clause-way : goal.returns-clause-way
 returns-clause-way g c =
     let made : c.args.turns ≡ c.loop-made.made = omega arith in
-    all_placing _ _ _ _ c.loop-made.made _ c.loop-made.state.present (trail c.loop-made.state) c.loop-made.chooser.weights c.loop-made.way.best c.loop-made.invariant.placing made
-
-pub returns-in_err-next-clause-memory : goal.returns-in_err-next-clause-memory
-returns-in_err-next-clause-memory g c =
-    let start = c.args.state.now in
-    let before = c.loop-made.state in
-    let words = two_drawn c.next_u32-class_word.result c.next_u32-value_word.result _ _ _ c.next_u32-class_word.ensures c.next_u32-value_word.ensures in
-    let some = rw c.loop-made.invariant.step.problem at c.in_err-next.ensures.memory in
-    on_err c.from_residual.result
-    (turn_made _ _ _ _ c.loop-made.made _ _ _ before.present (trail before) c.loop-made.chooser.weights c.loop-made.way.best c.loop-made.invariant.placing (omega arith) words (λ outs counts. some_turn start.problem _ (record { snapshot = before.present; outs = outs }) some))
+    all_placing _ _ _ _ c.loop-made.made _ c.loop-made.state.present (trail c.loop-made.state) c.loop-made.weights c.loop-made.way.best c.loop-made.invariant.placing made
 
 pub returns-in_err-go-clause-memory : goal.returns-in_err-go-clause-memory
 returns-in_err-go-clause-memory g c =
     let before = c.loop-made.state in
     let words = two_drawn c.next_u32-class_word.result c.next_u32-value_word.result _ _ _ c.next_u32-class_word.ensures c.next_u32-value_word.ensures in
-    let turn = rw (c.loop-made.invariant.step.problem, c.in-Some.is) at c.in_ok-next.ensures.turn in
-    on_err c.from_residual-in_err-go.result
-    (turn_made _ _ _ _ c.loop-made.made _ _ _ before.present (trail before) c.loop-made.chooser.weights c.loop-made.way.best c.loop-made.invariant.placing (omega arith) words (λ outs counts. rw (turn outs counts) refl))
+    let turn = rw (c.loop-made.invariant.step.problem, c.in-Some.is) at c.next_move-found.ensures.turn in
+    on_err c.from_residual.result
+    (turn_made _ _ _ _ c.loop-made.made _ _ _ before.present (trail before) c.loop-made.weights c.loop-made.way.best c.loop-made.invariant.placing (omega arith) words (λ outs counts. rw (turn outs counts) refl))

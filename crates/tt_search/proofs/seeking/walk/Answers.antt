@@ -30,8 +30,14 @@ loop-made-init g c =
 pub next_move-requires-clause-candidates : goal.next_move-requires-clause-candidates
 next_move-requires-clause-candidates g c = rw c.loop-made.invariant.step.problem c.loop-made.invariant.at.candidates
 
+pub next_move-requires-clause-room : goal.next_move-requires-clause-room
+next_move-requires-clause-room g c = rw c.loop-made.invariant.step.problem c.loop-made.invariant.at.room
+
 pub go-requires-clause-at : goal.go-requires-clause-at
-go-requires-clause-at g c = rw (c.next_move.ensures.problem, c.next_move.ensures.present, c.loop-made.invariant.step.problem) c.loop-made.invariant.at
+go-requires-clause-at g c =
+    let begun = c.loop-made.invariant.step.problem in
+    let at = c.loop-made.invariant.at in
+    rw (c.next_move.ensures.problem, c.next_move.ensures.present, begun) (record { candidates = at.candidates; moved = at.moved; room = rw begun at c.next_move.ensures.room })
 
 pub go-requires-clause-may : goal.go-requires-clause-may
 go-requires-clause-may g c = rw (c.next_move.ensures.problem, c.next_move.ensures.present) c.in-Some.ensures.may
@@ -53,10 +59,10 @@ loop-made-preserved g c =
     let same_entries = c.next_move.ensures.entries in
     let begun : before.problem ≡ start.problem = c.loop-made.invariant.step.problem in
     let problem : moved.problem ≡ start.problem = same_problem ∙ begun in
-    let turn : turn_of start.problem aim c.next_u32.result before.present ≡ Some after.present =
+    let turn : turn_of start.problem aim c.next_u32-word.result before.present ≡ Some after.present =
     rw (← begun) (c.in-Some.ensures.turn ∙ ap Some (sym (rw (same_problem, same_present) at c.in_ok-go.ensures.present))) in
     let below : c.loop-made.made < c.args.turns = omega arith in
-    let onward_is = made_turn next_u32 (turn_of start.problem aim) c.args.turns c.loop-made.made (stream_of (steps_u32 pcg32) c.loop-made.words) (stream_of (steps_u32 pcg32) c.next_u32.new.self) c.next_u32.result before.present after.present below c.next_u32.ensures turn in
+    let onward_is = made_turn next_u32 (turn_of start.problem aim) c.args.turns c.loop-made.made (stream_of (steps_u32 pcg32) c.loop-made.words) (stream_of (steps_u32 pcg32) c.next_u32-word.new.self) c.next_u32-word.result before.present after.present below c.next_u32-word.ensures turn in
     let same_trail : trail moved ≡ trail before = rw (same_present, same_entries) refl in
     record {
       step = within_next _ _ _ c.loop-made.invariant.step (within_next _ _ _ (within_still (with_taken before []) (with_taken moved []) same_problem same_present same_entries refl) c.in_ok-go.ensures.step);
@@ -79,8 +85,8 @@ returns-in_default-clause-way g c =
     let aim = option_copied c.args.published in
     let before = c.loop-made.state in
     let moved = c.next_move.new.state in
-    let turn : turn_of start.problem aim c.next_u32.result before.present ≡ None = rw (← c.loop-made.invariant.step.problem) c.in_default.ensures.turn in
-    let onward_is = no_turn next_u32 (turn_of start.problem aim) (c.args.turns - c.loop-made.made) (stream_of (steps_u32 pcg32) c.loop-made.words) (stream_of (steps_u32 pcg32) c.next_u32.new.self) c.next_u32.result before.present c.next_u32.ensures turn in
+    let turn : turn_of start.problem aim c.next_u32-word.result before.present ≡ None = rw (← c.loop-made.invariant.step.problem) c.in_default.ensures.turn in
+    let onward_is = no_turn next_u32 (turn_of start.problem aim) (c.args.turns - c.loop-made.made) (stream_of (steps_u32 pcg32) c.loop-made.words) (stream_of (steps_u32 pcg32) c.next_u32-word.new.self) c.next_u32-word.result before.present c.next_u32-word.ensures turn in
     let same_trail : trail moved ≡ trail before = rw (c.next_move.ensures.present, c.next_move.ensures.entries) refl in
     rw same_trail (rw onward_is at c.loop-made.invariant.way)
 
@@ -100,5 +106,5 @@ returns-in_err-go-clause-memory g c =
     let aim = option_copied c.args.published in
     let below : c.loop-made.made < c.args.turns = omega arith in
     let turn = rw c.loop-made.invariant.step.problem at c.in-Some.ensures.turn in
-    let one = makes_one next_u32 (turn_of start.problem aim) c.args.turns c.loop-made.made (stream_of (steps_u32 pcg32) c.loop-made.words) (stream_of (steps_u32 pcg32) c.next_u32.new.self) c.next_u32.result c.loop-made.state.present _ below c.next_u32.ensures turn in
+    let one = makes_one next_u32 (turn_of start.problem aim) c.args.turns c.loop-made.made (stream_of (steps_u32 pcg32) c.loop-made.words) (stream_of (steps_u32 pcg32) c.next_u32-word.new.self) c.next_u32-word.result c.loop-made.state.present _ below c.next_u32-word.ensures turn in
     on_err c.from_residual.result (omega (arith, c.loop-made.invariant.way.counts, one))

@@ -8,7 +8,7 @@ returns c =
     let now = c.args.state.now in
     let aim = option_copied c.args.published in
     record {
-      at = record { candidates = c.in_ok-candidates.ensures; moved = c.in_ok-moved.ensures.moved };
+      at = record { candidates = c.in_ok-candidates.ensures; moved = c.in_ok-moved.ensures.moved; room = c.in_ok-least.ensures };
       ranked = c.rank_now-rank.ensures aim (moved_is now.problem aim now.present c.in_ok-moved.moved c.requires c.in_ok-moved.ensures.moved);
       first = refl;
     }

@@ -1,0 +1,20 @@
+use Rattle.std.proofs.Common.{◌≡◌, ◌≤◌, length, take}
+use Rattle.std.specs.List.{filter}
+use Rattle.std.specs.Option.{option_copied}
+use Rattle.tt_plan.specs.Domain.{domain_of}
+use Rattle.tt_search.specs.LeastNow.{AreLightest, HasRoom}
+use Rattle.tt_search.specs.Numbers.{prices_of}
+use Rattle.tt_search.specs.Turns.{is_available}
+use Rattle.tt_search.proofs.turn.find_lightest.Given as goal
+
+abbrev pub invariant-loop-k : goal.invariant-loop-k
+invariant-loop-k l =
+    let start = l.fn.state in
+    record {
+      problem : l.state.problem ≡ start.problem;
+      present : l.state.present ≡ start.present;
+      entries : l.state.entries ≡ start.entries;
+      room : HasRoom start.problem l.least;
+      few : length l.least.values.items ≤ l.k;
+      lightest : AreLightest (prices_of start.problem (option_copied l.published) start.present l.class) (filter (is_available start.problem start.present l.class) (take l.k (domain_of start.problem l.class))) l.least;
+    }

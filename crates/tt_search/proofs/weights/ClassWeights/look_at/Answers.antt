@@ -1,0 +1,18 @@
+use Rattle.tt_search.specs.PlacingNow.{prices_by}
+use Rattle.tt_search.specs.Turns.{is_available}
+use Rattle.tt_search.proofs.ChoiceLemmas.{passed_by_outs, passed_on, weight_after}
+use Rattle.tt_search.proofs.weights.ClassWeights.look_at.Goals as goal
+
+pub returns-then-not-may_be_offered-clause-lightest : goal.returns-then-not-may_be_offered-clause-lightest
+returns-then-not-may_be_offered-clause-lightest c = λ xs are.
+    let start = c.args.state.now in
+    passed_by_outs start.problem start.present c.args.self.now.outs.items c.args.class (is_available start.problem start.present c.args.class) xs c.args.least.now c.args.value
+    (rw c.price.ensures at (c.may_be_offered.ensures.passed c.if-not-may_be_offered.true)) are
+
+pub returns-clause-lightest : goal.returns-clause-lightest
+returns-clause-lightest c = λ xs are.
+    let start = c.args.state.now in
+    let outs = c.args.self.now.outs.items in
+    let prices = prices_by start.problem start.present outs c.args.class in
+    let priced = weight_after start c.may_be_offered.new.state outs c.args.class c.args.value c.of_taken-weight.result (c.may_be_offered.ensures.found c.if-not-may_be_offered.false) c.of_taken-weight.ensures in
+    passed_on prices (is_available start.problem start.present c.args.class) xs c.take.new.self c.args.value (c.may_be_offered.ensures.available c.if-not-may_be_offered.false) (c.take.ensures.lightest prices xs priced are)
