@@ -133,10 +133,9 @@ impl Score {
         ensures closures { closures_of self.new ≡ closures_of self.old }
         ensures fits { Fits problem.now self.new }
     {
-        let before = unsectioned_at(problem, self.roster.roster(), student);
+        let less = unsectioned_at(problem, self.roster.roster(), student);
         self.roster.seat(problem, student, class);
-        let after = unsectioned_at(problem, self.roster.roster(), student);
-        self.unsectioned = self.unsectioned - before + after;
+        self.unsectioned -= less;
     }
 
     /// Takes a class from a student who has it.
@@ -152,10 +151,9 @@ impl Score {
         ensures closures { closures_of self.new ≡ closures_of self.old }
         ensures fits { Fits problem.now self.new }
     {
-        let before = unsectioned_at(problem, self.roster.roster(), student);
         self.roster.leave(problem, student, class);
-        let after = unsectioned_at(problem, self.roster.roster(), student);
-        self.unsectioned = self.unsectioned - before + after;
+        let more = unsectioned_at(problem, self.roster.roster(), student);
+        self.unsectioned += more;
     }
 
     /// By how much the plan misses a rule: violated pairs, days, slots, breaks or blocks.
