@@ -1,5 +1,5 @@
 -- A room of the table.
-use Rattle.std.proofs.Common.{rules, ◌≡◌, ℕ, ◌<◌, None, Option, Some, refl}
+use Rattle.std.proofs.Common.{◌≡◌, ℕ, ◌<◌, None, Option, Some, refl}
 use Rattle.tt_travel.specs.Table.{IsRoomOf, Table}
 
 -- a room is one of the table where each number that it may be is

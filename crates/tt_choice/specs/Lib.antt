@@ -1,3 +1,4 @@
+pub mod Limits
 pub mod Least
 pub mod Passed
 pub mod Choices

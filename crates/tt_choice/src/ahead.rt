@@ -3,6 +3,7 @@
 ghost use Rattle.std.specs.Prelude.{[], ◌≡◌, ◌+◌, ◌<◌, ◌≤◌, length};
 ghost use Rattle.std.specs.List.{list_any};
 ghost use Rattle.tt_problem.specs.Spans.{is_in};
+ghost use Rattle.tt_choice.specs.Limits.{most_across, most_classes};
 ghost use Rattle.tt_choice.specs.Ahead.{AreSure, IsAcross, IsLeastOf, IsLeastWith, IsSureOf};
 ghost use Rattle.tt_choice.specs.Choices.{places_between};
 ghost use Rattle.tt_choice.specs.Open.{is_open, may_come, may_have_parent};
@@ -10,6 +11,9 @@ ghost use Rattle.tt_choice.specs.Standings.{situation_in};
 
 use crate::standing::Standing;
 use tt_problem::Span;
+
+// The fewest subparts for which looking ahead takes less than it spares.
+const WORTH_A_LOOK: usize = 3;
 
 // Whether a class is one of some spans.
 fn is_among(spans: &[Span], class: u32) -> bool
@@ -85,10 +89,10 @@ fn least_with(standing: &Standing, front: &[u32], span: Span) -> u64
 
 // How many pairs of a front and the classes of later subparts are sure to come.
 pub(crate) fn sure_across(standing: &Standing, front: &[u32], rest: &[Span]) -> u64
-    requires few_front { length front.now ≤ 20000 }
-    requires few_rest { length rest.now ≤ 20000 }
+    requires few_front { length front.now ≤ most_classes }
+    requires few_rest { length rest.now ≤ most_classes }
     ensures across { IsAcross (situation_in standing.now) front.now rest.now result }
-    ensures few { result ≤ 400000000 }
+    ensures few { result ≤ most_across }
 {
     let mut pairs = 0;
     for span in rest {
@@ -100,7 +104,7 @@ pub(crate) fn sure_across(standing: &Standing, front: &[u32], rest: &[Span]) -> 
 // The lesser of a number and the pairs that a class is sure to have with those already taken and
 // with those of later subparts. A class without a seat lessens nothing.
 fn lessened(standing: &Standing, class: u32, rest: &[Span], least: u64) -> u64
-    requires few_rest { length rest.now ≤ 20000 }
+    requires few_rest { length rest.now ≤ most_classes }
     ensures sure { IsSureOf (situation_in standing.now) class rest.now result }
     ensures less { result ≤ least }
 {
@@ -115,7 +119,7 @@ fn lessened(standing: &Standing, class: u32, rest: &[Span], least: u64) -> u64
 // The fewest pairs that a class of a span with a seat is sure to have with those already taken and
 // with those of later subparts.
 fn least_pairs(standing: &Standing, span: Span, rest: &[Span]) -> u64
-    requires few_rest { length rest.now ≤ 20000 }
+    requires few_rest { length rest.now ≤ most_classes }
     ensures least { IsLeastOf (situation_in standing.now) span rest.now result }
     ensures few { result ≤ length standing.now.taken.now + length rest.now }
 {
@@ -130,12 +134,16 @@ fn least_pairs(standing: &Standing, span: Span, rest: &[Span]) -> u64
 }
 
 // Writes how many pairs are sure to come, from each subpart on: pairs with the classes already taken,
-// and pairs among the classes that come.
+// and pairs among the classes that come. Of few subparts it says that none are.
 pub(crate) fn look_ahead(standing: &Standing, subparts: &[Span], ahead: &mut [u64])
-    requires few { length subparts.now ≤ 20000 }
+    requires few { length subparts.now ≤ most_classes }
     requires long { length subparts.now < length ahead.old }
     ensures { AreSure (situation_in standing.now) subparts.now ahead.new }
 {
+    if subparts.len() < WORTH_A_LOOK {
+        ahead[..subparts.len() + 1].fill(0);
+        return;
+    }
     let mut place = subparts.len();
     ahead[place] = 0;
     while place > 0 {

@@ -1,6 +1,7 @@
 //! The least allowed choice of a course.
 
 ghost use Rattle.std.specs.Prelude.{◌≡◌, ℕ, ◌+◌, ◌-◌, ◌<◌, ◌≤◌, ◌++◌, ◌∷◌, [], None, false, length, take, IfNone, IfSome, All};
+ghost use Rattle.tt_choice.specs.Limits.{most_added, most_added_with, most_classes, most_taken};
 ghost use Rattle.tt_choice.specs.Least.{pairs_added, least_choice};
 ghost use Rattle.tt_choice.specs.Passed.{better, passed};
 ghost use Rattle.tt_choice.specs.Ahead.{AreSure, IsSure};
@@ -38,15 +39,16 @@ fn is_fewer(found: Option<Found>, pairs: u64) -> bool
 // How many pairs a front adds together with one more class.
 fn pairs_with(standing: &Standing, front: &[u32], pairs: u64, class: u32) -> u64
     requires pairs { pairs ≡ pairs_added (situation_in standing.now) front.now }
-    requires few { length front.now ≤ 20000 }
+    requires few { length front.now ≤ most_classes }
     ensures pairs { result ≡ pairs_added (situation_in standing.now) (front.now ++ class ∷ []) }
-    ensures few { result ≤ 17000000000 }
+    ensures few { result ≤ most_added_with }
 {
     pairs + standing.pairs_with_taken(class) as u64 + standing.pairs_with(front, class) as u64
 }
 
 // Whether a choice that goes on from a front with a class of each later subpart may be taken for the
-// best. `ahead` pairs of these classes are sure to come, beside those with the front.
+// best. `ahead` pairs of these classes are sure to come, beside those with the front. Before the last
+// subpart but one nothing more is asked, since to walk it takes no longer.
 fn leads_on(
     standing: &Standing,
     front: &[u32],
@@ -57,15 +59,18 @@ fn leads_on(
 ) -> bool
     requires pairs { pairs ≡ pairs_added (situation_in standing.now) front.now }
     requires sure { IsSure (situation_in standing.now) rest.now ahead }
-    requires few_front { length front.now ≤ 20000 }
-    requires few_rest { length rest.now ≤ 20000 }
-    requires few_pairs { pairs ≤ 17000000000 }
-    requires few_ahead { ahead ≤ 16400000000 }
+    requires few_front { length front.now ≤ most_classes }
+    requires few_rest { length rest.now ≤ most_classes }
+    requires few_pairs { pairs ≤ most_added_with }
+    requires few_ahead { ahead ≤ most_added }
     ensures { result ≡ false → IsInVain (situation_in standing.now) found front.now rest.now }
 {
     let sure = pairs + ahead;
     if !is_fewer(found, sure) {
         return false;
+    }
+    if rest.len() < 2 {
+        return true;
     }
     if !is_open(standing, front, rest) {
         return false;
@@ -88,13 +93,16 @@ fn pairs_through(
     requires pairs { pairs
         ≡ pairs_added (situation_in standing.now) (take (length front.now - 1) front.now) }
     requires sure { IsSure (situation_in standing.now) rest.now ahead }
-    requires few_front { length front.now ≤ 20000 }
-    requires few_rest { length rest.now ≤ 20000 }
-    requires few_ahead { ahead ≤ 16400000000 }
+    requires few_front { length front.now ≤ most_classes }
+    requires few_rest { length rest.now ≤ most_classes }
+    requires few_ahead { ahead ≤ most_added }
     ensures some { IfSome result
         (λ more. more ≡ pairs_added (situation_in standing.now) front.now) }
     ensures none { IfNone result (IsInVain (situation_in standing.now) found front.now rest.now) }
 {
+    if !is_fewer(found, pairs + ahead) {
+        return None;
+    }
     let last = front.len() - 1;
     let class = front[last];
     if !may_come(standing, front, rest, class) {
@@ -145,8 +153,8 @@ fn pass(
 ) -> Option<Found>
     requires sure { AreSure (situation_in standing.now) subparts.now buffers.old.ahead.items }
     requires some { 0 < length subparts.now }
-    requires spans { All (λ s. s.after ≤ 20000) subparts.now }
-    requires few { length subparts.now ≤ 20000 }
+    requires spans { All (λ s. s.after ≤ most_classes) subparts.now }
+    requires few { length subparts.now ≤ most_classes }
     requires room { HasRoomFor (length subparts.now) buffers.old }
     requires found { IfSome found (IsFoundIn (situation_in standing.now) buffers.old.best.items) }
     ensures room { (count : ℕ) → HasRoomFor count buffers.old → HasRoomFor count buffers.new }
@@ -205,8 +213,8 @@ fn pass_open(
     found: Option<Found>,
 ) -> Option<Found>
     requires some { 0 < length subparts.now }
-    requires spans { All (λ s. s.after ≤ 20000) subparts.now }
-    requires few { length subparts.now ≤ 20000 }
+    requires spans { All (λ s. s.after ≤ most_classes) subparts.now }
+    requires few { length subparts.now ≤ most_classes }
     requires room { HasRoomFor (length subparts.now) buffers.old }
     requires found { IfSome found (IsFoundIn (situation_in standing.now) buffers.old.best.items) }
     ensures room { (count : ℕ) → HasRoomFor count buffers.old → HasRoomFor count buffers.new }
@@ -263,7 +271,7 @@ fn least_choice(
 
 // How many conflicting pairs a choice adds to the classes taken, pairs inside it among them.
 fn pairs_in(standing: &Standing, choice: &[u32]) -> u64
-    requires few { length choice.now ≤ 20000 }
+    requires few { length choice.now ≤ most_classes }
     ensures { result ≡ pairs_added (situation_in standing.now) choice.now }
 {
     let mut pairs = 0;
@@ -287,7 +295,7 @@ pub fn least_of_course(
 ) -> Option<usize>
     requires student { student < length state.now.problem.students }
     requires course { course < length state.now.problem.courses }
-    requires few_taken { length taken.now ≤ 800000 }
+    requires few_taken { length taken.now ≤ most_taken }
     requires room { HasRoom state.now.problem buffers.old }
     ensures room { HasRoom state.now.problem buffers.new }
     ensures choice { chosen_by buffers.new.best.items result
@@ -314,8 +322,8 @@ pub fn least_of_course(
 /// among them.
 pub fn pairs_of(state: &State, student: u32, taken: &[u32], choice: &[u32]) -> u64
     requires student { student < length state.now.problem.students }
-    requires few_taken { length taken.now ≤ 800000 }
-    requires few { length choice.now ≤ 20000 }
+    requires few_taken { length taken.now ≤ most_taken }
+    requires few { length choice.now ≤ most_classes }
     ensures { result
         ≡ pairs_added (situation_of state.now.problem state.now.present student [] taken.now)
         choice.now }

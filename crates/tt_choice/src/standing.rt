@@ -4,6 +4,7 @@ ghost use Rattle.std.specs.Prelude.{◌≡◌, ℕ, ◌<◌, ◌≤◌, Some, le
 ghost use Rattle.tt_bits.specs.Spots.{spot_at};
 ghost use Rattle.tt_bits.specs.declared.times.Spot.{Spot};
 ghost use Rattle.tt_score.specs.Fits.{occupancy_of, student_lists};
+ghost use Rattle.tt_choice.specs.Limits.{most_taken};
 
 use tt_bits::Spot;
 use tt_problem::Problem;
@@ -22,7 +23,7 @@ pub(crate) struct Standing<'a> {
     pub taken: &'a [u32],
     ghost rooms: { (class : ℕ) (spot : Spot) (room : ℕ) → spot_at (occupancy_of score.now).spots class ≡ Some spot → spot.room ≡ Some room → room < problem.now.travel.rooms },
     ghost student_within: { student < length (student_lists score.now) },
-    ghost few_taken: { length taken.now ≤ 800000 },
+    ghost few_taken: { length taken.now ≤ most_taken },
 }
 
 impl<'a> Standing<'a> {
@@ -37,7 +38,7 @@ impl<'a> Standing<'a> {
     /// has those of them whose parent may be missing yet.
     pub fn new(state: &'a State, student: u32, wanting: &'a [u32], taken: &'a [u32]) -> Standing<'a>
         requires student { student < length state.now.problem.students }
-        requires few_taken { length taken.now ≤ 800000 }
+        requires few_taken { length taken.now ≤ most_taken }
         ensures problem { result.problem.now ≡ state.now.problem }
         ensures situation { situation_in result
             ≡ situation_of state.now.problem state.now.present student wanting.now taken.now }

@@ -1,4 +1,3 @@
-use Rattle.std.proofs.Common.{rules, ◌≡◌}
 use Rattle.tt_choice.proofs.RoomLemmas.{room_is}
 use Rattle.tt_choice.proofs.standing.Standing.conflicts.Goals as goal
 

@@ -1,0 +1,22 @@
+-- Contract. How large the numbers of a choice become.
+use Rattle.std.specs.Prelude.{ℕ}
+
+-- the most classes of a problem, so a choice has no more, and a configuration no more subparts
+abbrev pub most_classes : ℕ
+most_classes = 20000
+
+-- the most classes that a student has already taken, those of 40 courses
+abbrev pub most_taken : ℕ
+most_taken = 800000
+
+-- the most pairs that a choice adds: each of its classes with each that is taken or chosen
+abbrev pub most_added : ℕ
+most_added = 16400000000
+
+-- the same with one class more
+abbrev pub most_added_with : ℕ
+most_added_with = 16400820000
+
+-- the most pairs of a class of a front and one that is still to come
+abbrev pub most_across : ℕ
+most_across = 400000000
