@@ -1,12 +1,11 @@
 -- The items of a list that are least, as an item is added, and by numbers of one kind and then by those of another.
-use Rattle.std.proofs.Common.{◌≡◌, ℕ, suc, ◌<◌, ◌≤◌, Bool, true, false, cond, Option, Some, None, List, [], ◌∷◌, ◌++◌, length, refl, ap, sym, subst, ◌∙◌, arith}
+use Rattle.std.proofs.Common.{◌≡◌, ℕ, suc, ◌<◌, Bool, true, false, cond, Option, Some, None, List, [], ◌∷◌, ◌++◌, length, refl, ap, sym, subst, ◌∙◌, arith}
 use Rattle.std.specs.Prelude.{All, not, slice_get, slice_index_or}
 use Rattle.std.specs.List.{best_of, filter, list_any}
 use Rattle.std.specs.Option.{option_map}
 use Rattle.std.proofs.lemmas.List.{append-nil, append_assoc, get_or_default}
 use Rattle.std.proofs.lemmas.List.Elements.{filter-append, filter_agree}
 use Rattle.std.proofs.lemmas.List.Folds.{list_any_at, list_any_none}
-use Rattle.std.proofs.lemmas.List.Sums.{count_by-le-length, length-filter}
 use Rattle.std.proofs.lemmas.List.MinMax.{IsFirstBest-from_best_of}
 use Rattle.tt_base.specs.Lists.{comes_before, first_least, is_less, least_after}
 use Rattle.tt_base.proofs.ListLemmas.{least_after_append}
@@ -99,12 +98,6 @@ pub all_of_few : {A : Type 0} (numbers : A → List ℕ) (xs : List A) → lengt
 all_of_few numbers [] few = refl
 all_of_few numbers (x ∷ []) few = sym (alone numbers x)
 all_of_few numbers (x ∷ y ∷ xs) few = absurd (omega (arith, few))
-
--- no more items are least than there are
-pub few_least : {A : Type 0} (numbers : A → List ℕ) (xs : List A) → length (all_least numbers xs) ≤ length xs
-few_least {A = A} numbers xs =
-    let best = λ (x : A). not (list_any (λ y. is_less numbers y x) xs) in
-    omega (arith, length-filter best xs, count_by-le-length best xs)
 
 -- the first least, where its numbers are known
 first_by : {A : Type 0} (numbers : A → List ℕ) (ns : List ℕ) (o : Option A) → Some ns ≡ option_map numbers o → (y : A) × (o ≡ Some y) × (numbers y ≡ ns)
