@@ -68,6 +68,25 @@ first_gone (a ∷ list) classes class rest is = elim (cases_Bool (is_listed a cl
       }
 ]
 
+-- the classes below the first that goes are in the new list
+pub passed_first : (from after : ℕ) (list classes : List ℕ) (class : ℕ) (rest : List ℕ) → Ascends from after list → gone_from list classes ≡ class ∷ rest → (c : ℕ) → c < class → is_listed c list ≡ true → is_listed c classes ≡ true
+passed_first from after [] classes class rest up is c lt has = absurd (cc is)
+passed_first from after (a ∷ list) classes class rest up is c lt has = elim (cases_eq c a) [
+  | inl same ↦ elim (cases_Bool (is_listed a classes)) [
+    | inl there ↦ rw same there
+    | inr gone ↦ absurd (let here : a ∷ gone_from list classes ≡ class ∷ rest = rw gone at is in let first : a ≡ class = cc here in omega arith)
+  ]
+  | inr apart ↦
+      let behind : is_listed c list ≡ true = rw (ne_eqb c a apart) at has in
+      elim (cases_Bool (is_listed a classes)) [
+        | inl there ↦ passed_first (a + 1) after list classes class rest up.2 (rw there at is) c lt behind
+        | inr gone ↦ absurd (let here : a ∷ gone_from list classes ≡ class ∷ rest = rw gone at is in
+            let first : a ≡ class = cc here in
+            let none : is_listed c list ≡ false = has-below c (a + 1) after list up.2 (omega arith) in
+            cc (behind, none))
+      ]
+]
+
 -- where no class goes, all stay
 pub kept_all : (list classes : List ℕ) → gone_from list classes ≡ [] → kept_of list classes ≡ list
 kept_all [] classes none = refl

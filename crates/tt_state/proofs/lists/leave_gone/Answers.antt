@@ -1,12 +1,14 @@
-use Rattle.std.proofs.Common.{◌≡◌, ◌∙◌, length, drop, ap, sym, arith}
+use Rattle.std.proofs.Common.{◌≡◌, true, ◌∙◌, length, drop, ap, sym, arith}
 use Rattle.std.specs.Prelude.{[], slice_set}
 use Rattle.std.proofs.lemmas.List.{set-set}
-use Rattle.tt_roster.specs.Lists.{list_of, without_class}
+use Rattle.tt_base.specs.Lists.{is_listed}
+use Rattle.tt_roster.specs.Lists.{Ascends, list_of, without_class}
 use Rattle.tt_roster.proofs.KeptLemmas.{list_is}
+use Rattle.tt_roster.proofs.StudentLemmas.{has-without_other}
 use Rattle.tt_score.specs.Fits.{student_lists}
 use Rattle.tt_state.specs.History.{gone_from, left_by}
 use Rattle.tt_state.specs.Past.{kept_of}
-use Rattle.tt_state.proofs.GoneLemmas.{IsFirstGone, first_gone, kept_all, listed_below}
+use Rattle.tt_state.proofs.GoneLemmas.{IsFirstGone, first_gone, kept_all, listed_below, passed_first}
 use Rattle.tt_state.proofs.ListsLemmas.{list_now, lists_from}
 use Rattle.tt_state.proofs.lists.leave_gone.Goals.{After-leave}
 use Rattle.tt_state.proofs.lists.leave_gone.Goals as goal
@@ -54,11 +56,17 @@ loop-class-preserved c =
     let list = list_of lists student in
     let class = c.in-Some.class in
     let behind = drop 1 (gone_from list classes) in
+    let n = length c.args.problem.now.classes in
+    let up : Ascends 0 n list = list_is c.args.problem.now c.loop-class.score.roster student inv.fits.roster c.requires.student in
     record {
       fits = c.leave.ensures.fits;
       planned = c.leave.ensures.plan ∙ inv.planned;
       closed = c.leave.ensures.closures ∙ inv.closed;
       lists = ap (λ l. slice_set l student []) c.leave.ensures.lists ∙ set-set lists student (without_class class list) [] ∙ inv.lists;
+      passed = λ d lt has.
+          let there : is_listed d (without_class class list) ≡ true = sym (ap (is_listed d) (now c)) ∙ has in
+          let before : is_listed d list ≡ true = sym (has-without_other d class 0 n list up (first c).seated (λ same. absurd (omega arith))) ∙ there in
+          passed_first 0 n list classes class behind up c.in-Some.ensures d lt before;
       kept = ap (λ l. kept_of l classes) (now c) ∙ (first c).kept ∙ inv.kept;
       entries = ap (λ l. left_by student l c.note.new.self.list) (gone c) ∙ ap (left_by student behind) c.note.ensures.list ∙ sym (ap (λ l. left_by student l c.loop-class.past.list) c.in-Some.ensures) ∙ inv.entries;
       spare = omega (arith, ap length (gone c), ap length c.in-Some.ensures, inv.spare, c.note.ensures.spare);
