@@ -104,7 +104,7 @@ fewer_in : (f : ℕ → ℕ → Bool) (turned : (a b : ℕ) → f a b ≡ f b a)
 fewer_in f turned test list choice less = omega (arith, less, pairs_replaced f turned test list choice)
 
 -- an equation, with a weight
-weighed : (w x y a b : ℕ) → x + a ≡ y + b → w * x + w * a ≡ w * y + w * b
+pub weighed : (w x y a b : ℕ) → x + a ≡ y + b → w * x + w * a ≡ w * y + w * b
 weighed w x y a b e = omega (arith, ap (λ (n : ℕ). w * n) e)
 
 no_student : StudentPart

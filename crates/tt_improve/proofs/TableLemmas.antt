@@ -10,12 +10,18 @@ use Rattle.tt_state.specs.Snapshots.{Snapshot}
 use Rattle.tt_improve.specs.declared.targets.Looked.{Looked}
 use Rattle.tt_improve.specs.declared.targets.Target.{Target}
 use Rattle.tt_improve.specs.declared.targets.Targets.{Targets}
+use Rattle.tt_improve.specs.declared.touched.Touched.{Touched}
 use Rattle.tt_improve.specs.Idle.{KnowsIdle, targets_in, stages_in, unlooked}
 
 -- the table has a target for each of its rows
 pub length_in : (o : Targets) → o.table.len ≡ length (targets_in o)
 unfolding targets_in
 length_in o = omega (arith, o.table.ok.0, length-map o.table.items (λ (looked : Looked). looked.target))
+
+-- and a stage for each
+pub stages_whole : (o : Targets) → length (stages_in o) ≡ length (targets_in o)
+unfolding targets_in stages_in
+stages_whole o = omega (arith, length-map o.table.items (λ (looked : Looked). looked.target), length-map o.table.items (λ (looked : Looked). looked.stage))
 
 inside : (o : Targets) (k : ℕ) → k < length (targets_in o) → k < length o.table.items
 inside o k within = omega (arith, within, length_in o, o.table.ok.0)
@@ -58,11 +64,11 @@ no_stage [] k = refl
 no_stage (target ∷ targets) zero = refl
 no_stage (target ∷ targets) (suc k) = no_stage targets k
 
-pub idle_new : (p : Parts) (s : Snapshot) (o : Targets) (targets : List Target) → o.table.items ≡ map unlooked targets → KnowsIdle p s o 1
+pub idle_new : (p : Parts) (s : Snapshot) (o : Targets) (targets : List Target) → o.table.items ≡ map unlooked targets → (touched : Touched) → KnowsIdle p s o touched 1
 unfolding stages_in
-idle_new p s o targets is =
+idle_new p s o targets is touched =
     let none = λ (k : ℕ). ap (λ (rows : List Looked). get_or (map (λ (l : Looked). l.stage) rows) k 0) is ∙ no_stage targets k in
     record {
       no_later = λ k. omega (arith, none k);
-      idle = λ k at. absurd (omega (arith, none k, at));
+      idle = λ k target at early. absurd (omega (arith, none k, early));
     }

@@ -9,11 +9,13 @@ ghost use Rattle.tt_improve.specs.Idle.{KnowsIdle, moved_at, targets_in};
 ghost use Rattle.tt_improve.specs.Targets.{targets_of};
 ghost use Rattle.tt_improve.specs.Rounds.{improved, moved_by};
 ghost use Rattle.tt_improve.specs.Standing.{IsNoWorse, IsTargetOf};
+ghost use Rattle.tt_improve.specs.Touched.{IsTableOf};
 ghost use Rattle.tt_improve.specs.UnderWay.{so_far};
 
 use crate::classes::move_class;
 use crate::courses::move_student;
-use crate::targets::{Target, Targets};
+use crate::targets::{Looked, Target, Targets};
+use crate::touched::Touched;
 use rand_core::Rng;
 use rand_pcg::Lcg64Xsh32;
 use std::alloc::{AllocError, Global};
@@ -28,10 +30,12 @@ pub struct Improved {
     pub changed: u32,
 }
 
-// What a descent works with: the targets, and room for the walks over the choices of a course.
+// What a descent works with: the targets, which of them a change touched, and room for the walks over
+// the choices of a course.
 #[derive(Drop)]
 struct Descent {
     targets: Targets,
+    touched: Touched,
     buffers: ChoiceBuffers,
 }
 
@@ -41,13 +45,19 @@ impl Descent {
         ensures targets { IfOk result (λ descent.
             targets_in descent.targets ≡ targets_of state.now.problem state.now.present) }
         ensures few { IfOk result (λ descent. length (targets_in descent.targets) ≤ 2 ^ 32) }
-        ensures idle { IfOk result
-            (λ descent. KnowsIdle state.now.problem state.now.present descent.targets 1) }
+        ensures whole { IfOk result (λ descent. IsTableOf state.now.problem descent.touched) }
+        ensures idle { IfOk result (λ descent.
+            KnowsIdle state.now.problem state.now.present descent.targets descent.touched 1) }
         ensures room { IfOk result (λ descent. HasRoom state.now.problem descent.buffers) }
     {
         let targets = Targets::new(alloc, state)?;
+        let touched = Touched::new(alloc, state.problem())?;
         let buffers = ChoiceBuffers::new(alloc, state.problem())?;
-        Ok(Descent { targets, buffers })
+        Ok(Descent {
+            targets,
+            touched,
+            buffers,
+        })
     }
 }
 
@@ -89,10 +99,13 @@ fn make_round_at(
     requires targets { targets_in descent.old.targets
         ≡ targets_of state.old.problem state.old.present }
     requires place { place < length (targets_in descent.old.targets) }
-    requires idle { KnowsIdle state.old.problem state.old.present descent.old.targets stage }
+    requires whole { IsTableOf state.old.problem descent.old.touched }
+    requires idle { KnowsIdle state.old.problem state.old.present descent.old.targets
+        descent.old.touched stage }
     requires step { 0 < length (earlier state.old) }
     requires room { HasRoom state.old.problem descent.old.buffers }
     ensures room { HasRoom state.old.problem descent.new.buffers }
+    ensures whole { IsTableOf state.old.problem descent.new.touched }
     ensures step { IsWithinStep (with_taken state.old []) (with_taken state.new []) }
     ensures targets { targets_in descent.new.targets ≡ targets_in descent.old.targets }
     ensures moved { IfOk result (λ moved.
@@ -100,17 +113,27 @@ fn make_round_at(
         ≡ cond moved (Some state.new.present) None) }
     ensures same { IfOk result (λ moved. moved ≡ false → state.new.present ≡ state.old.present) }
     ensures idle { IfOk result (λ moved.
-        KnowsIdle state.old.problem state.new.present descent.new.targets
+        KnowsIdle state.old.problem state.new.present descent.new.targets descent.new.touched
         (stage + cond moved 1 0)) }
     ensures no_worse { OnOk result
         (IsNoWorse state.old.problem state.old.present state.new.present) }
 {
-    let Some(target) = descent.targets.due(place, stage) else {
+    state.problem().validity();
+    state.soundness();
+    let Looked {
+        target,
+        stage: looked,
+    } = descent.targets.at(place);
+    if descent.touched.last(state, target) < looked {
         return Ok(false);
-    };
+    }
     let moved = make_round(alloc, state, target, &mut descent.buffers)?;
     descent.targets.note(place, stage);
-    Ok(moved)
+    if !moved {
+        return Ok(false);
+    }
+    descent.touched.note(state, target, stage);
+    Ok(true)
 }
 
 // Makes rounds in the last step, until so many are made or there is no target. The watcher is told of
@@ -126,7 +149,9 @@ fn descend<W: Watcher>(
     requires targets { targets_in descent.old.targets
         ≡ targets_of state.old.problem state.old.present }
     requires few { length (targets_in descent.old.targets) ≤ 2 ^ 32 }
-    requires idle { KnowsIdle state.old.problem state.old.present descent.old.targets 1 }
+    requires whole { IsTableOf state.old.problem descent.old.touched }
+    requires idle { KnowsIdle state.old.problem state.old.present descent.old.targets
+        descent.old.touched 1 }
     requires room { HasRoom state.old.problem descent.old.buffers }
     requires step { 0 < length (earlier state.old) }
     ensures step { IsWithinStep (with_taken state.old []) (with_taken state.new []) }

@@ -1,8 +1,9 @@
 //! What a round looks at, and the stage in which it was last looked at.
 
-ghost use Rattle.std.specs.Prelude.{◌≡◌, ◌==◌, ◌↔◌, ◌<◌, ◌≤◌, ◌++◌, ◌^◌, [], None, is_none, is_some, IfNone, IfOk, IfSome, IsTrue, OnOk, Some, length, map, slice_get, slice_index, slice_set};
+ghost use Rattle.std.specs.Prelude.{◌≡◌, ◌↔◌, ◌<◌, ◌≤◌, ◌++◌, ◌^◌, [], None, is_some, IfNone, IfOk, IfSome, IsTrue, OnOk, Some, length, map, slice_get, slice_index, slice_set};
 ghost use Rattle.tt_state.specs.Snapshots.{list_in, may_lock, value_in};
 ghost use Rattle.tt_draw.specs.Words.{drawn, drawn_place};
+ghost use Rattle.tt_improve.specs.declared.touched.Touched.{Touched};
 ghost use Rattle.tt_improve.specs.Idle.{KnowsIdle, targets_in, stages_in, unlooked};
 ghost use Rattle.tt_improve.specs.Targets.{courses_with, movable_classes, targets_of, seated_courses};
 
@@ -103,9 +104,9 @@ pub fn targets_of(alloc: Global, state: &State) -> Result<Vec<Target>, AllocErro
 
 // A target, and the stage in which a round was last made on it, 0 where none was.
 #[derive(Clone, Copy, Debug, PartialEq, Eq)]
-struct Looked {
-    target: Target,
-    stage: u32,
+pub(crate) struct Looked {
+    pub(crate) target: Target,
+    pub(crate) stage: u32,
 }
 
 // The targets, on which no round was made.
@@ -121,8 +122,9 @@ fn unlooked(alloc: Global, targets: &[Target]) -> Result<Vec<Looked>, AllocError
         .collect(alloc)
 }
 
-// The targets of a descent. The stages are counted from 1, and the next one begins where a round
-// changes something. So a round on a target whose stage is the present one changes nothing.
+// The targets of a descent. The stages are counted from 1, and one ends where a round changes
+// something. So a round on a target whose stage is later than the last one whose end touched it changes
+// nothing.
 #[derive(Drop)]
 pub(crate) struct Targets {
     table: Vec<Looked>,
@@ -134,8 +136,9 @@ impl Targets {
         ensures targets { IfOk result
             (λ targets. targets_in targets ≡ targets_of state.now.problem state.now.present) }
         ensures few { IfOk result (λ targets. length (targets_in targets) ≤ 2 ^ 32) }
-        ensures idle { IfOk result
-            (λ targets. KnowsIdle state.now.problem state.now.present targets 1) }
+        ensures idle { IfOk result (λ targets.
+            (touched : Touched)
+            → KnowsIdle state.now.problem state.now.present targets touched 1) }
     {
         let targets = targets_of(alloc, state)?;
         let table = unlooked(alloc, targets.as_slice())?;
@@ -166,19 +169,13 @@ impl Targets {
         }
     }
 
-    // The target at a place, unless a round was made on it in a stage.
-    pub(crate) fn due(&self, place: usize, stage: u32) -> Option<Target>
+    // The target at a place, and the stage in which a round was last made on it.
+    pub(crate) fn at(&self, place: usize) -> Looked
         requires { place < length (targets_in self.now) }
-        ensures target { IfSome result
-            (λ target. slice_get (targets_in self.now) place ≡ Some target) }
-        ensures made { is_none result ≡ (slice_index (stages_in self.now) place == stage) }
+        ensures target { slice_get (targets_in self.now) place ≡ Some result.target }
+        ensures stage { slice_index (stages_in self.now) place ≡ result.stage }
     {
-        let looked = self.table[place];
-        if looked.stage == stage {
-            None
-        } else {
-            Some(looked.target)
-        }
+        self.table[place]
     }
 
     // Notes that a round was made in a stage on the target at a place.
