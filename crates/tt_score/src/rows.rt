@@ -69,7 +69,7 @@ impl JointRows {
     }
 
     // Whether there is such a class, and its row isn't kept.
-    fn lacks(&self, class: u32) -> bool
+    fn is_missing(&self, class: u32) -> bool
         ensures within { IsTrue result → class < length self.now }
         ensures kept { result ≡ false → class < length self.now → IsSome (row_at self.now class) }
     {
@@ -107,7 +107,7 @@ impl JointRows {
         ensures rows { AreRowsOf roster.now.seats self.new }
         ensures row { IsRowOf roster.now.seats (length self.new) class (kept_row self.new class) }
     {
-        if !self.lacks(class) {
+        if !self.is_missing(class) {
             return;
         }
         let met = roster.joint_row(

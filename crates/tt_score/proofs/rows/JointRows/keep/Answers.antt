@@ -9,8 +9,8 @@ use Rattle.tt_score.proofs.RowLemmas.{all_within, row-counted, row-kept, rows-mo
 use Rattle.tt_score.proofs.rows.JointRows.keep.Goals as goal
 use Rattle.tt_score.proofs.rows.JointRows.keep.Goals.{After-clear}
 
-pub returns-then-not-lacks-clause-row : goal.returns-then-not-lacks-clause-row
-returns-then-not-lacks-clause-row c = row-kept c.args.roster.now.seats c.args.self.now c.args.class c.requires.rows (c.lacks.ensures.kept c.if-not-lacks.true)
+pub returns-then-not-is_missing-clause-row : goal.returns-then-not-is_missing-clause-row
+returns-then-not-is_missing-clause-row c = row-kept c.args.roster.now.seats c.args.self.now c.args.class c.requires.rows (c.is_missing.ensures.kept c.if-not-is_missing.true)
 
 pub add_pairs-span-requires-clause-within : goal.add_pairs-span-requires-clause-within
 add_pairs-span-requires-clause-within c =
@@ -37,7 +37,7 @@ made c =
     let long : length row.new.row ≡ n = omega (arith, whole, row.auto.row, c.as_mut_slice.ensures.len, i.numbers.ok.0, c.self.invariant.numbers) in
     let few : length (take row.result row.new.touched) ≤ n =
     omega (arith, whole, row.auto.touched, c.as_mut_slice-2.ensures.len, i.touched.ok.0, c.self.invariant.touched, row.ensures.few, length-take-le row.result row.new.touched row.ensures.few) in
-    let lt : c.args.class < n = rw (← c.self.view_is) at (c.lacks.ensures.within c.if-not-lacks.false) in
+    let lt : c.args.class < n = rw (← c.self.view_is) at (c.is_missing.ensures.within c.if-not-is_missing.false) in
     let is = rw (c.deref.ensures.value, touched, c.as_slice.ensures.value, numbers) at c.add_pairs-span.ensures.pairs in
     rows-more seats i.pairs.items c.make_room.new.pairs.items c.add_pairs-span.new.pairs.items (map (pair_of row.new.row) (take row.result row.new.touched)) i.spans.items c.make_room.new.spans.items c.args.class c.add_pairs-span.result
     c.self.invariant.spans (rw (← c.self.view_is) at c.requires.rows) c.make_room.ensures.stand c.make_room.ensures.long (omega (arith, lt, whole, c.make_room.ensures.long)) is c.add_pairs-span.ensures.start c.add_pairs-span.ensures.end
