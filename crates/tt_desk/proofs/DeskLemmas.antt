@@ -1,25 +1,22 @@
 -- The checks of commands.
-use Rattle.std.proofs.Common.{◌≡◌, ℕ, suc, ◌+◌, ◌<◌, List, [], ◌∷◌, ◌++◌, Option, None, Some, Result, Ok, Err, refl, sym, ap, append_assoc, subst, arith, rules, take, drop, set, length, get_or}
+use Rattle.std.proofs.Common.{◌≡◌, ℕ, suc, ◌+◌, ◌<◌, List, [], ◌∷◌, ◌++◌, Option, Result, Ok, Err, refl, sym, ap, append_assoc, subst, arith, rules, take, drop, set, length, get_or}
 use Rattle.std.proofs.lemmas.Grind.{common_steps}
 use Rattle.std.proofs.lemmas.List.{append-nil, take_more_set, drop-set-lt}
 use Rattle.std.proofs.lemmas.List.Elements.{All-append}
 use Rattle.std.proofs.Math.Seq.{drop-cons, drop-length, take-length, take-append_seam}
 use Rattle.std.specs.Prelude.{All}
 use Rattle.tt_problem.specs.declared.parts.Parts.{Parts}
-use Rattle.tt_problem.specs.Places.{class_of}
 use Rattle.std.specs.Prelude.{true, false}
 use Rattle.tt_state.specs.History.{Desk}
 use Rattle.tt_script.specs.declared.command.Command.TheVariants.{Publish}
-use Rattle.tt_desk.specs.declared.refusal.Outcome.TheVariants.{Accepted, Refused}
 use Rattle.tt_desk.specs.declared.refusal.Refusal.{Refusal}
-use Rattle.tt_desk.specs.declared.refusal.Refusal.TheVariants.{NoSuchClass}
 use Rattle.std.specs.Prelude.{codes}
 use Rattle.tt_score.specs.Totals.{totals_of}
 use Rattle.tt_state.specs.Sound.{is_ready}
 use Rattle.tt_published.specs.Published.{timetable_of}
 use Rattle.tt_solution.specs.Text.{published_text}
 use Rattle.tt_published.specs.Timetable.{Timetable}
-use Rattle.tt_desk.specs.Desk.{Session, Answer, carried_out, known_classes, step_from, with_published, not_ready}
+use Rattle.tt_desk.specs.Desk.{Session, Answer, same, carried_out, known_class, known_classes, with_published, not_ready}
 use Rattle.tt_base.specs.Chain.{◌>>=◌}
 use Rattle.std.specs.Prelude.{OnErr, IsOk}
 
@@ -28,7 +25,7 @@ abbrev pub known_after : Parts → List ℕ → List ℕ → Result (List ℕ) R
 known_after p found ids = known_classes p ids >>= λ places. Ok (found ++ places)
 
 -- one more id
-pub known_after-more : (p : Parts) (found : List ℕ) (id place : ℕ) (ids : List ℕ) → class_of p id ≡ Some place → known_after p found (id ∷ ids) ≡ known_after p (found ++ place ∷ []) ids
+pub known_after-more : (p : Parts) (found : List ℕ) (id place : ℕ) (ids : List ℕ) → known_class p id ≡ Ok place → known_after p found (id ∷ ids) ≡ known_after p (found ++ place ∷ []) ids
 known_after-more p found id place ids is = rw is (joined (known_classes p ids))
   where
     joined : (r : Result (List ℕ) Refusal) → ((r >>= λ places. Ok (place ∷ places)) >>= λ places. Ok (found ++ places)) ≡ (r >>= λ places. Ok ((found ++ place ∷ []) ++ places))
@@ -36,8 +33,8 @@ known_after-more p found id place ids is = rw is (joined (known_classes p ids))
     joined (Err e) = refl
 
 -- an id that is unknown
-pub known_after-none : (p : Parts) (found : List ℕ) (id : ℕ) (ids : List ℕ) → class_of p id ≡ None → known_after p found (id ∷ ids) ≡ Err NoSuchClass
-known_after-none p found id ids is = rw is refl
+pub known_after-none : (p : Parts) (found : List ℕ) (id : ℕ) (ids : List ℕ) (why : Refusal) → known_class p id ≡ Err why → known_after p found (id ∷ ids) ≡ Err why
+known_after-none p found id ids why is = rw is refl
 
 -- none is found yet
 pub known_first : (p : Parts) (ids items : List ℕ) → items ≡ ids → known_classes p ids ≡ known_after p (take 0 items) (drop 0 items)
@@ -48,11 +45,11 @@ known_first p ids items is = rw is (nothing (known_classes p ids))
     nothing (Err e) = refl
 
 -- the id at this place is unknown
-pub known_at_none : (p : Parts) (items : List ℕ) (i id : ℕ) → i < length items → id ≡ get_or items i 0 → class_of p id ≡ None → known_after p (take i items) (drop i items) ≡ Err NoSuchClass
-known_at_none p items i id within is none = rw (drop-cons items i 0, ← is) (known_after-none p (take i items) id (drop (suc i) items) none)
+pub known_at_none : (p : Parts) (items : List ℕ) (i id : ℕ) (why : Refusal) → i < length items → id ≡ get_or items i 0 → known_class p id ≡ Err why → known_after p (take i items) (drop i items) ≡ Err why
+known_at_none p items i id why within is none = rw (drop-cons items i 0, ← is) (known_after-none p (take i items) id (drop (suc i) items) why none)
 
 -- the id at this place has a place, which is put there
-pub known_at_more : (p : Parts) (items : List ℕ) (i id place : ℕ) → i < length items → id ≡ get_or items i 0 → class_of p id ≡ Some place → known_after p (take i items) (drop i items) ≡ known_after p (take (i + 1) (set items i place)) (drop (i + 1) (set items i place))
+pub known_at_more : (p : Parts) (items : List ℕ) (i id place : ℕ) → i < length items → id ≡ get_or items i 0 → known_class p id ≡ Ok place → known_after p (take i items) (drop i items) ≡ known_after p (take (i + 1) (set items i place)) (drop (i + 1) (set items i place))
 known_at_more p items i id place within is some =
     let lt : i < i + 1 = omega arith in
     let one : i + 1 ≡ suc i = omega arith in
@@ -81,11 +78,8 @@ in_range_all n k items is all = subst (λ (xs : List ℕ). All (λ x. x < n) xs)
 abbrev pub with_desk_of : Option Timetable → Desk → Session
 with_desk_of t d = record { desk = d; published = t }
 
-pub accepted : (s : Session) (to : Answer) (now : Session) (lines : List ℕ) (r : Result Answer Refusal) → r ≡ Ok to → now ≡ to.session → lines ≡ to.lines → step_from s r ≡ record { session = now; outcome = Accepted; lines = lines }
-accepted s to now lines r is same own = rw (is, same, own) refl
-
-pub refused : (s now : Session) (r : Result Answer Refusal) (why : Refusal) → r ≡ Err why → now ≡ s → step_from s r ≡ record { session = now; outcome = Refused why; lines = [] }
-refused s now r why is same = rw (is, same) refl
+pub done_so : (to : Answer) (now : Session) (lines : List ℕ) (r : Result Answer Refusal) → r ≡ Ok to → now ≡ to.session → lines ≡ to.lines → r ≡ Ok (same now lines)
+done_so to now lines r is session own = rw (is, session, own) refl
 
 -- ---- `publish`
 

@@ -2,90 +2,74 @@
 
 ghost use Rattle.std.specs.Prelude.{◌≡◌, ◌<◌, [], Err, IfOk, OnErr, OnOk, length};
 ghost use Rattle.tt_script.specs.Forms.{HasDepth};
-ghost use Rattle.tt_desk.specs.Desk.{command_step, line_step};
+ghost use Rattle.tt_desk.specs.Desk.{line_step};
 ghost use Rattle.tt_desk.specs.Refusals.{refusal_line};
 ghost use Rattle.tt_desk.specs.Replies.{reply_of};
-ghost use Rattle.tt_desk.specs.Causes.{IsMemoryCause, MayTake};
-ghost use Rattle.tt_desk.specs.Carried.{IsCarriedOut, whole};
+ghost use Rattle.tt_desk.specs.Causes.{IsMemoryCause};
+ghost use Rattle.tt_desk.specs.Carried.{IsDone};
 
 use crate::refusal::{Outcome, Refusal};
 use crate::reply::put_refusal;
 use crate::session::Session;
+use crate::unmet::{Unmet, is_quit, outcome_of};
 use crate::wanting::Wanting;
 use std::alloc::{AllocError, Global};
 use tt_script::{Command, Line, read_line};
 use tt_text::Reply;
 use tt_watch::Watcher;
 
-// How a command ends that is carried out with its lines or not at all.
-fn whole(ended: Result<Outcome, AllocError>) -> Result<Outcome, Wanting>
-    ensures { result ≡ whole ended }
-{
-    Ok(ended?)
-}
-
 impl Session {
-    // Carries a command out, or says why it is refused. Its own lines are put into an empty reply.
+    // Carries a command out, or says why not. Its own lines are put into an empty reply.
     fn carry_out<W: Watcher>(
         &mut self,
         alloc: Global,
         command: Command,
         reply: &mut Reply,
         watcher: &mut W,
-    ) -> Result<Outcome, Wanting>
+    ) -> Result<(), Unmet>
         requires empty { reply.old ≡ [] }
         requires depth { HasDepth command }
-        ensures { IsCarriedOut (command_step self.old command) (MayTake self.old command)
-            self.old self.new reply.new result }
+        ensures { IsDone self.old command self.new reply.new result }
     {
         match command {
-            Command::Assign { class, time, room } => whole(self.assign(class, time, room)),
-            Command::Unassign { class } => whole(self.unassign(class)),
+            Command::Assign { class, time, room } => self.assign(class, time, room),
+            Command::Unassign { class } => self.unassign(class),
             Command::Force { class, time, room } => self.force(class, time, room, reply),
-            Command::Section { student, classes } => whole(self.section(student, classes)),
-            Command::Drop { student } => whole(self.drop_student(student)),
-            Command::Enrol { student } => whole(self.enrol(alloc, student)),
-            Command::EnrolAll => whole(self.enrol_all(alloc, reply, watcher)),
-            Command::Search { turns, seed } => whole(self.search(
-                alloc, turns, seed, reply, watcher,
-            )),
-            Command::Repair { turns, seed } => whole(self.repair(
-                alloc, turns, seed, reply, watcher,
-            )),
-            Command::Place { turns, seed } => whole(self.place(alloc, turns, seed, reply, watcher)),
-            Command::Improve { rounds, seed } => {
-                whole(self.improve(alloc, rounds, seed, reply, watcher))
-            }
-            Command::Deluge { rounds, seed } => {
-                whole(self.deluge(alloc, rounds, seed, reply, watcher))
-            }
-            Command::Recall => whole(self.recall(alloc)),
+            Command::Section { student, classes } => self.section(student, classes),
+            Command::Drop { student } => self.drop_student(student),
+            Command::Enrol { student } => self.enrol(alloc, student),
+            Command::EnrolAll => self.enrol_all(alloc, reply, watcher),
+            Command::Search { turns, seed } => self.search(alloc, turns, seed, reply, watcher),
+            Command::Repair { turns, seed } => self.repair(alloc, turns, seed, reply, watcher),
+            Command::Place { turns, seed } => self.place(alloc, turns, seed, reply, watcher),
+            Command::Improve { rounds, seed } => self.improve(alloc, rounds, seed, reply, watcher),
+            Command::Deluge { rounds, seed } => self.deluge(alloc, rounds, seed, reply, watcher),
+            Command::Recall => self.recall(alloc),
             Command::Close {
                 room,
                 days,
                 start,
                 length,
                 weeks,
-            } => whole(self.close(room, days, start, length, weeks)),
-            Command::Reopen { room } => whole(self.reopen(room)),
-            Command::Lock { class } => whole(self.lock(class)),
-            Command::LockAll => whole(self.lock_all(reply)),
-            Command::Unlock { class } => whole(self.unlock(class)),
-            Command::UnlockAll => whole(self.unlock_all(reply)),
-            Command::Undo => Ok(self.undo()),
-            Command::Publish => whole(self.publish(alloc, reply)),
-            Command::Draft => whole(self.draft(alloc, reply)),
-            Command::Totals => Ok(Outcome::Accepted),
-            Command::Violations => whole(self.violations(alloc, reply)),
-            Command::Costs => whole(self.costs(alloc, reply)),
-            Command::Explain { class } => whole(self.explain(class, reply)),
-            Command::Why { class, time, room } => whole(self.why(class, time, room, reply)),
-            Command::Values { class } => whole(self.values(class, reply)),
-            Command::Meets { class } => whole(self.meets(alloc, class, reply)),
-            Command::Student { student } => whole(self.student(student, reply)),
-            Command::Stats { class } => whole(self.stats(class, reply)),
-            Command::Suggest { class, depth } => whole(self.suggest(alloc, class, depth, reply)),
-            Command::Quit => Ok(Outcome::Ended),
+            } => self.close(room, days, start, length, weeks),
+            Command::Reopen { room } => self.reopen(room),
+            Command::Lock { class } => self.lock(class),
+            Command::LockAll => self.lock_all(reply),
+            Command::Unlock { class } => self.unlock(class),
+            Command::UnlockAll => self.unlock_all(reply),
+            Command::Undo => self.undo(),
+            Command::Publish => self.publish(alloc, reply),
+            Command::Draft => self.draft(alloc, reply),
+            Command::Totals | Command::Quit => Ok(()),
+            Command::Violations => self.violations(alloc, reply),
+            Command::Costs => self.costs(alloc, reply),
+            Command::Explain { class } => self.explain(class, reply),
+            Command::Why { class, time, room } => self.why(class, time, room, reply),
+            Command::Values { class } => self.values(class, reply),
+            Command::Meets { class } => self.meets(alloc, class, reply),
+            Command::Student { student } => self.student(student, reply),
+            Command::Stats { class } => self.stats(class, reply),
+            Command::Suggest { class, depth } => self.suggest(alloc, class, depth, reply),
         }
     }
 
@@ -114,9 +98,10 @@ impl Session {
             Line::Empty => Ok(Outcome::Skipped),
             Line::Bad => Ok(Outcome::Refused(Refusal::BadLine)),
             Line::Good(command) => {
-                let outcome = self.carry_out(alloc, command, reply, watcher);
+                let ends = is_quit(&command);
+                let carried = self.carry_out(alloc, command, reply, watcher);
                 watcher.end();
-                outcome
+                outcome_of(ends, carried)
             }
         }
     }

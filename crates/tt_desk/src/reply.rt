@@ -5,19 +5,22 @@ ghost use Rattle.std.specs.List.{flat_map};
 ghost use Rattle.std.specs.Option.{option_copied, option_map_or};
 ghost use Rattle.tt_text.specs.Fields.{field};
 ghost use Rattle.tt_text.specs.Reply.{kept_bytes, most_digits};
-ghost use Rattle.tt_desk.specs.Desk.{best_lines, moved_text, moved_then, result_line, set_line, suggested_lines, taken_line, taken_lines};
+ghost use Rattle.tt_state.specs.History.{desk_of};
+ghost use Rattle.tt_desk.specs.Desk.{best_lines, draft_line, moved_text, moved_then, result_line, set_line, suggested_lines, taken_line, taken_lines};
 ghost use Rattle.tt_desk.specs.Refusals.{refusal_text, refusal_line};
 ghost use Rattle.tt_desk.specs.Lengths.{most_counts_bytes, most_moved_bytes, most_refusal_bytes, most_sums_bytes, most_totals_bytes};
 ghost use Rattle.tt_desk.specs.Replies.{counts_text, reply_to, sums_text, totals_line};
 
 use crate::refusal::{Outcome, Refusal};
 use crate::session::Session;
-use std::alloc::AllocError;
+use std::alloc::{AllocError, Global};
 use tt_enrol::Enrolled;
 use tt_explain::{add_block, add_value};
 use tt_problem::Problem;
 use tt_published::Published;
 use tt_score::Totals;
+use tt_solution::write_published;
+use tt_state::State;
 use tt_suggest::{Move, Suggested, Suggestion};
 use tt_text::Reply;
 
@@ -145,6 +148,17 @@ pub(crate) fn put_refusal(reply: &mut Reply, refusal: Refusal)
     reply.text("refused ").unwrap();
     add_refusal(reply, refusal).unwrap();
     reply.text("\n").unwrap();
+}
+
+// Appends the text that would be published, ready or not, and the end of its line.
+#[tactic(auto, using(std::proofs::Common::append_assoc))]
+pub(crate) fn add_draft(alloc: Global, state: &State, reply: &mut Reply) -> Result<(), AllocError>
+    ensures { OnOk result (reply.new ≡ reply.old ++ draft_line (desk_of state.now)) }
+{
+    state.soundness();
+    let score = state.score();
+    write_published(alloc, state.problem(), score.plan(), score.roster(), reply)?;
+    reply.text("\n")
 }
 
 // Appends a line for a class that was taken out.
