@@ -9,12 +9,26 @@ ghost use Rattle.tt_improve.specs.Touched.{IsNoted, IsTableOf, last_of};
 
 use crate::targets::Target;
 use std::alloc::{AllocError, Global};
+use tt_pool::Items;
 use tt_problem::Problem;
 use tt_roster::Attendance;
 use tt_state::State;
 
-// Notes a stage for each of some classes, or of some students.
-fn note_each(table: &mut [u32], places: Attendance<'_>, stage: u32)
+// Notes a stage for each of some classes.
+fn note_classes(table: &mut [u32], places: Attendance<'_>, stage: u32)
+    requires { AllByRecursion (λ place. place < length table.old) places }
+    ensures whole { length table.new ≡ length table.old }
+    ensures stages { (place : ℕ)
+        → slice_index table.new place
+        ≡ cond (is_listed place places.entry) stage (slice_index table.old place) }
+{
+    for place in places {
+        table[place as usize] = stage;
+    }
+}
+
+// Notes a stage for each of the students of a class.
+fn note_students(table: &mut [u32], places: Items<'_>, stage: u32)
     requires { AllByRecursion (λ place. place < length table.old) places }
     ensures whole { length table.new ≡ length table.old }
     ensures stages { (place : ℕ)
@@ -82,8 +96,8 @@ impl Touched {
         let course = state.problem().course_of(class);
         self.moved = stage;
         self.courses[course as usize] = stage;
-        let students = state.score().roster().students(class);
-        note_each(self.students.as_mut_slice(), students, stage);
+        let students = state.score().roster().attendees(class);
+        note_students(self.students.as_mut_slice(), students, stage);
     }
 
     // Notes in a stage that a student got other classes of a course. This touches the student, the
@@ -99,7 +113,7 @@ impl Touched {
         state.soundness();
         self.students[student as usize] = stage;
         self.courses[course as usize] = stage;
-        note_each(
+        note_classes(
             self.classes.as_mut_slice(),
             state.classes_of(student),
             stage,

@@ -1,11 +1,12 @@
 -- Lists that have each number as often as one another.
 use Rattle.std.proofs.Common.{◌≡◌, ◌∙◌, ℕ, ◌+◌, ◌<◌, ◌≤◌, Bool, false, cond, List, [], ◌∷◌, get_or, refl, sym, ap, zero, suc, arith, inl, inr}
-use Rattle.std.specs.Prelude.{slice_index_or, ◌==◌}
+use Rattle.std.specs.Prelude.{nat_lt, slice_index_or, ◌==◌}
 use Rattle.std.specs.List.{remove, position_or_len}
 use Rattle.std.specs.List.Sorted.{IsPermutation, IsNonDecreasing}
-use Rattle.std.proofs.lemmas.Bool.{cases_Bool, cases_lt, eqb-true}
+use Rattle.std.proofs.lemmas.Bool.{cases_Bool, cases_eq, cases_lt, eq-eqb, eqb-true, lt-ltb, ne_eqb}
 use Rattle.std.proofs.lemmas.List.Sums.{passes_at_first}
 use Rattle.std.proofs.lemmas.List.Sorted.{IsPermutation-refl, IsPermutation-sym, IsPermutation-trans, IsPermutation-cons, IsPermutation-remove, sum_by-IsPermutation}
+use Rattle.tt_base.specs.Lists.{is_listed}
 use Rattle.tt_pool.specs.Chains.{uses}
 use Rattle.tt_pool.specs.Places.{places_where}
 use Rattle.tt_pool.proofs.Paths.{uses_cons, uses_here, uses_other}
@@ -99,3 +100,20 @@ places_in_order f from (x ∷ xs) ys up alike = elim (cases_Bool (f x)) [
         ] in
         let left : AreAlike ys rest = λ k. let first : cond (y == k) 1 0 ≡ cond {A = ℕ} (from == k) 1 0 = rw same refl in omega (arith, alike k, uses_cons k y ys, uses_cons k from rest, first) in
         ap (λ (n : ℕ). n ∷ ys) same ∙ ap (λ (l : List ℕ). from ∷ l) (more ys (λ i j d le lt. up (suc i) (suc j) d (omega (arith, le)) (omega (arith, lt))) left)
+
+-- what stands in a list is listed
+uses-listed : (x : ℕ) (xs : List ℕ) → is_listed x xs ≡ nat_lt 0 (uses x xs)
+uses-listed x [] = refl
+uses-listed x (y ∷ xs) = elim (cases_eq x y) [
+  | inl same ↦
+      let one : uses x (y ∷ xs) ≡ uses x xs + 1 = rw (← same) (omega (arith, uses_here x xs)) in
+      let above : 0 < uses x xs + 1 = omega arith in
+      rw (one, eq-eqb x y same, lt-ltb 0 (uses x xs + 1) above) refl
+  | inr apart ↦
+      let same : uses x (y ∷ xs) ≡ uses x xs = uses_other x y xs (λ e. apart (sym e)) in
+      rw (same, ne_eqb x y apart) (uses-listed x xs)
+]
+
+-- and so it is in each list that is alike
+pub alike-listed : (x : ℕ) (xs ys : List ℕ) → AreAlike xs ys → is_listed x xs ≡ is_listed x ys
+alike-listed x xs ys alike = uses-listed x xs ∙ ap (nat_lt 0) (alike x) ∙ sym (uses-listed x ys)

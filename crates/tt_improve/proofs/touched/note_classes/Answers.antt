@@ -4,7 +4,7 @@ use Rattle.std.specs.List.{AllByRecursion}
 use Rattle.std.proofs.lemmas.List.{length-set}
 use Rattle.tt_base.specs.Lists.{is_listed}
 use Rattle.tt_improve.proofs.TouchedLemmas.{note_one}
-use Rattle.tt_improve.proofs.touched.note_each.Goals as goal
+use Rattle.tt_improve.proofs.touched.note_classes.Goals as goal
 
 pub loop-place-init : goal.loop-place-init
 loop-place-init c = record {

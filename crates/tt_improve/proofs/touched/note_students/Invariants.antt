@@ -2,7 +2,7 @@ use Rattle.std.proofs.Common.{◌≡◌, ℕ, ◌<◌, cond, length}
 use Rattle.std.specs.Prelude.{slice_index}
 use Rattle.std.specs.List.{AllByRecursion}
 use Rattle.tt_base.specs.Lists.{is_listed}
-use Rattle.tt_improve.proofs.touched.note_each.Given as goal
+use Rattle.tt_improve.proofs.touched.note_students.Given as goal
 
 abbrev pub invariant-loop-place : goal.invariant-loop-place
 invariant-loop-place l = record {
