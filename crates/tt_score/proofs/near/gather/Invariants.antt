@@ -1,4 +1,4 @@
-use Rattle.std.proofs.Common.{◌≡◌, ◌≤◌, length, take}
+use Rattle.std.proofs.Common.{◌≤◌, length, take}
 use Rattle.std.specs.Prelude.{vec_capacity}
 use Rattle.tt_score.specs.Near.{IsGatheredBy}
 use Rattle.tt_score.proofs.near.gather.Given as goal
