@@ -130,7 +130,7 @@ least_available p s class numbers =
 pub least_of_domain : (p : Parts) (s : Snapshot) (class : ℕ) (numbers : Value → List ℕ) (values : List Value) → values ≡ all_least numbers (available_values p s class) → All (IsOfDomain p class) values
 least_of_domain p s class numbers values are = subst (λ (vs : List Value). All (IsOfDomain p class) vs) (sym are) (λ k d within. (least_available p s class numbers k d within).domain)
 
--- and so is what stands at a place among such values
+-- what stands at a place among available values is available
 pub standing_available : (p : Parts) (s : Snapshot) (class k : ℕ) (values : List Value) (o : Option Value) → All (IsAvailable p s class) values → slice_get values k ≡ o → IfSome o (IsAvailable p s class)
 standing_available p s class k values None all from = tt
 standing_available p s class k values (Some v) all from = each_at (IsAvailable p s class) values k v all from
