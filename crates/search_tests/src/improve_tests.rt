@@ -49,6 +49,34 @@ const ONE_ROOM: &str = r#"{"nrDays":1,"nrWeeks":1,"slotsPerDay":288,
             {"days":"1","start":20,"length":4,"weeks":"1","penalty":2},
             {"days":"1","start":30,"length":4,"weeks":"1","penalty":0}]}]}]}]}]}"#;
 
+// The first student's class of the first course overlaps the one of the second, and its other class is
+// full until the second student leaves it for the first, since it overlaps the one of the third course.
+const A_SEAT: &str = r#"{"nrDays":1,"nrWeeks":1,"slotsPerDay":288,
+    "optimization":{"time":1,"room":1,"distribution":1,"student":1},
+    "courses":[
+        {"id":1,"configs":[{"subparts":[{"classes":[
+            {"id":1,"room":false,"times":[{"days":"1","start":10,"length":4,"weeks":"1","penalty":0}]},
+            {"id":2,"room":false,"limit":1,"times":[{"days":"1","start":20,"length":4,"weeks":"1","penalty":0}]}]}]}]},
+        {"id":2,"configs":[{"subparts":[{"classes":[
+            {"id":3,"room":false,"times":[{"days":"1","start":10,"length":4,"weeks":"1","penalty":0}]}]}]}]},
+        {"id":3,"configs":[{"subparts":[{"classes":[
+            {"id":4,"room":false,"times":[{"days":"1","start":20,"length":4,"weeks":"1","penalty":0}]}]}]}]}],
+    "students":[{"id":1,"courses":[1,2]},{"id":2,"courses":[1,3]}]}"#;
+
+// The class of the second course moves to a time that costs less and overlaps the student's class of
+// the first, whose other class is free then.
+const A_MOVE: &str = r#"{"nrDays":1,"nrWeeks":1,"slotsPerDay":288,
+    "optimization":{"time":1,"room":1,"distribution":1,"student":1},
+    "courses":[
+        {"id":1,"configs":[{"subparts":[{"classes":[
+            {"id":1,"room":false,"times":[{"days":"1","start":10,"length":4,"weeks":"1","penalty":0}]},
+            {"id":2,"room":false,"times":[{"days":"1","start":20,"length":4,"weeks":"1","penalty":0}]}]}]}]},
+        {"id":2,"configs":[{"subparts":[{"classes":[
+            {"id":3,"room":false,"times":[
+                {"days":"1","start":30,"length":4,"weeks":"1","penalty":5},
+                {"days":"1","start":10,"length":4,"weeks":"1","penalty":0}]}]}]}]}],
+    "students":[{"id":1,"courses":[1,2]}]}"#;
+
 // The total, the student conflicts and the number of unplaced classes.
 fn totals(state: &State) -> (u128, u64, u32) {
     let totals = state.totals();
@@ -188,6 +216,39 @@ fn a_choice_keeps_the_parents_of_the_rest(rt: HostRuntime) {
         assert!(rt; sections(&mut state, 0, [0, 2]));
         assert!(rt; changes(rt.alloc(), &mut state, 20, seed, 0), "seed {seed}");
         assert!(rt; totals(&state) == (1, 1, 0), "seed {seed}");
+        drop(state);
+    }
+}
+
+// A course of a student is looked at again once another student has left a seat of it.
+#[test]
+fn a_seat_that_becomes_free_is_taken(rt: HostRuntime) {
+    for seed in 0..12 {
+        let mut state = state_of(rt.alloc(), A_SEAT.as_bytes()).expect(&rt, "state");
+        for class in 0..4 {
+            assert!(rt; assigns(&mut state, class, 1, None));
+        }
+        assert!(rt; sections(&mut state, 0, [0, 2]));
+        assert!(rt; sections(&mut state, 1, [1, 3]));
+        assert!(rt; totals(&state) == (2, 2, 0));
+        assert!(rt; changes(rt.alloc(), &mut state, 60, seed, 2), "seed {seed}");
+        assert!(rt; totals(&state) == (0, 0, 0), "seed {seed}");
+        drop(state);
+    }
+}
+
+// A course of a student is looked at again once a class of the student's has moved.
+#[test]
+fn a_student_gives_way_to_a_class_that_moved(rt: HostRuntime) {
+    for seed in 0..12 {
+        let mut state = state_of(rt.alloc(), A_MOVE.as_bytes()).expect(&rt, "state");
+        for class in 0..3 {
+            assert!(rt; assigns(&mut state, class, 1, None));
+        }
+        assert!(rt; sections(&mut state, 0, [0, 2]));
+        assert!(rt; totals(&state) == (5, 0, 0));
+        assert!(rt; changes(rt.alloc(), &mut state, 60, seed, 2), "seed {seed}");
+        assert!(rt; totals(&state) == (0, 0, 0), "seed {seed}");
         drop(state);
     }
 }
