@@ -243,6 +243,43 @@ fn a_list_changes_in_one_class(rt: HostRuntime) -> Result<(), Fail> {
     Ok(())
 }
 
+// The totals with the first class at its first time in the first room, while the first student has it
+// and the third class, and while the student has none.
+fn totals_by_list(state: &mut State) -> Option<[Option<u128>; 2]> {
+    if !sections(state, 0, None) {
+        return None;
+    }
+    let with = trials_below(state, 71, [1000; 3])?[0];
+    if !drops(state, 0) {
+        return None;
+    }
+    let without = trials_below(state, 71, [1000; 3])?[0];
+    Some([with, without])
+}
+
+// Whether these totals stay, however often the student gets the list: the rows of the classes that are
+// tried outgrow their memory meanwhile.
+fn keeps_totals(state: &mut State) -> bool {
+    if !assigns(state, 0, 1, Some(71)) || !assigns(state, 2, 1, Some(72)) {
+        return false;
+    }
+    for _ in 0..1000 {
+        if totals_by_list(state) != Some([Some(116), Some(109)]) {
+            return false;
+        }
+    }
+    true
+}
+
+#[test]
+fn totals_stay_where_the_rows_outgrow_their_memory(rt: HostRuntime) -> Result<(), Fail> {
+    let mut state = State::start(rt.alloc(), problem(rt.alloc())?).expect(&rt, "memory");
+    let shown = keeps_totals(&mut state);
+    drop(state);
+    assert!(rt; shown);
+    Ok(())
+}
+
 // Whether the first room has no closure to lift, where two classes stand, and then closes and opens.
 fn closes_and_reopens(state: &mut State) -> bool {
     assigns(state, 0, 1, Some(71))
