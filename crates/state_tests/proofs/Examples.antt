@@ -10,11 +10,11 @@ use Rattle.tt_problem.specs.declared.parts.Parts.{Parts}
 use Rattle.tt_plan.specs.Domain.{spot_at_value}
 use Rattle.tt_occupancy.specs.Clashes.{clash}
 use Rattle.tt_journal.specs.declared.Entry.{Entry}
-use Rattle.tt_journal.specs.declared.Entry.TheVariants.{Mark, Placed, Bumped}
+use Rattle.tt_journal.specs.declared.Entry.TheVariants.{Mark, Placed, Bumped, Left, Seated}
 use Rattle.tt_state.specs.Snapshots.{Snapshot, opening_snapshot, with_value}
 use Rattle.tt_state.specs.Values.{conflicts_of}
 use Rattle.tt_state.specs.Forced.{key_of, forced, forced_by}
-use Rattle.tt_state.specs.History.{before_step, earlier_by, point_count}
+use Rattle.tt_state.specs.History.{before_step, come_to, earlier_by, gone_from, left_by, point_count, seated_by}
 use Rattle.tt_state.specs.Kept.{counts_of}
 
 -- four slots on the first day of the first week
@@ -82,3 +82,7 @@ plans_example = refl
 counts_example : counts_of after_placing ≡ empty
 unfolding after_placing
 counts_example = refl
+
+-- a student with two classes gets one other in place of the second: the first is not noted
+exchange_example : seated_by 7 (come_to (0 ∷ 1 ∷ []) (2 ∷ 0 ∷ [])) (left_by 7 (gone_from (0 ∷ 1 ∷ []) (2 ∷ 0 ∷ [])) (Mark 0 ∷ [])) ≡ Seated 7 2 ∷ Left 7 1 ∷ Mark 0 ∷ []
+exchange_example = refl

@@ -1,10 +1,21 @@
 //! Tests of the state: values, lists, closures, and going back.
 
 use std::test::Fail;
-use test_help::{assigns, problem, small_problem, value};
+use test_help::{assigns, problem, small_problem, state_of, value};
 use tt_bits::{Days, Time, Weeks};
 use tt_score::Totals;
 use tt_state::{SectionFault, State};
+
+// A course with a subpart of one class and one of two, and a student of it.
+const CHOICE_TEXT: &str = r#"{"nrDays":1,"nrWeeks":1,"slotsPerDay":288,
+    "optimization":{"time":1,"room":1,"distribution":1,"student":1},
+    "courses":[{"id":1,"configs":[{"subparts":[
+        {"classes":[{"id":1,"times":[
+            {"days":"1","start":0,"length":1,"weeks":"1","penalty":0}]}]},
+        {"classes":[
+            {"id":2,"times":[{"days":"1","start":1,"length":1,"weeks":"1","penalty":0}]},
+            {"id":3,"times":[{"days":"1","start":2,"length":1,"weeks":"1","penalty":0}]}]}]}]}],
+    "students":[{"id":1,"courses":[1]}]}"#;
 
 // Whether the class that needs no room loses its value.
 fn unassigns(state: &mut State) -> bool {
@@ -183,6 +194,52 @@ fn a_student_gets_a_list_and_drops_it(rt: HostRuntime) -> Result<(), Fail> {
     ];
     drop(state);
     assert_eq!(rt; shown, [true; 3]);
+    Ok(())
+}
+
+// How many students have each of three classes.
+fn attendance(state: &State) -> [u32; 3] {
+    let roster = state.score().roster();
+    [roster.count(0), roster.count(1), roster.count(2)]
+}
+
+// Whether the student has the first class and another.
+fn has_with_first(state: &State, other: u32) -> bool {
+    let counts = [1, u32::from(other == 1), u32::from(other == 2)];
+    first_classes(state, 0) == Some([Some(0), Some(other), None]) && attendance(state) == counts
+}
+
+// Whether a student who gets a list with another class in place of one keeps the rest, also where
+// the list comes in another order.
+fn exchanges_one_class(state: &mut State) -> bool {
+    test_help::sections(state, 0, [0, 1])
+        && has_with_first(state, 1)
+        && test_help::sections(state, 0, [2, 0])
+        && has_with_first(state, 2)
+        && test_help::sections(state, 0, [0, 2])
+        && has_with_first(state, 2)
+}
+
+// Whether each of the three lists is taken back.
+fn gives_the_lists_back(state: &mut State) -> bool {
+    state.undo()
+        && has_with_first(state, 2)
+        && state.undo()
+        && has_with_first(state, 1)
+        && state.undo()
+        && attendance(state) == [0; 3]
+        && !state.undo()
+}
+
+#[test]
+fn a_list_changes_in_one_class(rt: HostRuntime) -> Result<(), Fail> {
+    let mut state = state_of(rt.alloc(), CHOICE_TEXT.as_bytes())?;
+    let shown = [
+        exchanges_one_class(&mut state),
+        gives_the_lists_back(&mut state),
+    ];
+    drop(state);
+    assert_eq!(rt; shown, [true; 2]);
     Ok(())
 }
 
