@@ -1,4 +1,4 @@
--- Proof. The students of a class in no order, and the nodes at which they stand.
+-- Contract. The students of a class in no order. A clause cites `AreStudentsOf`; proofs alone need the nodes at which they stand.
 use Rattle.std.specs.Prelude.{◌≡◌, ℕ, ◌==◌, true, cond, List, count_by, slice_index}
 use Rattle.std.specs.List.{position_or_len}
 use Rattle.tt_base.specs.Lists.{is_listed}
