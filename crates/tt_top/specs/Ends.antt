@@ -22,7 +22,7 @@ use Rattle.tt_top.specs.Opening.{FaultyFile, fault_line, opening_line, opened}
 use Rattle.tt_top.specs.Pieces.{whole_lines, has_quit, is_long_script, answered_part, taken_of}
 use Rattle.tt_top.specs.Wanting.{WantsAfter}
 use Rattle.tt_top.specs.PlainRun.{PlainRun, text_of, Phase, ends, read_phase}
-use Rattle.tt_top.specs.Run.{IsFront, HasAtMost, ReadsWithin}
+use Rattle.tt_top.specs.Run.{Outside, moment, IsFront, HasAtMost, ReadsWithin}
 
 -- ---- files with a fault
 
@@ -69,6 +69,16 @@ done_by (Err end) = Err end
 abbrev pub status_of : Result Done End → ℕ
 status_of (Ok done) = done_status done
 status_of (Err end) = end_status end
+
+-- ---- the outside
+
+-- the outside of a run, by what files and an output tell before it and after it
+abbrev pub outside_of : {F S : Type 0} → (holds : F → List ℕ → Option (List ℕ)) → (asked : F → Option (List (List ℕ))) → (is_open : F → Bool) → (left : F → Option (List ℕ)) → (faults : F → ℕ) → (written : S → Option (List ℕ)) → (failed : S → ℕ) → (files files' : F) → (out out' : S) → Outside
+outside_of holds asked is_open left faults written failed files files' out out' = record {
+  holds = holds files;
+  before = moment (asked files) (is_open files) (left files) (written out) (faults files) (failed out);
+  now = moment (asked files') (is_open files') (left files') (written out') (faults files') (failed out');
+}
 
 -- ---- causes
 

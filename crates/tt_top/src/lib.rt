@@ -9,6 +9,7 @@ mod end;
 mod file_run;
 mod form;
 mod load;
+mod outside;
 mod pieces;
 mod plain_run;
 mod reply;

@@ -1,14 +1,16 @@
 //! `run`, which does what the words of the command line say, and the usage line.
 
-ghost use Rattle.std.specs.Prelude.{◌≢◌, Err, map, string_bytes};
+ghost use Rattle.std.specs.Prelude.{◌≡◌, ◌≢◌, Err, IfSome, map, option_map, string_bytes};
 ghost use Rattle.tt_top.specs.Words.{form_of};
 ghost use Rattle.tt_top.specs.PlainRun.{usage_run};
 ghost use Rattle.tt_top.specs.Run.{IsRun, file_limit, moment};
-ghost use Rattle.tt_top.specs.Ends.{HasEndCause, WritesPlain, status_of};
+ghost use Rattle.tt_top.specs.Ends.{HasEndCause, WritesPlain, outside_of, status_of};
+ghost use Rattle.tt_top.specs.Forms.{HasClasses, form_seen};
 
 use crate::end::{Done, End, status};
 use crate::file_run::run_files;
 use crate::form::{Form, read_form};
+use crate::outside::Outside;
 use crate::plain_run::{demo, make};
 use crate::serve::hand_on;
 use crate::verify_run::verify_files;
@@ -33,6 +35,38 @@ fn usage<S: Sink>(out: &mut S) -> Result<Done, End>
     Ok(Done::Usage)
 }
 
+// Does what a form asks for, or writes the usage line where the words are in none.
+fn run_form<F: Files, S: Sink, W: Watcher>(
+    limit: u64,
+    alloc: Global,
+    form: Option<Form<'_>>,
+    outside: &mut Outside<'_, F, S, W>,
+) -> Result<Done, End>
+    requires { IfSome form HasClasses }
+    ensures runs { IsRun (option_map form_seen form.entry) limit
+        (outside_of F.holds F.asked F.is_open F.left F.faults S.written S.faults
+        outside.old.files.now outside.new.files.now outside.old.out.now outside.new.out.now)
+        (status_of result) }
+    ensures same_files { outside.new.files.ghost_name ≡ outside.old.files.ghost_name }
+    ensures same_out { outside.new.out.ghost_name ≡ outside.old.out.ghost_name }
+{
+    match form {
+        Some(Form::Files(words)) => run_files(limit, alloc, words, outside),
+        Some(Form::Verify { problem, solution }) => {
+            verify_files(limit, alloc, problem, solution, outside)
+        }
+        Some(
+            Form::Demo {
+                seed,
+                classes,
+                turns,
+            },
+        ) => demo(alloc, seed, classes, turns, outside.out, outside.watcher),
+        Some(Form::Make { seed, classes }) => make(alloc, seed, classes, outside.out),
+        None => usage(outside.out),
+    }
+}
+
 /// Does the same as [`run_watched`], with another limit on the bytes of a file.
 pub fn run_within<F: Files, S: Sink, W: Watcher>(
     limit: u64,
@@ -51,21 +85,9 @@ pub fn run_within<F: Files, S: Sink, W: Watcher>(
               (S.written out.new) (F.faults files.new) (S.faults out.new);
         }) result }
 {
-    let ended = match read_form(words) {
-        Some(Form::Files(words)) => run_files(limit, alloc, words, files, out, watcher),
-        Some(Form::Verify { problem, solution }) => {
-            verify_files(limit, alloc, problem, solution, files, out)
-        }
-        Some(
-            Form::Demo {
-                seed,
-                classes,
-                turns,
-            },
-        ) => demo(alloc, seed, classes, turns, out, watcher),
-        Some(Form::Make { seed, classes }) => make(alloc, seed, classes, out),
-        None => usage(out),
-    };
+    let form = read_form(words);
+    let mut outside = Outside::new(files, out, watcher);
+    let ended = run_form(limit, alloc, form, &mut outside);
     status(ended)
 }
 

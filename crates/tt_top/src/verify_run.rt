@@ -5,13 +5,14 @@ ghost use Rattle.tt_io.specs.Causes.{Asks, Writes};
 ghost use Rattle.tt_io.specs.Whole.{WritesFront};
 ghost use Rattle.tt_published.specs.Timetable.{IsTimetableOf};
 ghost use Rattle.tt_top.specs.PlainRun.{check_phase, checking, solution_phase};
-ghost use Rattle.tt_top.specs.Run.{HasAtMost, IsReadAtMost, IsVerifyRun, left_open, moment};
-ghost use Rattle.tt_top.specs.Ends.{Agrees, HasEndCause, Loads, done_status, status_of};
+ghost use Rattle.tt_top.specs.Run.{HasAtMost, IsReadAtMost, IsVerifyRun, left_open};
+ghost use Rattle.tt_top.specs.Ends.{Agrees, HasEndCause, Loads, done_status, outside_of, status_of};
 ghost use Rattle.tt_top.specs.Checks.{check_run, check_seen, check_status, check_text};
 ghost use Rattle.tt_top.specs.Words.{verify_words};
 
 use crate::end::{Done, End, Input, Loaded};
 use crate::load::{load_problem, load_timetable};
+use crate::outside::Outside;
 use crate::reply::put_fault;
 use crate::serve::hand_on;
 use std::alloc::{AllocError, Global};
@@ -20,6 +21,7 @@ use tt_problem::Problem;
 use tt_published::Published;
 use tt_text::Reply;
 use tt_verify::verify;
+use tt_watch::Watcher;
 
 // What is found of a solution file: what is written of it, and whether it has violations.
 #[derive(Drop)]
@@ -118,24 +120,21 @@ fn done_of(check: &Loaded<Check>) -> Done
 }
 
 /// Checks a solution file against a problem, and writes what is found.
-pub fn verify_files<F: Files, S: Sink>(
+pub fn verify_files<F: Files, S: Sink, W: Watcher>(
     limit: u64,
     alloc: Global,
     problem: &str,
     solution: &str,
-    files: &mut F,
-    out: &mut S,
+    outside: &mut Outside<'_, F, S, W>,
 ) -> Result<Done, End>
-    ensures { IsVerifyRun problem.now solution.now limit
-        (record {
-          holds = F.holds files.old;
-          before = moment (F.asked files.old) (F.is_open files.old) (F.left files.old)
-              (S.written out.old) (F.faults files.old) (S.faults out.old);
-          now = moment (F.asked files.new) (F.is_open files.new) (F.left files.new)
-              (S.written out.new) (F.faults files.new) (S.faults out.new);
-        }) (status_of result) }
+    ensures runs { IsVerifyRun problem.now solution.now limit
+        (outside_of F.holds F.asked F.is_open F.left F.faults S.written S.faults
+        outside.old.files.now outside.new.files.now outside.old.out.now outside.new.out.now)
+        (status_of result) }
+    ensures same_files { outside.new.files.ghost_name ≡ outside.old.files.ghost_name }
+    ensures same_out { outside.new.out.ghost_name ≡ outside.old.out.ghost_name }
 {
-    let check = check_files(limit, alloc, problem, solution, files)?;
-    write_check(alloc, &check, out)?;
+    let check = check_files(limit, alloc, problem, solution, outside.files)?;
+    write_check(alloc, &check, outside.out)?;
     Ok(done_of(&check))
 }
