@@ -1,5 +1,5 @@
 -- What is read of files that may be longer than the limit.
-use Rattle.std.proofs.Common.{◌≡◌, ◌≤◌, ◌+◌, ℕ, Bool, true, false, List, [], ◌∷◌, ◌++◌, None, Some, Option, Err, refl, sym, subst, arith, length}
+use Rattle.std.proofs.Common.{◌≡◌, ◌≤◌, ◌+◌, ℕ, Bool, true, false, List, [], ◌∷◌, ◌++◌, None, Some, Option, Err, refl, subst, arith, length}
 use Rattle.std.specs.Prelude.{IfSome, IsTrue, option_to_list}
 use Rattle.std.specs.List.{AllByRecursion}
 use Rattle.tt_io.specs.Whole.{TakesAtMost}

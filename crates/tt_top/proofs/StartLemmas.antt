@@ -1,5 +1,5 @@
 -- A session that is started over what was read, for which memory may be wanting.
-use Rattle.std.proofs.Common.{◌≡◌, ◌≢◌, ◌∙◌, sym, ap, refl, ℕ, List, Option, None, Some, Result, Ok, Err}
+use Rattle.std.proofs.Common.{◌≡◌, ◌≢◌, ◌∙◌, sym, ap, refl, ℕ, List, Option, Result, Ok, Err}
 use Rattle.std.specs.Prelude.{IfOk, IfErr}
 use Rattle.tt_problem.specs.declared.parts.Parts.{Parts}
 use Rattle.tt_published.specs.Timetable.{Timetable}
@@ -7,7 +7,7 @@ use Rattle.tt_desk.specs.Desk.{Session}
 use Rattle.tt_top.specs.declared.end.End.{End}
 use Rattle.tt_top.specs.declared.end.End.TheVariants.{Files, Sink, Memory, TooLong}
 use Rattle.tt_top.specs.declared.end.InputFault.{InputFault}
-use Rattle.tt_top.specs.Opening.{FaultyFile, opened, opening_session, published_in, started}
+use Rattle.tt_top.specs.Opening.{FaultyFile, opening_session, published_in, started}
 use Rattle.tt_top.specs.PlainRun.{published_phase, start_phase}
 use Rattle.tt_top.specs.Ends.{Agrees, HasEndCause, seen}
 use Rattle.tt_top.specs.Started.{loaded_by}

@@ -1,4 +1,4 @@
-use Rattle.std.proofs.Common.{◌≡◌, ◌+◌, Some, subst, refl, [], ◌∷◌}
+use Rattle.std.proofs.Common.{◌+◌, Some, subst, refl, [], ◌∷◌}
 use Rattle.tt_base.proofs.ResultLemmas.{handed_on}
 use Rattle.tt_top.specs.Words.{verify_words}
 use Rattle.tt_top.specs.PlainRun.{PlainRun, Phase, problem_phase, solution_phase, check_phase}
