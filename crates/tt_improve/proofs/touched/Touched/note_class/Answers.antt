@@ -12,9 +12,10 @@ use Rattle.tt_problem.specs.Places.{course_of}
 use Rattle.tt_improve.specs.declared.touched.Touched.{Touched}
 use Rattle.tt_improve.proofs.TouchedLemmas.{class_noted}
 use Rattle.tt_improve.proofs.touched.Touched.note_class.Goals as goal
+use Rattle.tt_improve.proofs.touched.Touched.note_class.Goals.{After-attendees-students}
 
 -- the students who have the class
-students : (c : goal.After-attendees-students) → AreStudentsOf c.attendees-students.result c.args.state.now.present.lists c.args.class
+students : (c : After-attendees-students) → AreStudentsOf c.attendees-students.result c.args.state.now.present.lists c.args.class
 students c = subst (λ (l : List (List ℕ)). AreStudentsOf c.attendees-students.result l c.args.class) (c.roster.ensures.lists ∙ c.score.ensures.lists) c.attendees-students.ensures
 
 pub attendees-students-requires : goal.attendees-students-requires
