@@ -1,16 +1,16 @@
 //! Rules on pairs of classes, fifteen types: the number of pairs of placed members that break the
 //! rule, kept while members come and go. A `PairGroup` is a `Measure`: its amount is the
-//! definition's (`sum`, `delta`, `most` of `new`), and `gain` says by how much a spot raises it.
+//! definition's (`new`), and `gain` says by how much a spot raises it.
 #![tactic(auto)]
 
-ghost use Rattle.std.specs.Prelude.{◌≡◌, ℕ, ◌+◌, ◌-◌, ◌*◌, ◌/◌, ◌<◌, ◌≤◌, pos, false, Some, None, IfOk, IfSome, length, replicate, count_by, List, Option};
+ghost use Rattle.std.specs.Prelude.{◌≡◌, ◌+◌, ◌-◌, ◌*◌, ◌/◌, ◌<◌, ◌≤◌, pos, false, Some, None, IfOk, IfSome, length, count_by};
 ghost use Rattle.std.specs.Option.{option_map_or};
-ghost use Rattle.tt_travel.specs.Table.{Table, IsRoomOf};
-ghost use Rattle.tt_bits.specs.declared.times.Spot.{Spot};
+ghost use Rattle.tt_travel.specs.Table.{IsRoomOf};
 ghost use Rattle.tt_base.specs.Limits.{most_members};
 ghost use Rattle.tt_measure.specs.Limits.{most_weeks};
 ghost use Rattle.tt_bits.specs.Spots.{placed};
 ghost use Rattle.tt_measure.specs.Held.{AreRoomsOf};
+ghost use Rattle.tt_measure.specs.NewGroups.{IsNewGroup};
 ghost use Rattle.tt_pair.specs.ViolatedPairs.{is_violated, violated_pairs, violated_with};
 ghost use Rattle.tt_pair.specs.Listed.{is_violated_by};
 ghost use Rattle.tt_pair.specs.PairShapes.{pair_shape, kind_of};
@@ -36,22 +36,14 @@ impl PairGroup {
     /// A group of so many members, none of them placed.
     pub fn new(alloc: Global, kind: PairKind, members: u32) -> Result<PairGroup, AllocError>
         requires { members ≤ most_members }
-        ensures held { IfOk result (λ g. ⟦<PairGroup as Measure>⟧.held g ≡ replicate members None) }
-        ensures weeks { IfOk result (λ g. ⟦<PairGroup as Measure>⟧.weeks g ≡ most_weeks) }
-        ensures shape { IfOk result
-            (λ g. ⟦<PairGroup as Measure>⟧.shape g ≡ pair_shape kind members) }
-        // Its amounts are the pairs that break the rule.
-        ensures sum { IfOk result (λ g.
-            (t : Table) (h : List (Option Spot))
-            → ⟦<PairGroup as Measure>⟧.sum (⟦<PairGroup as Measure>⟧.shape g) t h
-            ≡ violated_pairs kind t h) }
-        ensures delta { IfOk result (λ g.
-            (t : Table) (h : List (Option Spot)) (p : ℕ) (x : Spot)
-            → ⟦<PairGroup as Measure>⟧.delta (⟦<PairGroup as Measure>⟧.shape g) t h p x
-            ≡ pos (violated_with kind t h p x)) }
-        ensures most { IfOk result (λ g. (n : ℕ) →
-            ⟦<PairGroup as Measure>⟧.most (⟦<PairGroup as Measure>⟧.shape g) n ≡ n * (n - 1) / 2) }
-        ensures fits { IfOk result (λ g. (t : Table) → ⟦<PairGroup as Measure>⟧.fits g t) }
+        ensures new { IfOk result (IsNewGroup ⟦<PairGroup as Measure>⟧ record {
+          members = members;
+          weeks = most_weeks;
+          shape = pair_shape kind members;
+          sum = λ t h. violated_pairs kind t h;
+          delta = λ t h p x. pos (violated_with kind t h p x);
+          most = λ n. n * (n - 1) / 2;
+        }) }
     {
         let held = vec![in alloc; None; members as usize]?;
         Ok(PairGroup {
