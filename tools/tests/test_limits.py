@@ -41,7 +41,7 @@ def test_other_limits_are_those_of_the_document() -> None:
                   f"a list of 1 to {limits.TIMES_OF_A_CLASS:,} times", f"**id** is a number from 0 to {limits.ID.most:,}",
                   f"JSON number up to {limits.NUMBER.most:,}", f"is at most {limits.PARAMETER.most:,}; spaces"):
         assert words in FORMATS, words
-    for front, most in (("cells", limits.CELLS), ("members", limits.MEMBERS), ("links", limits.LINKS), ("seats", limits.SEATS_OF_ALL)):
+    for front, most in (("cells", limits.CELLS), ("members", limits.MEMBERS), ("links", limits.LINKS), ("classes in lists", limits.LISTED)):
         assert re.search(rf"^\| {front}.*\| {most:,} \|$", FORMATS, re.M), front
 
 

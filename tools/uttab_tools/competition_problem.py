@@ -43,7 +43,7 @@ class Sums:
     def __init__(self) -> None:
         self.cells: dict[int, int] = {}
         self.subparts: dict[int, int] = {}
-        self.distributions = self.members = self.links = self.seats = 0
+        self.distributions = self.members = self.links = self.listed = 0
 
     def enter_class(self, class_id: int, times: Iterable[Value]) -> None:
         self.cells[class_id] = max((str(time["days"]).count("1") * str(time["weeks"]).count("1") for time in times), default=0)
@@ -55,7 +55,7 @@ class Sums:
             self.links += sum(self.cells.get(one, 0) for one in classes)
 
     def enter_student(self, courses: set[int]) -> None:
-        self.seats += sum(self.subparts.get(course, 0) for course in courses)
+        self.listed += sum(self.subparts.get(course, 0) for course in courses)
 
 
 class ProblemWriter:
@@ -279,7 +279,7 @@ class ProblemWriter:
             (sum(sums.cells.values()), "cells (days times weeks of a class's largest time, over all classes)", limits.CELLS),
             (sums.members, "members of all distributions", limits.MEMBERS),
             (sums.links, "links (cells of the members of all MaxBreaks and MaxBlock)", limits.LINKS),
-            (sums.seats, "seats (subparts of the largest configuration, over all students' courses)", limits.SEATS_OF_ALL),
+            (sums.listed, "classes in lists (subparts of the largest configuration, over all students' courses)", limits.LISTED),
             (self.bytes, "bytes of the problem file", limits.FILE_BYTES),
         ):
             if count > most:

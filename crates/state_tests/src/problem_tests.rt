@@ -144,20 +144,20 @@ fn has_members(problem: &Problem) -> bool {
 }
 
 // Whether each student may have a class of each of two subparts.
-#[tactic(auto, using(tt_problem::proofs::SpanLemmas::few_subparts, tt_problem::proofs::SumLemmas::few_in_seats))]
-fn has_seats(alloc: Global, problem: &Problem) -> Result<bool, AllocError> {
+#[tactic(auto, using(tt_problem::proofs::SpanLemmas::few_subparts, tt_problem::proofs::SumLemmas::few_subparts_in_table))]
+fn has_list_lengths(alloc: Global, problem: &Problem) -> Result<bool, AllocError> {
     problem.validity();
     if problem.student_count() != 2 {
         return Ok(false);
     }
     let parts = problem.parts();
-    let table = sums::seat_table(alloc, parts)?;
-    let seats = table.as_slice();
+    let table = sums::subpart_table(alloc, parts)?;
+    let subparts = table.as_slice();
     let most = [
-        sums::most_seats(seats, problem.student(1)),
-        problem.most_seats(1),
+        sums::most_classes_of(subparts, problem.student(1)),
+        problem.most_classes_of(1),
     ];
-    Ok(seats == [2].as_slice() && sums::seats_of(parts, seats) == 4 && most == [2, 2])
+    Ok(subparts == [2].as_slice() && sums::most_listed(parts, subparts) == 4 && most == [2, 2])
 }
 
 // Whether each of these is as the text has it.
@@ -174,7 +174,7 @@ fn has_all(alloc: Global, problem: &Problem) -> Result<[bool; 12], AllocError> {
         has_travel(problem),
         has_cells(alloc, problem)?,
         has_members(problem),
-        has_seats(alloc, problem)?,
+        has_list_lengths(alloc, problem)?,
     ])
 }
 

@@ -18,7 +18,7 @@ fn seats_a_student(problem: &Problem, roster: &mut Roster) -> bool
     if problem.class_count() != 3 || problem.student_count() != 2 {
         return false;
     }
-    if problem.most_seats(1) != 2 {
+    if problem.most_classes_of(1) != 2 {
         return false;
     }
     roster.seat(problem, 1, 2);
@@ -46,7 +46,7 @@ fn seats_both_students(
     if problem.class_count() != 3 || problem.student_count() != 2 {
         return Ok(false);
     }
-    if problem.most_seats(0) != 2 || problem.most_seats(1) != 2 {
+    if problem.most_classes_of(0) != 2 || problem.most_classes_of(1) != 2 {
         return Ok(false);
     }
     roster.seat(problem, 1, 2);
@@ -85,7 +85,7 @@ fn counts_a_common_student(problem: &Problem, roster: &mut Roster) -> bool
     if problem.class_count() != 3 || problem.student_count() != 2 {
         return false;
     }
-    if problem.most_seats(0) != 2 {
+    if problem.most_classes_of(0) != 2 {
         return false;
     }
     roster.seat(problem, 0, 0);

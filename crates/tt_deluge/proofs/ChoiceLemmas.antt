@@ -8,7 +8,7 @@ use Rattle.rand_core.specs.Stream.{Stream, next_u32}
 use Rattle.tt_problem.specs.declared.parts.Span.{Span}
 use Rattle.tt_problem.specs.declared.parts.CoursePart.{CoursePart}
 use Rattle.tt_problem.specs.declared.parts.Parts.{Parts}
-use Rattle.tt_problem.specs.Seats.{spans_at}
+use Rattle.tt_problem.specs.ListLengths.{spans_at}
 use Rattle.tt_problem.specs.Spans.{IsSpanWithin}
 use Rattle.tt_struct.proofs.SpanWalks.{from, next_span, nth_place}
 use Rattle.tt_draw.specs.Words.{drawn, drawn_place}

@@ -8,7 +8,7 @@ use Rattle.std.proofs.lemmas.List.Elements.{filter-append}
 use Rattle.tt_problem.specs.declared.parts.CoursePart.{CoursePart}
 use Rattle.tt_problem.specs.declared.parts.Span.{Span}
 use Rattle.tt_problem.specs.declared.parts.Parts.{Parts}
-use Rattle.tt_problem.specs.Seats.{span_length, spans_at}
+use Rattle.tt_problem.specs.ListLengths.{span_length, spans_at}
 use Rattle.tt_problem.specs.Spans.{IsSpanWithin}
 use Rattle.tt_problem.specs.Valid.{IsValid}
 use Rattle.tt_struct.proofs.SpanWalks.{from, next_span}

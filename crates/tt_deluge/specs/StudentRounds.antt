@@ -7,7 +7,7 @@ use Rattle.rand_core.specs.Stream.{Stream}
 use Rattle.tt_base.specs.Lists.{is_listed}
 use Rattle.tt_problem.specs.declared.parts.Span.{Span}
 use Rattle.tt_problem.specs.declared.parts.Parts.{Parts}
-use Rattle.tt_problem.specs.Seats.{span_length, spans_at}
+use Rattle.tt_problem.specs.ListLengths.{span_length, spans_at}
 use Rattle.tt_state.specs.Snapshots.{Snapshot, classes_in_order, list_in, with_list}
 use Rattle.tt_choice.specs.Choices.{places_between}
 use Rattle.tt_choice.specs.Situations.{parent_in}

@@ -2,7 +2,7 @@
 
 ghost use Rattle.std.specs.Prelude.{◌≡◌, ◌<◌, ◌≤◌, ◌++◌, [], All, None, Some, IfNone, IfOk, IfSome, OnOk, cond, false, length, nat_le, slice_get};
 ghost use Rattle.rand_core.specs.Stream.{next_u32};
-ghost use Rattle.tt_problem.specs.Seats.{spans_at};
+ghost use Rattle.tt_problem.specs.ListLengths.{spans_at};
 ghost use Rattle.tt_problem.specs.Spans.{IsSpanWithin};
 ghost use Rattle.tt_state.specs.History.{IsWithinStep, earlier, trail};
 ghost use Rattle.tt_state.specs.Snapshots.{classes_in_order, list_in, with_list};

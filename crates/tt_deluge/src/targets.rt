@@ -2,7 +2,7 @@
 
 ghost use Rattle.std.specs.Prelude.{◌≡◌, ◌<◌, ◌≤◌, ◌++◌, ◌^◌, ◌∷◌, [], IfOk, OnOk, length, map, nat_le};
 ghost use Rattle.std.specs.List.{filter, list_all};
-ghost use Rattle.tt_problem.specs.Seats.{span_length, spans_at};
+ghost use Rattle.tt_problem.specs.ListLengths.{span_length, spans_at};
 ghost use Rattle.tt_problem.specs.Spans.{IsSpanWithin};
 ghost use Rattle.tt_deluge.specs.Deluged.{targets_at};
 ghost use Rattle.tt_deluge.specs.StudentRounds.{has_choice, is_choice};

@@ -3,7 +3,7 @@
 ghost use Rattle.std.specs.Prelude.{◌≡◌, ◌<◌, ◌≤◌, length, map, slice_get, slice_index, Some, IfOk, IfSome};
 ghost use Rattle.tt_travel.specs.Table.{most_rooms};
 ghost use Rattle.tt_problem.specs.Spans.{IsSpanWithin};
-ghost use Rattle.tt_problem.specs.Seats.{most_seats};
+ghost use Rattle.tt_problem.specs.ListLengths.{most_classes_of};
 ghost use Rattle.tt_problem.specs.Valid.{class_ids, student_ids, AreValidWeights, IsValid, IsValidClass, IsValidRoom, IsValidRule, IsValidStudent};
 ghost use Rattle.tt_problem.specs.RulePlaces.{rules_of};
 ghost use Rattle.tt_problem.specs.Places.{place_of_id, class_id, student_id, class_of, room_of, student_of, subpart_of, config_of, course_of};
@@ -225,14 +225,15 @@ impl Problem {
     }
 
     /// The most classes that the list of the student at a place may have.
-    #[tactic(auto, using(crate::proofs::SpanLemmas::few_subparts, crate::proofs::SumLemmas::few_in_seats, crate::proofs::SumLemmas::seats_in_table, crate::proofs::IdLemmas::number_at))]
-    pub fn most_seats(&self, student: u32) -> u32
+    #[tactic(auto, using(crate::proofs::SpanLemmas::few_subparts, crate::proofs::SumLemmas::few_subparts_in_table, crate::proofs::SumLemmas::classes_in_table, crate::proofs::IdLemmas::number_at))]
+    pub fn most_classes_of(&self, student: u32) -> u32
         requires { student < length self.now.students }
-        ensures most { result ≡ slice_index (map (most_seats self.now) self.now.students) student }
+        ensures most { result
+            ≡ slice_index (map (most_classes_of self.now) self.now.students) student }
         ensures few { result ≤ 800000 }
     {
-        let seats = self.index.seats.as_slice();
-        sums::most_seats(seats, self.student(student))
+        let subparts = self.index.most_subparts.as_slice();
+        sums::most_classes_of(subparts, self.student(student))
     }
 
     /// The rules by which parts make a problem hold.

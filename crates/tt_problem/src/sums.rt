@@ -1,12 +1,12 @@
 //! Sums over the parts of a problem, for telling whether they are within its limits. Only the tables of
-//! cells and of seats take memory.
+//! cells and of subparts take memory.
 
 ghost use Rattle.std.specs.Prelude.{◌≡◌, ◌≤◌, ◌<◌, All, IfOk, length, map, slice_index, sum_by};
 ghost use Rattle.tt_base.specs.Limits.{most_members};
 ghost use Rattle.tt_problem.specs.Spans.{Covers, IsSpanWithin};
 ghost use Rattle.tt_problem.specs.Valid.{IsValidRule, IsValidStudent, course_spans};
-ghost use Rattle.tt_problem.specs.Seats.{most_of_course};
-ghost use Rattle.tt_problem.specs.Sums.{time_cells, class_cells, cells_of, member_count, links_of, seats_of};
+ghost use Rattle.tt_problem.specs.ListLengths.{most_of_course};
+ghost use Rattle.tt_problem.specs.Sums.{time_cells, class_cells, cells_of, member_count, links_of, most_listed};
 
 use crate::parts::{ClassPart, CoursePart, Parts, Rule, Span, StudentPart, TimeChoice};
 use std::alloc::{AllocError, Global};
@@ -101,7 +101,7 @@ pub fn links_of(parts: &Parts, cells: &[u16]) -> u64
 }
 
 // The greatest number of subparts of a configuration of a course.
-#[tactic(auto, using(crate::proofs::SumLemmas::span_in), unfolding(crate::specs::Seats::most_of_course))]
+#[tactic(auto, using(crate::proofs::SumLemmas::span_in), unfolding(crate::specs::ListLengths::most_of_course))]
 fn most_of_course(parts: &Parts, course: &CoursePart) -> u32
     requires within { IsSpanWithin (length parts.now.configs) course.now.configs }
     requires configs { Covers parts.now.configs (length parts.now.subparts) }
@@ -117,48 +117,48 @@ fn most_of_course(parts: &Parts, course: &CoursePart) -> u32
 
 /// For each course the greatest number of subparts of a configuration.
 #[tactic(auto, using(crate::proofs::SpanLemmas::course_within))]
-pub fn seat_table(alloc: Global, parts: &Parts) -> Result<Row<u32>, AllocError>
+pub fn subpart_table(alloc: Global, parts: &Parts) -> Result<Row<u32>, AllocError>
     requires courses { Covers (course_spans parts.now) (length parts.now.configs) }
     requires configs { Covers parts.now.configs (length parts.now.subparts) }
-    ensures { IfOk result (λ seats. seats ≡ map (most_of_course parts.now) parts.now.courses) }
+    ensures { IfOk result (λ table. table ≡ map (most_of_course parts.now) parts.now.courses) }
 {
-    let mut seats = Vec::with_capacity(alloc, parts.courses.len())?;
+    let mut subparts = Vec::with_capacity(alloc, parts.courses.len())?;
     for course in parts.courses.as_slice() {
-        seats.push(most_of_course(parts, course))?;
+        subparts.push(most_of_course(parts, course))?;
     }
-    Ok(Row::from_vec(seats))
+    Ok(Row::from_vec(subparts))
 }
 
 /// The sum of a table over the courses of a student. Where the table has for each course the greatest
 /// number of subparts of a configuration, it is the most classes that the student's list may have.
-pub fn most_seats(seats: &[u32], student: &StudentPart) -> u32
-    requires few_seats { All (λ most. most ≤ 20000) seats.now }
-    requires courses { All (λ place. place < length seats.now) student.now.courses }
+pub fn most_classes_of(subparts: &[u32], student: &StudentPart) -> u32
+    requires few_subparts { All (λ most. most ≤ 20000) subparts.now }
+    requires courses { All (λ place. place < length subparts.now) student.now.courses }
     requires few_courses { length student.now.courses ≤ 40 }
-    ensures most { result ≡ sum_by (slice_index seats.now) student.now.courses }
+    ensures most { result ≡ sum_by (slice_index subparts.now) student.now.courses }
     ensures few { result ≤ 800000 }
 {
     let mut most = 0;
     for place in student.courses.as_slice() {
-        most += seats[*place as usize];
+        most += subparts[*place as usize];
     }
     most
 }
 
-/// The most classes that the lists of all students may have together. `seats` has for each course
+/// The most classes that the lists of all students may have together. `subparts` has for each course
 /// the greatest number of subparts of a configuration.
-#[tactic(auto, using(crate::proofs::SumLemmas::few_in_seats))]
-pub fn seats_of(parts: &Parts, seats: &[u32]) -> u64
-    requires seats { seats.now ≡ map (most_of_course parts.now) parts.now.courses }
+#[tactic(auto, using(crate::proofs::SumLemmas::few_subparts_in_table))]
+pub fn most_listed(parts: &Parts, subparts: &[u32]) -> u64
+    requires subparts { subparts.now ≡ map (most_of_course parts.now) parts.now.courses }
     requires configs { Covers parts.now.configs (length parts.now.subparts) }
     requires few_subparts { length parts.now.subparts ≤ 20000 }
     requires few { length parts.now.students ≤ 100000 }
     requires students { All (IsValidStudent parts.now) parts.now.students }
-    ensures { result ≡ seats_of parts.now }
+    ensures { result ≡ most_listed parts.now }
 {
     let mut sum = 0;
     for student in parts.students.as_slice() {
-        sum += u64::from(most_seats(seats, student));
+        sum += u64::from(most_classes_of(subparts, student));
     }
     sum
 }

@@ -1,20 +1,20 @@
 //! Reading a file that has no fault: its ids are gathered first, and then all is read once, each
 //! reference looked up at once.
 
-ghost use Rattle.std.specs.Prelude.{◌≡◌, Ok, IfOk, IfSome, IsTrue, length, map};
-ghost use Rattle.tt_problem.specs.Valid.{IsValid, room_ids, course_ids, class_ids};
+ghost use Rattle.std.specs.Prelude.{◌≡◌, Ok, IfOk, IfSome, IsTrue, length};
+ghost use Rattle.tt_problem.specs.Valid.{IsValid};
 ghost use Rattle.tt_fields.specs.Answer.{part_of};
-ghost use Rattle.tt_read.specs.Read.{shape_read, HasLists, HasIdsOf, ArePartsOf, IsCourseListOf, IsRoomListOf, IsShape};
+ghost use Rattle.tt_read.specs.Read.{shape_read, HasLists, HasIdsOf, HasOwnIds, ArePartsOf, IsCourseListOf, IsRoomListOf, IsShape};
 ghost use Rattle.tt_read.specs.Tables.{parts_of};
 
-use crate::passes::{CourseList, RoomList, Shape, read_term, read_weights, second_pass};
+use crate::passes::{CourseList, Linked, RoomList, Shape, read_term, read_weights, second_pass};
 use crate::sums::third_pass;
 use indexmap::IndexSet;
-use std::alloc::{AllocError, Global};
+use std::alloc::Global;
 use tt_fields::{
     Field, FileFault, PartList, as_object, list, list_or_none, number, object as required_object,
 };
-use tt_problem::{ClassPart, CoursePart, Parts, RoomPart};
+use tt_problem::Parts;
 
 // Adds the ids of the objects that a list leads to by these keys of lists. What is gathered is
 // compared with the ids of the parts that are read with it.
@@ -125,46 +125,21 @@ fn likely_shape<'a>(alloc: Global, object: &'a Field<'a>) -> Result<Option<Shape
     }))
 }
 
-// The ids of the rooms, in order.
-fn ids_of_rooms(alloc: Global, rooms: &[RoomPart]) -> Result<Vec<u32>, AllocError>
-    ensures { IfOk result (λ ids. ids.items ≡ room_ids rooms.now) }
+// Whether two sets have the same ids, in the same order.
+fn are_keys(ids: &IndexSet<u32>, keys: &IndexSet<u32>) -> bool
+    ensures { IsTrue result → ids.now.keys ≡ keys.now.keys }
 {
-    rooms.iter().map(|room| room.id).collect(alloc)
-}
-
-// The ids of the courses, in order.
-fn ids_of_courses(alloc: Global, courses: &[CoursePart]) -> Result<Vec<u32>, AllocError>
-    ensures { IfOk result (λ ids. ids.items ≡ course_ids courses.now) }
-{
-    courses.iter().map(|course| course.id).collect(alloc)
-}
-
-// The ids of the classes, in order.
-fn ids_of_classes(alloc: Global, classes: &[ClassPart]) -> Result<Vec<u32>, AllocError>
-    ensures { IfOk result (λ ids. ids.items ≡ class_ids classes.now) }
-{
-    classes.iter().map(|class| class.id).collect(alloc)
-}
-
-// Whether these are the ids of a set, in its order.
-fn are_keys(ids: &[u32], keys: &IndexSet<u32>) -> bool
-    ensures { IsTrue result → ids.now ≡ keys.now.keys }
-{
-    ids == keys.as_slice()
+    ids.as_slice() == keys.as_slice()
 }
 
 // Whether the ids of the parts are those of the shape.
-fn has_ids(alloc: Global, shape: &Shape<'_>, parts: &Parts) -> Result<bool, AllocError>
-    ensures { IfOk result (λ same. IsTrue same → HasIdsOf (shape_read shape.now) parts.now) }
+fn has_ids(shape: &Shape<'_>, linked: &Linked) -> bool
+    requires { HasOwnIds linked.now }
+    ensures { IsTrue result → HasIdsOf (shape_read shape.now) linked.now.parts }
 {
-    let rooms = ids_of_rooms(alloc, parts.rooms.as_slice())?;
-    let courses = ids_of_courses(alloc, parts.courses.as_slice())?;
-    let classes = ids_of_classes(alloc, parts.classes.as_slice())?;
-    Ok(
-        are_keys(rooms.as_slice(), &shape.rooms.ids)
-            && are_keys(courses.as_slice(), &shape.courses.ids)
-            && are_keys(classes.as_slice(), &shape.courses.class_ids),
-    )
+    are_keys(&linked.room_ids, &shape.rooms.ids)
+        && are_keys(&linked.course_ids, &shape.courses.ids)
+        && are_keys(&linked.class_ids, &shape.courses.class_ids)
 }
 
 // The parts of a shape, each reference looked up, and `None` where their ids aren't those of the
@@ -173,9 +148,9 @@ fn linked_parts(alloc: Global, shape: &Shape<'_>) -> Result<Option<Parts>, FileF
     requires { IsShape shape.now }
     ensures { IfOk result (λ found. IfSome found (ArePartsOf shape.now)) }
 {
-    let parts = second_pass(alloc, shape)?;
-    if has_ids(alloc, shape, &parts)? {
-        Ok(Some(parts))
+    let linked = second_pass(alloc, shape)?;
+    if has_ids(shape, &linked) {
+        Ok(Some(linked.parts))
     } else {
         Ok(None)
     }

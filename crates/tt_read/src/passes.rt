@@ -9,7 +9,7 @@ ghost use Rattle.tt_tree.specs.Context.{context_of, IsContext};
 ghost use Rattle.tt_tree.specs.Read.{rooms_read, tree_read};
 ghost use Rattle.tt_tree.specs.Whole.{HasClasses};
 ghost use Rattle.tt_lists.specs.Tables.{rules_in, students_in};
-ghost use Rattle.tt_read.specs.Read.{room_list_read, course_list_read, shape_read, lists_of, IsShape, HasAllClasses, IsLinked};
+ghost use Rattle.tt_read.specs.Read.{room_list_read, course_list_read, shape_read, lists_of, IsShape, HasAllClasses, IsLinked, HasOwnIds};
 ghost use Rattle.tt_read.specs.Tables.{most_weeks as most_weeks_of, term_of, weights_of, term_context, room_list_of, course_list_of, checked_list, file_shape, shape_context, parts_with as parts_of_all, linked_of};
 
 use crate::term::Term;
@@ -237,21 +237,38 @@ fn shape_context<'a>(shape: &'a Shape<'_>) -> Context<'a>
     }
 }
 
-// The parts of a problem.
-fn parts_with(
+/// What the second pass reads: the parts of a problem, and the ids of its rooms, courses and classes.
+#[derive(Drop)]
+pub struct Linked {
+    pub parts: Parts,
+    pub room_ids: IndexSet<u32>,
+    pub course_ids: IndexSet<u32>,
+    pub class_ids: IndexSet<u32>,
+}
+
+// The parts of a problem, and the ids that were read with them.
+fn linked_with(
     shape: &Shape<'_>,
     rooms: Campus,
     tree: Tree,
     rules: Row<Rule>,
     students: Row<StudentPart>,
-) -> Parts
-    ensures { result
+) -> Linked
+    ensures parts { result.parts
         ≡ parts_of_all (shape_read shape.now) (rooms_read rooms) (tree_read tree) rules students }
+    ensures room_ids { result.room_ids ≡ rooms.ids }
+    ensures course_ids { result.course_ids ≡ tree.ids }
+    ensures class_ids { result.class_ids ≡ tree.configs.subparts.classes.ids }
 {
+    let Campus {
+        ids: room_ids,
+        rooms,
+        travel,
+    } = rooms;
     let Tree {
+        ids: course_ids,
         courses,
         configs,
-        ..
     } = tree;
     let Configs {
         spans: configs,
@@ -261,8 +278,11 @@ fn parts_with(
         spans: subparts,
         classes,
     } = subparts;
-    let Classes { classes, .. } = classes;
-    Parts {
+    let Classes {
+        ids: class_ids,
+        classes,
+    } = classes;
+    let parts = Parts {
         nr_days: shape.term.nr_days,
         nr_weeks: shape.term.nr_weeks,
         weights: shape.weights,
@@ -270,19 +290,26 @@ fn parts_with(
         configs: Row::from_vec(configs),
         subparts: Row::from_vec(subparts),
         classes: Row::from_vec(classes),
-        rooms: Row::from_vec(rooms.rooms),
-        travel: rooms.travel,
+        rooms: Row::from_vec(rooms),
+        travel,
         rules,
         students,
+    };
+    Linked {
+        parts,
+        room_ids,
+        course_ids,
+        class_ids,
     }
 }
 
 /// The second pass: the same lists again, with each reference looked up.
 #[tactic(auto, unfolding(crate::specs::Tables::linked_of))]
-pub fn second_pass(alloc: Global, shape: &Shape<'_>) -> Result<Parts, FileFault>
+pub fn second_pass(alloc: Global, shape: &Shape<'_>) -> Result<Linked, FileFault>
     requires { IsShape shape.now }
-    ensures reads { Gives (λ parts. parts) result (linked_of (shape_read shape.now)) }
-    ensures linked { IfOk result (λ parts. HasAllClasses shape.now → IsLinked parts) }
+    ensures reads { Gives (λ linked. linked.parts) result (linked_of (shape_read shape.now)) }
+    ensures linked { IfOk result (λ linked. HasAllClasses shape.now → IsLinked linked.parts) }
+    ensures ids { IfOk result HasOwnIds }
 {
     let context = shape_context(&*shape);
     let rooms = read_rooms(alloc, &context, &shape.rooms.items)?;
@@ -295,5 +322,5 @@ pub fn second_pass(alloc: Global, shape: &Shape<'_>) -> Result<Parts, FileFault>
     )?;
     let courses = Known::among(&shape.courses.ids);
     let students = read_students(alloc, &courses, &shape.students)?;
-    Ok(parts_with(shape, rooms, tree, rules, students))
+    Ok(linked_with(shape, rooms, tree, rules, students))
 }

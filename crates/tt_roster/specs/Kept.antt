@@ -4,7 +4,7 @@ use Rattle.tt_travel.specs.Table.{IsRoomOf}
 use Rattle.tt_bits.specs.Spots.{spot_at}
 use Rattle.tt_pool.specs.Pools.{list_at, nodes_at}
 use Rattle.tt_problem.specs.declared.parts.Parts.{Parts}
-use Rattle.tt_problem.specs.Seats.{most_seats}
+use Rattle.tt_problem.specs.ListLengths.{most_classes_of}
 use Rattle.tt_roster.specs.declared.roster.Roster.TheInside.{Inside}
 use Rattle.tt_roster.specs.Attendees.{AreStudentsOf, AreNodesOf}
 use Rattle.tt_roster.specs.Seen.{classes_in, most_in, seen}
@@ -35,7 +35,7 @@ pub record IsRosterOf (p : Parts) (r : Rostered) : Type 0 where
   pub students : length r.seats ≡ length p.students
   pub classes : length r.spots ≡ length p.classes
   pub lists : All (Ascends 0 (length p.classes)) r.seats
-  pub rows : r.most ≡ map (most_seats p) p.students
+  pub rows : r.most ≡ map (most_classes_of p) p.students
   pub room : (student : ℕ) → length (list_of r.seats student) ≤ slice_index r.most student
   pub rooms : (class : ℕ) → IfSome (spot_at r.spots class) (λ x. IsRoomOf p.travel x.room)
   pub counted : r.conflicts ≡ student_conflicts p.travel r.spots r.seats

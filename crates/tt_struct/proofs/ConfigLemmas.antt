@@ -14,7 +14,7 @@ use Rattle.tt_problem.specs.declared.parts.CoursePart.{CoursePart}
 use Rattle.tt_problem.specs.declared.parts.Parts.{Parts}
 use Rattle.tt_problem.specs.Spans.{CoversFrom, Covers, IsSpanWithin, is_in, span_with}
 use Rattle.tt_problem.specs.Places.{subpart_of, config_of}
-use Rattle.tt_problem.specs.Seats.{span_length, spans_at}
+use Rattle.tt_problem.specs.ListLengths.{span_length, spans_at}
 use Rattle.tt_problem.specs.Valid.{IsValid}
 use Rattle.tt_problem.proofs.SpanLemmas.{span_within}
 use Rattle.tt_struct.specs.Enrolments.{count_in, fills, avoids, takes_one, takes_course}

@@ -3,7 +3,7 @@ use Rattle.std.specs.Prelude.{All}
 use Rattle.std.proofs.lemmas.List.Elements.{All-push}
 use Rattle.rand_core.specs.Stream.{next_u32}
 use Rattle.tt_problem.proofs.SpanLemmas.{few_subparts}
-use Rattle.tt_problem.specs.Seats.{spans_at}
+use Rattle.tt_problem.specs.ListLengths.{spans_at}
 use Rattle.tt_struct.proofs.SpanWalks.{from}
 use Rattle.tt_draw.specs.Words.{drawn}
 use Rattle.tt_deluge.specs.Reading.{words_of}

@@ -1,6 +1,6 @@
 use Rattle.std.proofs.Common.{◌≡◌, ◌<◌, ◌≤◌, [], length}
 use Rattle.std.specs.Prelude.{All}
-use Rattle.tt_problem.specs.Seats.{spans_at}
+use Rattle.tt_problem.specs.ListLengths.{spans_at}
 use Rattle.tt_struct.proofs.SpanWalks.{from}
 use Rattle.tt_deluge.specs.Reading.{words_of}
 use Rattle.tt_deluge.specs.StudentRounds.{drawn_choice}

@@ -2,7 +2,7 @@ use Rattle.std.proofs.Common.{◌≡◌, ℕ, ◌<◌, Bool, true, false, arith,
 use Rattle.std.specs.List.{list_all}
 use Rattle.std.proofs.lemmas.Bool.Decides.{nat_tests}
 use Rattle.tt_problem.specs.declared.parts.Span.{Span}
-use Rattle.tt_problem.specs.Seats.{span_length, spans_at}
+use Rattle.tt_problem.specs.ListLengths.{span_length, spans_at}
 use Rattle.tt_struct.proofs.SpanWalks.{all_stops, all_goes}
 use Rattle.tt_deluge.proofs.targets.is_single.Goals as goal
 

@@ -1,6 +1,6 @@
 use Rattle.std.proofs.Common.{◌≡◌, nat_le}
 use Rattle.std.specs.List.{list_all}
-use Rattle.tt_problem.specs.Seats.{span_length, spans_at}
+use Rattle.tt_problem.specs.ListLengths.{span_length, spans_at}
 use Rattle.tt_struct.proofs.SpanWalks.{from}
 use Rattle.tt_deluge.proofs.targets.is_single.Given as goal
 
