@@ -4,7 +4,7 @@ use Rattle.std.specs.Option.{option_zip}
 use Rattle.tt_text.specs.Decimal.{decimal_of, at_most}
 use Rattle.tt_script.specs.declared.command.Command.{Command}
 use Rattle.tt_script.specs.declared.command.Command.TheVariants.{Assign, Unassign, Force, Section, Drop, Enrol, EnrolAll, Search, Repair, Place, Improve, Deluge, Recall, Close, Reopen, Lock, LockAll, Unlock, UnlockAll, Undo, Publish, Draft, Totals, Violations, Costs, Explain, Why, Values, Meets, Student, Stats, Suggest, Quit}
-use Rattle.tt_script.specs.declared.reading.Choice.{Choice}
+use Rattle.tt_script.specs.declared.reading.NamedValue.{NamedValue}
 use Rattle.tt_script.specs.declared.reading.Turns.{Turns}
 use Rattle.tt_script.specs.declared.reading.Chosen.{Chosen}
 use Rattle.tt_script.specs.declared.reading.Chosen.TheVariants.{All, One}
@@ -41,9 +41,9 @@ slot_of word = at_most 65535 (decimal_of word)
 -- ---- what follows the word of a command
 
 -- `C T R`: a class, the number of a time, and a room
-abbrev pub choice_of : List (List ℕ) → Option Choice
-choice_of (class ∷ time ∷ room ∷ []) = option_map (λ v. record { class = v.0; time = v.1.0; room = v.1.1 }) (option_zip (id_of class) (option_zip (id_of time) (room_or_none room)))
-choice_of words = None
+abbrev pub named_value_of : List (List ℕ) → Option NamedValue
+named_value_of (class ∷ time ∷ room ∷ []) = option_map (λ v. record { class = v.0; time = v.1.0; room = v.1.1 }) (option_zip (id_of class) (option_zip (id_of time) (room_or_none room)))
+named_value_of words = None
 
 -- `N SEED`: a number of turns, and the seed
 abbrev pub turns_of : List (List ℕ) → Option Turns
@@ -101,7 +101,7 @@ no_more_words command (word ∷ words) = None
 abbrev pub question_of : List ℕ → List (List ℕ) → Option Command
 question_of word words =
     if bytes_eq word (codes "explain") then option_map Explain (lone_id words)
-    else if bytes_eq word (codes "why") then option_map (λ v. Why v.class v.time v.room) (choice_of words)
+    else if bytes_eq word (codes "why") then option_map (λ v. Why v.class v.time v.room) (named_value_of words)
     else if bytes_eq word (codes "values") then option_map Values (lone_id words)
     else if bytes_eq word (codes "meets") then option_map Meets (lone_id words)
     else if bytes_eq word (codes "student") then option_map Student (lone_id words)
@@ -127,9 +127,9 @@ other_command word words =
 abbrev pub command_of : List (List ℕ) → Option Command
 command_of [] = None
 command_of (word ∷ words) =
-    if bytes_eq word (codes "assign") then option_map (λ v. Assign v.class v.time v.room) (choice_of words)
+    if bytes_eq word (codes "assign") then option_map (λ v. Assign v.class v.time v.room) (named_value_of words)
     else if bytes_eq word (codes "unassign") then option_map Unassign (lone_id words)
-    else if bytes_eq word (codes "force") then option_map (λ v. Force v.class v.time v.room) (choice_of words)
+    else if bytes_eq word (codes "force") then option_map (λ v. Force v.class v.time v.room) (named_value_of words)
     else if bytes_eq word (codes "section") then section_of words
     else if bytes_eq word (codes "drop") then option_map Drop (lone_id words)
     else if bytes_eq word (codes "enrol") then option_map (for_chosen EnrolAll Enrol) (chosen_of words)

@@ -1,8 +1,7 @@
 //! The command that the words of a line ask for.
 
 ghost use Rattle.std.specs.Prelude.{◌≡◌, ◌↔◌, ◌∷◌, [], Some, None, IfOk, IfSome, IsSome, is_some, codes, bytes_eq, false, option_map};
-ghost use Rattle.tt_script.specs.Forms.{HasDepth, IsDepth, IsSectionLine, id_of, ids_of, room_or_none, count_of, seed_of, slot_of, choice_of, turns_of, closing_of, lone_id, depth_of, suggest_of, chosen_of, for_chosen, section_of, no_more_words, question_of, other_command, command_of};
-ghost use Rattle.tt_text.specs.Line.{words_of};
+ghost use Rattle.tt_script.specs.Forms.{HasDepth, IsDepth, IsSectionLine, id_of, ids_of, room_or_none, count_of, seed_of, slot_of, named_value_of, turns_of, closing_of, lone_id, depth_of, suggest_of, chosen_of, for_chosen, section_of, no_more_words, question_of, other_command, command_of};
 
 use crate::command::{Command, Ids, LineFault};
 use std::alloc::Global;
@@ -14,7 +13,7 @@ const MOST_TURNS: u64 = 1_000_000;
 
 /// The words `C T R`: a class, the number of a time, and a room.
 #[derive(Clone, Copy)]
-pub struct Choice {
+pub struct NamedValue {
     class: u32,
     time: u32,
     room: Option<u32>,
@@ -94,23 +93,23 @@ fn read_slots(word: &[u8]) -> Option<u16>
     }
 }
 
-// The choice that three words are.
-fn read_choice(class: &[u8], time: &[u8], room: &[u8]) -> Option<Choice>
-    ensures { result ≡ choice_of (class.now ∷ time.now ∷ room.now ∷ []) }
+// The value that three words name.
+fn read_named_value(class: &[u8], time: &[u8], room: &[u8]) -> Option<NamedValue>
+    ensures { result ≡ named_value_of (class.now ∷ time.now ∷ room.now ∷ []) }
 {
-    Some(Choice {
+    Some(NamedValue {
         class: read_id(class)?,
         time: read_id(time)?,
         room: read_room(room)?,
     })
 }
 
-// The choice that the words still to come are.
-fn only_choice(mut words: Words<'_>) -> Option<Choice>
-    ensures { result ≡ choice_of words.entry }
+// The value that the words still to come name.
+fn only_named_value(mut words: Words<'_>) -> Option<NamedValue>
+    ensures { result ≡ named_value_of words.entry }
 {
     match (words.next(), words.next(), words.next(), words.next()) {
-        (Some(class), Some(time), Some(room), None) => read_choice(class, time, room),
+        (Some(class), Some(time), Some(room), None) => read_named_value(class, time, room),
         _ => None,
     }
 }
@@ -240,7 +239,7 @@ fn read_question(word: &[u8], words: Words<'_>) -> Option<Command>
         let class = only_id(words)?;
         Some(Command::Explain { class })
     } else if word == b"why".as_slice() {
-        let Choice { class, time, room } = only_choice(words)?;
+        let NamedValue { class, time, room } = only_named_value(words)?;
         Some(Command::Why { class, time, room })
     } else if word == b"values".as_slice() {
         let class = only_id(words)?;
@@ -302,13 +301,13 @@ fn read_short(word: &[u8], words: Words<'_>) -> Option<Command>
     ensures depth { IfSome result HasDepth }
 {
     if word == b"assign".as_slice() {
-        let Choice { class, time, room } = only_choice(words)?;
+        let NamedValue { class, time, room } = only_named_value(words)?;
         Some(Command::Assign { class, time, room })
     } else if word == b"unassign".as_slice() {
         let class = only_id(words)?;
         Some(Command::Unassign { class })
     } else if word == b"force".as_slice() {
-        let Choice { class, time, room } = only_choice(words)?;
+        let NamedValue { class, time, room } = only_named_value(words)?;
         Some(Command::Force { class, time, room })
     } else if word == b"drop".as_slice() {
         let student = only_id(words)?;
@@ -415,18 +414,18 @@ fn read_section(alloc: Global, mut words: Words<'_>) -> Result<Command, LineFaul
     Ok(Command::Section { student, classes })
 }
 
-// The command that the words of a line ask for. Only that of a `section` line in its form takes
-// memory.
-pub(crate) fn read_command(alloc: Global, line: &[u8]) -> Result<Command, LineFault>
-    ensures ok { IfOk result (λ command. command_of (words_of line.now) ≡ Some command) }
+// The command that a line asks for, by its first word and those after it. Only that of a `section`
+// line in its form takes memory.
+pub(crate) fn read_command(
+    alloc: Global,
+    word: &[u8],
+    words: Words<'_>,
+) -> Result<Command, LineFault>
+    ensures ok { IfOk result (λ command. command_of (word.now ∷ words.entry) ≡ Some command) }
     ensures depth { IfOk result HasDepth }
-    ensures bad { result ≡ Err LineFault.Bad ↔ (command_of (words_of line.now) ≡ None) }
-    ensures memory { result ≡ Err LineFault.Memory → IsSectionLine (words_of line.now) }
+    ensures bad { result ≡ Err LineFault.Bad ↔ (command_of (word.now ∷ words.entry) ≡ None) }
+    ensures memory { result ≡ Err LineFault.Memory → IsSectionLine (word.now ∷ words.entry) }
 {
-    let mut words = Words::new(line);
-    let Some(word) = words.next() else {
-        return Err(LineFault::Bad);
-    };
     if word == b"section".as_slice() {
         return read_section(alloc, words);
     }
