@@ -1,13 +1,15 @@
 -- Proof. What the code finds, step by step: who clashes, who is out of a group, and what is listed.
-use Rattle.std.specs.Prelude.{◌≡◌, ℕ, ◌<◌, ◌≤◌, Bool, true, ◌||◌, ◌==◌, List, Option, None, if◌then◌else◌, nat_lt, length, take, drop}
+use Rattle.std.specs.Prelude.{◌≡◌, ℕ, ◌<◌, ◌≤◌, Bool, true, ◌||◌, ◌==◌, List, Option, None, if◌then◌else◌, ◌++◌, map, nat_lt, length, take, drop}
 use Rattle.tt_bits.specs.declared.times.Spot.{Spot}
 use Rattle.tt_bits.specs.declared.pairs.PairKind.{PairKind}
 use Rattle.tt_bits.specs.Spots.{spot_at}
 use Rattle.tt_pair.specs.declared.Listed.TheVariants.{Before, After}
 use Rattle.tt_pair.specs.Listed.{is_violated_by}
 use Rattle.tt_base.specs.Lists.{is_listed}
-use Rattle.tt_clash.specs.Placings.{Placing}
-use Rattle.tt_clash.specs.ConflictSet.{passes, breaks_pair}
+use Rattle.tt_travel.specs.Table.{Table}
+use Rattle.tt_clash.specs.declared.placing as code
+use Rattle.tt_clash.specs.Placings.{Placing, placing_of}
+use Rattle.tt_clash.specs.ConflictSet.{passes, breaks_pair, out_for}
 
 -- the member d at another place breaks the pair rule
 abbrev pub breaks_with : PairKind → Placing → (place other : ℕ) → ℕ → Bool
@@ -28,6 +30,17 @@ lent_spot out spots d = if out d then spot_at spots d else None
 -- the class c and the listed ones
 abbrev pub is_out : ℕ → List ℕ → ℕ → Bool
 is_out c list d = (d == c) || is_listed d list
+
+-- what the members have, and what is left of it once the class that is placed and the listed ones are taken out
+abbrev pub spots_of : code.Placing.Placing → (members : List ℕ) → List (Option Spot)
+spots_of s members = map (spot_at s.occupancy.now.spots) members
+
+abbrev pub spots_left : code.Placing.Placing → (list members : List ℕ) → List (Option Spot)
+spots_left s list members = map (spot_unless (is_out s.class list) s.occupancy.now.spots) members
+
+-- the listed classes, and behind them those that have to go for the rule of a group
+abbrev pub with_group : {M : Type 0} → (shape : M → List ℕ) → (sum : List ℕ → Table → List (Option Spot) → ℕ) → code.Placing.Placing → M → (members list : List ℕ) → List ℕ
+with_group shape sum s group members list = list ++ out_for (sum (shape group) s.problem.now.travel) members (placing_of s) list
 
 -- The listed classes pass the test; and all that pass are listed, where no more than `most` are.
 pub record AreListedWithin (most : ℕ) (test : ℕ → Bool) (list : List ℕ) : Type 0 where

@@ -16,7 +16,7 @@ pub record Placing : Type 0 where
 
 -- the one that the code is handed
 abbrev pub placing_of : code.Placing.Placing → Placing
-placing_of s = record { problem = s.problem.now; spots = s.spots.now; class = s.class; spot = s.spot }
+placing_of s = record { problem = s.problem.now; spots = s.occupancy.now.spots; class = s.class; spot = s.spot }
 
 -- Each class of the problem has one of the spots, and what is placed is of the problem.
 pub record IsPlacing (s : Placing) : Type 0 where

@@ -447,7 +447,7 @@ impl Score {
     {
         let placing = Placing {
             problem,
-            spots: self.occupancy.spots(),
+            occupancy: &self.occupancy,
             class,
             spot,
         };
@@ -475,16 +475,11 @@ impl Score {
     {
         let placing = Placing {
             problem,
-            spots: self.occupancy.spots(),
+            occupancy: &self.occupancy,
             class,
             spot: tt_plan::spot(problem, class, value),
         };
-        conflicts(
-            &placing,
-            &self.occupancy,
-            self.groups.as_mut_slice(),
-            listing,
-        );
+        conflicts(&placing, self.groups.as_mut_slice(), listing);
     }
 
     /// The same as `conflicts`, where no more than `most` classes have to go; else nothing is listed.
@@ -516,17 +511,11 @@ impl Score {
     {
         let placing = Placing {
             problem,
-            spots: self.occupancy.spots(),
+            occupancy: &self.occupancy,
             class,
             spot: tt_plan::spot(problem, class, value),
         };
-        conflicts_within(
-            &placing,
-            &self.occupancy,
-            self.groups.as_mut_slice(),
-            most,
-            listing,
-        )
+        conflicts_within(&placing, self.groups.as_mut_slice(), most, listing)
     }
 
     /// The value of a class, if it has one.

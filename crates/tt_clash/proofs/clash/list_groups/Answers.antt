@@ -22,13 +22,13 @@ loop-with-init g c = record {
 pub make_room-requires-clause-held : goal.make_room-requires-clause-held
 make_room-requires-clause-held g c =
     let m = g.M.Measure in
-    group-holds m.held m.weeks m.fits c.args.placing.now.problem.now c.args.placing.now.spots.now c.loop-with.groups _ _ c.rule-rule.result.now c.loop-with.invariant.groups c.rule-rule.ensures.part
+    group-holds m.held m.weeks m.fits c.args.placing.now.problem.now c.args.placing.now.occupancy.now.spots c.loop-with.groups _ _ c.rule-rule.result.now c.loop-with.invariant.groups c.rule-rule.ensures.part
     ∙ ap (map _) (sym c.as_slice.ensures)
 
 pub make_room-requires-clause-weeks : goal.make_room-requires-clause-weeks
 make_room-requires-clause-weeks g c =
     let m = g.M.Measure in
-    group-weeks m.held m.weeks m.fits c.args.placing.now.problem.now c.args.placing.now.spots.now c.loop-with.groups _ c.index-groups-with.result c.rule-rule.result.now c.args.placing.now.spot c.loop-with.invariant.groups c.rule-rule.ensures.part c.requires.placing.weeks
+    group-weeks m.held m.weeks m.fits c.args.placing.now.problem.now c.args.placing.now.occupancy.now.spots c.loop-with.groups _ c.index-groups-with.result c.rule-rule.result.now c.args.placing.now.spot c.loop-with.invariant.groups c.rule-rule.ensures.part c.requires.placing.weeks
 
 pub loop-with-preserved : goal.loop-with-preserved
 loop-with-preserved g c =
@@ -37,7 +37,7 @@ loop-with-preserved g c =
     let d : RulePlace = record { rule = 0; place = 0 } in
     let r = get_or c.args.rules.now c.loop-with.with-index d in
     let p = c.args.placing.now.problem.now in
-    let within : r.rule < length c.loop-with.groups = group-within m.held m.weeks m.fits p c.args.placing.now.spots.now c.loop-with.groups r.rule c.rule-rule.result.now before.groups c.rule-rule.ensures.part in
+    let within : r.rule < length c.loop-with.groups = group-within m.held m.weeks m.fits p c.args.placing.now.occupancy.now.spots c.loop-with.groups r.rule c.rule-rule.result.now before.groups c.rule-rule.ensures.part in
     let amounts = amounts_of m.shape m.sum p.travel c.args.groups.now in
     let start = clashing (placing_of c.args.placing.now) in
     let listed = c.loop-with.listing.list in
@@ -56,7 +56,7 @@ loop-with-preserved g c =
           rw (w.groups-is, w.listing-is) (record {
             set = subst (λ (l : List ℕ). IsFoundWithin c.args.most l w.make_room.new.listing.list) adds w.make_room.ensures.list;
             classes = w.make_room.ensures.classes ∙ before.classes;
-            groups = groups-set m.held m.weeks m.shape m.fits c.args.placing.now.problem.now c.args.placing.now.spots.now c.loop-with.groups r.rule _ w.make_room.new.group within before.groups w.make_room.ensures.same w.make_room.ensures.fits;
+            groups = groups-set m.held m.weeks m.shape m.fits c.args.placing.now.problem.now c.args.placing.now.occupancy.now.spots c.loop-with.groups r.rule _ w.make_room.new.group within before.groups w.make_room.ensures.same w.make_room.ensures.fits;
             same = same-set m.held m.weeks m.shape c.args.groups.now c.loop-with.groups r.rule _ w.make_room.new.group before.same w.make_room.ensures.same;
           })
       | else-is_required_group w ↦

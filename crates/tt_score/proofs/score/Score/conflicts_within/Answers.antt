@@ -9,35 +9,35 @@ use Rattle.tt_score.proofs.score.Score.conflicts_within.Goals as goal
 pub conflicts_within-requires-clause-placing : goal.conflicts_within-requires-clause-placing
 conflicts_within-requires-clause-placing c =
     let kept = c.requires.fits.kept in
-    is-placing c.args.problem.now c.args.self.now.occupancy.spots c.spots.result.now c.args.class c.spot.result c.spots.ensures kept.valid.travel_rooms kept.of_classes (length-spots kept) c.requires.value.within c.spot.ensures.fits
+    is-placing c.args.problem.now c.args.self.now.occupancy.spots c.args.class c.spot.result kept.valid.travel_rooms kept.of_classes (length-spots kept) c.requires.value.within c.spot.ensures.fits
 
 pub conflicts_within-requires-clause-groups : goal.conflicts_within-requires-clause-groups
 conflicts_within-requires-clause-groups c =
-    rw (c.spots.ensures, c.as_mut_slice.ensures.value) (held-by c.args.problem.now c.args.self.now.occupancy.spots c.args.self.now.groups.items c.requires.fits.grouped)
+    rw c.as_mut_slice.ensures.value (held-by c.args.problem.now c.args.self.now.occupancy.spots c.args.self.now.groups.items c.requires.fits.grouped)
 
 pub conflicts_within-requires-clause-free : goal.conflicts_within-requires-clause-free
 conflicts_within-requires-clause-free c =
     let none : blocked_by c.args.problem.now c.args.self.now.closures c.args.class c.spot.result ≡ None = rw c.spot.ensures.spot at c.requires.open in
-    rw c.as_mut_slice.ensures.value (free-alone c.args.problem.now c.args.self.now.closures c.args.self.now.occupancy.spots c.spots.result.now c.args.self.now.groups.items c.args.class c.spot.result c.requires.fits.grouped none)
+    rw c.as_mut_slice.ensures.value (free-alone c.args.problem.now c.args.self.now.closures c.args.self.now.occupancy.spots c.args.self.now.groups.items c.args.class c.spot.result c.requires.fits.grouped none)
 
 pub returns-clause-few : goal.returns-clause-few
 returns-clause-few c =
     let s = c.args.self.now in
-    let same = set-agree c.args.problem.now s.groups.items c.as_mut_slice.result.now s.plan.items s.occupancy.spots c.spots.result.now c.args.class c.args.value c.spot.result c.requires.fits.grouped c.as_mut_slice.ensures.value c.spots.ensures c.requires.fits.kept.spots c.spot.ensures.spot in
+    let same = set-agree c.args.problem.now s.groups.items c.as_mut_slice.result.now s.plan.items s.occupancy.spots c.args.class c.args.value c.spot.result c.requires.fits.grouped c.as_mut_slice.ensures.value c.requires.fits.kept.spots c.spot.ensures.spot in
     c.conflicts_within.ensures.few ∙ ap (λ (l : List ℕ). nat_le (length l) c.args.most) same
 
 pub returns-clause-set : goal.returns-clause-set
 returns-clause-set c = λ found.
     let s = c.args.self.now in
     c.conflicts_within.ensures.set found
-    ∙ set-agree c.args.problem.now s.groups.items c.as_mut_slice.result.now s.plan.items s.occupancy.spots c.spots.result.now c.args.class c.args.value c.spot.result c.requires.fits.grouped c.as_mut_slice.ensures.value c.spots.ensures c.requires.fits.kept.spots c.spot.ensures.spot
+    ∙ set-agree c.args.problem.now s.groups.items c.as_mut_slice.result.now s.plan.items s.occupancy.spots c.args.class c.args.value c.spot.result c.requires.fits.grouped c.as_mut_slice.ensures.value c.requires.fits.kept.spots c.spot.ensures.spot
 
 pub returns-clause-fits : goal.returns-clause-fits
 returns-clause-fits c =
     let p = c.args.problem.now in
     let s = c.args.self.now in
     let fits = c.requires.fits in
-    let held = rw c.spots.ensures at c.conflicts_within.ensures.groups in
+    let held = c.conflicts_within.ensures.groups in
     let same = rw c.as_mut_slice.ensures.value at c.conflicts_within.ensures.same in
     let grouped = groups-same p s.occupancy.spots s.groups.items c.conflicts_within.new.groups fits.grouped held same in
     rw (with_items_is s.groups c.conflicts_within.new.groups (omega (arith, grouped.count, fits.grouped.count, s.groups.ok.0)))
