@@ -2,3 +2,4 @@ pub mod Timetable
 pub mod Published
 pub mod Seen
 pub mod Lists
+pub mod Aim

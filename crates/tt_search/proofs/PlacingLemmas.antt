@@ -17,10 +17,10 @@ use Rattle.tt_bits.specs.declared.times.Value.{Value}
 use Rattle.tt_problem.specs.declared.parts.Parts.{Parts}
 use Rattle.tt_state.specs.Snapshots.{Snapshot}
 use Rattle.tt_state.specs.Values.{conflicts_of, total_with}
-use Rattle.tt_search.specs.declared.turn.Move.{Move}
+use Rattle.tt_search.specs.declared.turn.Turn.{Turn}
 use Rattle.tt_search.specs.declared.way.Best.{Best}
 use Rattle.tt_search.specs.declared.weights.ClassWeights.{ClassWeights}
-use Rattle.tt_search.specs.Numbers.{after_move, rank_numbers}
+use Rattle.tt_search.specs.Numbers.{after_making, rank_numbers}
 use Rattle.tt_search.specs.PlaceTurns.{PlaceMoment, TurnWords, after_forcing, all_least, burden_of, class_weight, least_values, place_end, place_turn, places_after, set_weight, two_words}
 use Rattle.tt_search.specs.PlacingNow.{CountsOuts, burden_by, moment_after, taken_by, weight_by}
 use Rattle.tt_search.specs.Searched.{onward, rank_of}
@@ -102,8 +102,8 @@ pub one_class : (p : Parts) (words : TurnWords) (m : PlaceMoment) (class : ℕ) 
 unfolding place_turn
 one_class p words m class value is chosen = rw is (rw chosen refl)
 
--- what a move leaves behind
-pub after_same : (p : Parts) (s t : Snapshot) (outs taken : List ℕ) (m : Move) → t ≡ after_move p s m → IfSome m.value (λ v. taken ≡ conflicts_of p s m.class v) → moment_after p s outs m ≡ record { snapshot = t; outs = taken_by m taken ++ outs }
+-- what a turn leaves behind
+pub after_same : (p : Parts) (s t : Snapshot) (outs taken : List ℕ) (m : Turn) → t ≡ after_making p s m → IfSome m.value (λ v. taken ≡ conflicts_of p s m.class v) → moment_after p s outs m ≡ record { snapshot = t; outs = taken_by m taken ++ outs }
 after_same p s t outs taken m is found = by m.value is found
   where
     by : (o : Option Value) → t ≡ forced_if p s m.class o → IfSome o (λ v. taken ≡ conflicts_of p s m.class v)
@@ -137,10 +137,10 @@ starts_placing p turns seed s words trail w best counts seeded is ranked first =
     }
 
 -- a turn that is made
-pub next_placing : (p : Parts) (turns seed : ℕ) (start : Snapshot) (made : ℕ) (words left : Stream) (pair : TurnWords) (now next : Snapshot) (before after : List Snapshot) (w v : ClassWeights) (old new : Best) (m : Move) (taken : List ℕ)
+pub next_placing : (p : Parts) (turns seed : ℕ) (start : Snapshot) (made : ℕ) (words left : Stream) (pair : TurnWords) (now next : Snapshot) (before after : List Snapshot) (w v : ClassWeights) (old new : Best) (m : Turn) (taken : List ℕ)
     → IsPlacing p turns seed start made words now before w old → made < turns → (pair, left) ≡ two_words words
     → ((outs : List ℕ) → CountsOuts p outs w → place_turn p pair (record { snapshot = now; outs = outs }) ≡ Some (moment_after p now outs m))
-    → next ≡ after_move p now m → IfSome m.value (λ v. taken ≡ conflicts_of p now m.class v) → LeadsOn (rank_of p None) before after next old new
+    → next ≡ after_making p now m → IfSome m.value (λ v. taken ≡ conflicts_of p now m.class v) → LeadsOn (rank_of p None) before after next old new
     → length v.outs.items ≡ length w.outs.items → ((class : ℕ) → slice_index_or v.outs.items class 0 ≡ slice_index_or w.outs.items class 0 + count_by (nat_eq class) (taken_by m taken)) → length (taken_by m taken) ≤ 20000
     → IsPlacing p turns seed start (made + 1) left next after v new
 next_placing p turns seed start made words left pair now next before after w v old new m taken on below is turn moved found leads whole more few =

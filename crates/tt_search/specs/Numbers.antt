@@ -1,11 +1,11 @@
--- Proof. What the code of a turn keeps: the numbers of prices and ranks, in the order in which they are compared, and moves.
+-- Proof. What the code of a turn keeps: the numbers of prices and ranks, in the order in which they are compared, and turns.
 use Rattle.std.specs.Prelude.{ℕ, ◌≡◌, ◌<◌, List, [], ◌∷◌, Option, Some, None, IfSome, if◌then◌else◌}
 use Rattle.tt_plan.specs.Domain.{IsOfDomain}
 use Rattle.tt_bits.specs.declared.times.Value.{Value}
 use Rattle.tt_problem.specs.declared.parts.Parts.{Parts}
 use Rattle.tt_search.specs.declared.price.Price.{Price}
 use Rattle.tt_search.specs.declared.price.Rank.{Rank}
-use Rattle.tt_search.specs.declared.turn.Move.{Move}
+use Rattle.tt_search.specs.declared.turn.Turn.{Turn}
 use Rattle.tt_state.specs.Snapshots.{Snapshot}
 use Rattle.tt_state.specs.Values.{obstacle_of}
 use Rattle.tt_state.specs.Weights.{weight_of}
@@ -34,10 +34,10 @@ abbrev pub WeighsLess : Option Price → (count : ℕ) → Type 0
 WeighsLess None count = ⊥
 WeighsLess (Some price) count = price.weight < count
 
--- the value of a move is available, if there is one
-abbrev pub MayMake : Parts → Snapshot → Move → Type 0
+-- the value of a turn is available, if there is one
+abbrev pub MayMake : Parts → Snapshot → Turn → Type 0
 MayMake p s m = IfSome m.value (IsAvailable p s m.class)
 
--- a snapshot after a move
-abbrev pub after_move : Parts → Snapshot → Move → Snapshot
-after_move p s m = forced_if p s m.class m.value
+-- a snapshot after such a turn
+abbrev pub after_making : Parts → Snapshot → Turn → Snapshot
+after_making p s m = forced_if p s m.class m.value

@@ -6,7 +6,7 @@ use Rattle.tt_bits.specs.declared.times.Value.{Value}
 use Rattle.tt_problem.specs.declared.parts.Parts.{Parts}
 use Rattle.tt_state.specs.Snapshots.{Snapshot}
 use Rattle.tt_state.specs.Values.{conflicts_of}
-use Rattle.tt_search.specs.declared.turn.Move.{Move}
+use Rattle.tt_search.specs.declared.turn.Turn.{Turn}
 use Rattle.tt_search.specs.declared.weights.ClassWeights.{ClassWeights}
 use Rattle.tt_search.specs.LeastNow.{then_by, total_numbers}
 use Rattle.tt_search.specs.PlaceTurns.{PlaceMoment, after_forcing}
@@ -28,10 +28,10 @@ pub record CountsOuts (p : Parts) (outs : List ℕ) (w : ClassWeights) : Type 0 
   pub whole : length w.outs.items ≡ length p.classes
   pub counts : (class : ℕ) → slice_index_or w.outs.items class 0 ≡ count_by (nat_eq class) outs
 
--- the classes that a move took out, where these were found last
-abbrev pub taken_by : Move → (taken : List ℕ) → List ℕ
+-- the classes that a turn took out, where these were found last
+abbrev pub taken_by : Turn → (taken : List ℕ) → List ℕ
 taken_by m taken = option_map_or (λ v. taken) m.value []
 
--- the moment after a move
-abbrev pub moment_after : Parts → Snapshot → (outs : List ℕ) → Move → PlaceMoment
+-- the moment after a turn
+abbrev pub moment_after : Parts → Snapshot → (outs : List ℕ) → Turn → PlaceMoment
 moment_after p s outs m = after_forcing p (record { snapshot = s; outs = outs }) m.class m.value

@@ -16,25 +16,26 @@ ghost use Rattle.tt_search.specs.PlacingNow.{CountsOuts, moment_after};
 
 use crate::drawing::Candidates;
 use crate::least::LeastValues;
-use crate::turn::Move;
+use crate::turn::Turn;
 use crate::way::Way;
 use crate::weights::ClassWeights;
 use rand_core::Rng;
 use rand_pcg::Lcg64Xsh32;
 use std::alloc::{AllocError, Global};
+use tt_published::Aim;
 use tt_state::State;
 use tt_watch::Watcher;
 
 // The class of the turn with two random words, and the value that it is forced to, if it has an
 // available one. None where there is no candidate.
-fn next_move(
+fn next_turn(
     state: &mut State,
     weights: &ClassWeights,
     candidates: &Candidates,
     least: &mut LeastValues,
     class_word: u32,
     value_word: u32,
-) -> Option<Move>
+) -> Option<Turn>
     requires candidates { AreCandidates state.old.problem state.old.present candidates.now [] }
     requires whole { length weights.now.outs.items ≡ length state.old.problem.classes }
     requires room { HasRoom state.old.problem least.old }
@@ -55,7 +56,7 @@ fn next_move(
     weights.find_lightest(state, class, least);
     least.keep_least(state, class);
     let value = least.drawn(value_word);
-    Some(Move { class, value })
+    Some(Turn { class, value })
 }
 
 // Makes turns in the last step, until so many are made or there is no candidate. The watcher is told
@@ -81,11 +82,11 @@ fn walk<W: Watcher>(
     ensures memory { OnErr result
         (0 < length (places_after state.old.problem turns seed state.old.present)) }
 {
-    let mut words = Lcg64Xsh32::new(seed, 1);
+    let mut random = Lcg64Xsh32::new(seed, 1);
     for made in 0..turns {
-        let class_word = words.next_u32();
-        let value_word = words.next_u32();
-        let found = next_move(
+        let class_word = random.next_u32();
+        let value_word = random.next_u32();
+        let found = next_turn(
             state,
             weights,
             &way.candidates,
@@ -96,7 +97,7 @@ fn walk<W: Watcher>(
         let Some(next) = found else {
             return Ok(made);
         };
-        way.go(state, None, next)?;
+        way.go(state, &Aim::none(), next)?;
         weights.count_out(state, next);
         watcher.tell(way.progress(made + 1, turns));
     }
@@ -120,7 +121,7 @@ fn place_on<W: Watcher>(
     ensures present { OnErr result (state.new.present ≡ state.old.present) }
     ensures entries { OnErr result (state.new.entries ≡ state.old.entries) }
 {
-    let mut way = Way::new(alloc, state, None)?;
+    let mut way = Way::new(alloc, state, &Aim::none())?;
     let mut weights = ClassWeights::new(alloc, state)?;
     state.begin()?;
     let made = walk(state, &mut way, &mut weights, turns, seed, watcher);

@@ -1,7 +1,7 @@
 //! Search and repair: turns from the present snapshot on.
 
 ghost use Rattle.std.specs.Prelude.{◌≡◌, ◌<◌, ◌∷◌, [], Some, IfOk, OnOk, OnErr, length, None, ℕ};
-ghost use Rattle.std.specs.Option.{option_copied, ForSome};
+ghost use Rattle.tt_published.specs.Aim.{IsAimOf};
 ghost use Rattle.tt_published.specs.Timetable.{IsTimetableOf};
 ghost use Rattle.tt_state.specs.History.{IsWithinStep, desk_of, earlier, stepped, trail, with_taken};
 ghost use Rattle.tt_state.specs.Snapshots.{StaysLocked};
@@ -10,12 +10,12 @@ ghost use Rattle.tt_search.specs.Searched.{rank_of, search_end, way_of, turns_ma
 ghost use Rattle.tt_search.specs.UnderWay.{IsUnderWay};
 ghost use Rattle.tt_search.specs.WayNow.{BeginsAt};
 
-use crate::turn::next_move;
+use crate::turn::next_turn;
 use crate::way::Way;
 use rand_core::Rng;
 use rand_pcg::Lcg64Xsh32;
 use std::alloc::{AllocError, Global};
-use tt_published::Published;
+use tt_published::{Aim, Published};
 use tt_state::State;
 use tt_watch::Watcher;
 
@@ -23,35 +23,32 @@ use tt_watch::Watcher;
 // of each. The answer is the number of turns. Want of memory comes only where a turn is made.
 fn walk<W: Watcher>(
     state: &mut State,
-    published: Option<&Published>,
+    aim: &Aim,
     way: &mut Way,
     turns: u32,
     seed: u64,
     watcher: &mut W,
 ) -> Result<u32, AllocError>
-    requires belongs { ForSome (option_copied published) (IsTimetableOf state.old.problem) }
-    requires begins { BeginsAt state.old.problem (option_copied published) state.old.present
-        way.old }
+    requires belongs { IsAimOf state.old.problem aim.now }
+    requires begins { BeginsAt state.old.problem aim.now state.old.present way.old }
     requires step { 0 < length (earlier state.old) }
     requires trail { trail state.old ≡ state.old.present ∷ [] }
     ensures step { IsWithinStep (with_taken state.old []) (with_taken state.new []) }
     ensures way { IfOk result (λ made.
-        let aim = option_copied published.entry in
         let start = state.old in
-        IsUnderWay (rank_of start.problem aim) (trail state.new) [] way.new.best made
-        (search_end start.problem aim turns seed start.present)
-        (turns_made start.problem aim turns seed start.present)) }
-    ensures memory { OnErr result (0
-        < turns_made state.old.problem (option_copied published.entry) turns seed
-        state.old.present) }
+        IsUnderWay (rank_of start.problem aim.now) (trail state.new) [] way.new.best made
+        (search_end start.problem aim.now turns seed start.present)
+        (turns_made start.problem aim.now turns seed start.present)) }
+    ensures memory { OnErr result
+        (0 < turns_made state.old.problem aim.now turns seed state.old.present) }
 {
-    let mut words = Lcg64Xsh32::new(seed, 1);
+    let mut random = Lcg64Xsh32::new(seed, 1);
     for made in 0..turns {
-        let word = words.next_u32();
-        let Some(next) = next_move(state, published, &way.candidates, &mut way.least, word) else {
+        let word = random.next_u32();
+        let Some(next) = next_turn(state, aim, &way.candidates, &mut way.least, word) else {
             return Ok(made);
         };
-        way.go(state, published, next)?;
+        way.go(state, aim, next)?;
         watcher.tell(way.progress(made + 1, turns));
     }
     Ok(turns)
@@ -61,27 +58,24 @@ fn walk<W: Watcher>(
 fn seek<W: Watcher>(
     alloc: Global,
     state: &mut State,
-    published: Option<&Published>,
+    aim: &Aim,
     turns: u32,
     seed: u64,
     watcher: &mut W,
 ) -> Result<u32, AllocError>
-    requires { ForSome (option_copied published) (IsTimetableOf state.old.problem) }
+    requires { IsAimOf state.old.problem aim.now }
     ensures problem { state.new.problem ≡ state.old.problem }
     ensures earlier { OnOk result (earlier state.new ≡ state.old.present ∷ earlier state.old) }
-    ensures end { OnOk result (search_end state.old.problem (option_copied published.entry) turns
-        seed state.old.present
-        ≡ state.new.present) }
-    ensures made { IfOk result (λ made.
-        made
-        ≡ turns_made state.old.problem (option_copied published.entry) turns seed
-        state.old.present) }
+    ensures end { OnOk result
+        (search_end state.old.problem aim.now turns seed state.old.present ≡ state.new.present) }
+    ensures made { IfOk result
+        (λ made. made ≡ turns_made state.old.problem aim.now turns seed state.old.present) }
     ensures present { OnErr result (state.new.present ≡ state.old.present) }
     ensures entries { OnErr result (state.new.entries ≡ state.old.entries) }
 {
-    let mut way = Way::new(alloc, state, published)?;
+    let mut way = Way::new(alloc, state, aim)?;
     state.begin()?;
-    let made = walk(state, published, &mut way, turns, seed, watcher);
+    let made = walk(state, aim, &mut way, turns, seed, watcher);
     way.end(state, made)
 }
 
@@ -112,7 +106,7 @@ pub fn search<W: Watcher>(
     ensures err { OnErr result (with_taken state.new [] ≡ with_taken state.old []) }
 {
     state.soundness();
-    seek(alloc, state, None, turns, seed, watcher)
+    seek(alloc, state, &Aim::none(), turns, seed, watcher)
 }
 
 /// The same as a search, but for two differences: a value that isn't the published one of its class
@@ -143,5 +137,5 @@ pub fn repair<W: Watcher>(
     ensures err { OnErr result (with_taken state.new [] ≡ with_taken state.old []) }
 {
     state.soundness();
-    seek(alloc, state, Some(published), turns, seed, watcher)
+    seek(alloc, state, &Aim::to(published), turns, seed, watcher)
 }

@@ -2,13 +2,13 @@
 
 ghost use Rattle.std.specs.Prelude.{◌≡◌, ◌+◌, ◌<◌, ◌≤◌, ◌∷◌, ◌++◌, [], List, IfSome, length, vec_capacity};
 ghost use Rattle.std.specs.List.{filter};
-ghost use Rattle.std.specs.Option.{option_copied, option_map, ForSome};
-ghost use Rattle.tt_published.specs.Timetable.{IsTimetableOf};
+ghost use Rattle.std.specs.Option.{option_map};
+ghost use Rattle.tt_published.specs.Aim.{IsAimOf};
 ghost use Rattle.tt_plan.specs.Domain.{IsOfDomain};
 ghost use Rattle.tt_search.specs.Turns.{available_values, chosen_value, is_available, turn_of};
 ghost use Rattle.tt_search.specs.Drawing.{AreCandidates};
 ghost use Rattle.tt_search.specs.LeastNow.{AreLightest, HasRoom};
-ghost use Rattle.tt_search.specs.Numbers.{IsAvailable, MayMake, after_move, prices_of};
+ghost use Rattle.tt_search.specs.Numbers.{IsAvailable, MayMake, after_making, prices_of};
 
 use crate::drawing::Candidates;
 use crate::least::LeastValues;
@@ -16,26 +16,20 @@ use crate::offer::may_be_offered;
 use crate::price::{Price, is_stray};
 use tt_bits::Value;
 use tt_plan::{domain_size, value_at};
-use tt_published::Published;
+use tt_published::Aim;
 use tt_state::State;
 
 // The class of a turn, and the value that it is forced to, if it has an available one.
 #[derive(Clone, Copy, Debug, PartialEq, Eq)]
-pub(crate) struct Move {
+pub(crate) struct Turn {
     pub class: u32,
     pub value: Option<Value>,
 }
 
 // Looks at a value of a class, which is passed over where something stands in its way or its conflict
 // set alone weighs more than the least so far.
-fn look_at(
-    state: &mut State,
-    published: Option<&Published>,
-    class: u32,
-    value: Value,
-    least: &mut LeastValues,
-)
-    requires belongs { ForSome (option_copied published) (IsTimetableOf state.old.problem) }
+fn look_at(state: &mut State, aim: &Aim, class: u32, value: Value, least: &mut LeastValues)
+    requires belongs { IsAimOf state.old.problem aim.now }
     requires value { IsOfDomain state.old.problem class value }
     requires room { length least.old.values.items < vec_capacity least.old.values }
     ensures problem { state.new.problem ≡ state.old.problem }
@@ -44,11 +38,8 @@ fn look_at(
     ensures room { vec_capacity least.old.values ≤ vec_capacity least.new.values }
     ensures few { length least.new.values.items ≤ length least.old.values.items + 1 }
     ensures lightest { (xs : List Value)
-        → AreLightest
-        (prices_of state.old.problem (option_copied published.entry) state.old.present class) xs
-        least.old
-        → AreLightest
-        (prices_of state.old.problem (option_copied published.entry) state.old.present class)
+        → AreLightest (prices_of state.old.problem aim.now state.old.present class) xs least.old
+        → AreLightest (prices_of state.old.problem aim.now state.old.present class)
         (xs ++ filter (is_available state.old.problem state.old.present class) (value ∷ []))
         least.new }
 {
@@ -56,54 +47,42 @@ fn look_at(
         return;
     }
     let weight = state.weight(class, value);
-    let strays = is_stray(state.problem(), published, class, value);
+    let strays = is_stray(state.problem(), aim, class, value);
     least.take(value, Price { weight, strays });
 }
 
 // Finds the available values of a class that have the least price.
-fn find_lightest(
-    state: &mut State,
-    published: Option<&Published>,
-    class: u32,
-    least: &mut LeastValues,
-)
-    requires belongs { ForSome (option_copied published) (IsTimetableOf state.old.problem) }
+fn find_lightest(state: &mut State, aim: &Aim, class: u32, least: &mut LeastValues)
+    requires belongs { IsAimOf state.old.problem aim.now }
     requires class { class < length state.old.problem.classes }
     requires room { HasRoom state.old.problem least.old }
     ensures problem { state.new.problem ≡ state.old.problem }
     ensures present { state.new.present ≡ state.old.present }
     ensures entries { state.new.entries ≡ state.old.entries }
     ensures room { HasRoom state.old.problem least.new }
-    ensures lightest { AreLightest
-        (prices_of state.old.problem (option_copied published.entry) state.old.present class)
+    ensures lightest { AreLightest (prices_of state.old.problem aim.now state.old.present class)
         (available_values state.old.problem state.old.present class) least.new }
 {
     least.clear();
     for k in 0..domain_size(state.problem(), class) {
         let value = value_at(state.problem(), class, k);
-        look_at(state, published, class, value, least);
+        look_at(state, aim, class, value, least);
     }
 }
 
 // The value chosen for a class, the first of its available values with the least price and total.
-fn choice(
-    state: &mut State,
-    published: Option<&Published>,
-    class: u32,
-    least: &mut LeastValues,
-) -> Option<Value>
-    requires belongs { ForSome (option_copied published) (IsTimetableOf state.old.problem) }
+fn best_value(state: &mut State, aim: &Aim, class: u32, least: &mut LeastValues) -> Option<Value>
+    requires belongs { IsAimOf state.old.problem aim.now }
     requires class { class < length state.old.problem.classes }
     requires room { HasRoom state.old.problem least.old }
     ensures problem { state.new.problem ≡ state.old.problem }
     ensures present { state.new.present ≡ state.old.present }
     ensures entries { state.new.entries ≡ state.old.entries }
     ensures room { HasRoom state.old.problem least.new }
-    ensures choice { result
-        ≡ chosen_value state.old.problem (option_copied published.entry) state.old.present class }
+    ensures value { result ≡ chosen_value state.old.problem aim.now state.old.present class }
     ensures available { IfSome result (IsAvailable state.old.problem state.old.present class) }
 {
-    find_lightest(state, published, class, least);
+    find_lightest(state, aim, class, least);
     least.keep_least(state, class);
     least.first()
 }
@@ -111,25 +90,25 @@ fn choice(
 // The class of the turn with a random word and the value that it is forced to, if it has an available
 // one. None where there is no candidate.
 #[tactic(auto, unfolding(crate::specs::Turns::turn_of))]
-pub(crate) fn next_move(
+pub(crate) fn next_turn(
     state: &mut State,
-    published: Option<&Published>,
+    aim: &Aim,
     candidates: &Candidates,
     least: &mut LeastValues,
     word: u32,
-) -> Option<Move>
-    requires belongs { ForSome (option_copied published) (IsTimetableOf state.old.problem) }
+) -> Option<Turn>
+    requires belongs { IsAimOf state.old.problem aim.now }
     requires candidates { AreCandidates state.old.problem state.old.present candidates.now [] }
     requires room { HasRoom state.old.problem least.old }
     ensures room { HasRoom state.old.problem least.new }
     ensures problem { state.new.problem ≡ state.old.problem }
     ensures present { state.new.present ≡ state.old.present }
     ensures entries { state.new.entries ≡ state.old.entries }
-    ensures turn { turn_of state.old.problem (option_copied published.entry) word state.old.present
-        ≡ option_map (after_move state.old.problem state.old.present) result }
+    ensures turn { turn_of state.old.problem aim.now word state.old.present
+        ≡ option_map (after_making state.old.problem state.old.present) result }
     ensures may { IfSome result (MayMake state.old.problem state.old.present) }
 {
     let class = candidates.drawn(word)?;
-    let value = choice(state, published, class, least);
-    Some(Move { class, value })
+    let value = best_value(state, aim, class, least);
+    Some(Turn { class, value })
 }

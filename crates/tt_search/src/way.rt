@@ -1,15 +1,15 @@
 //! How far the turns have come, and the best moment so far.
 
 ghost use Rattle.std.specs.Prelude.{◌≡◌, ◌+◌, ◌<◌, ◌∷◌, ◌++◌, [], IfOk, IfSome, OnOk, OnErr, length, Option, slice_get, if◌then◌else◌};
-ghost use Rattle.std.specs.Option.{option_copied, ForSome};
 ghost use Rattle.tt_published.specs.Published.{moved_in};
-ghost use Rattle.tt_published.specs.Timetable.{IsTimetableOf, Timetable};
+ghost use Rattle.tt_published.specs.Aim.{IsAimOf};
+ghost use Rattle.tt_published.specs.Timetable.{Timetable};
 ghost use Rattle.tt_state.specs.History.{IsWithinStep, before_step, desk_of, earlier, moved_to, trail, with_taken};
 ghost use Rattle.tt_state.specs.Values.{conflicts_of};
 ghost use Rattle.tt_base.specs.Lists.{comes_before};
 ghost use Rattle.tt_search.specs.Searched.{rank_of};
 ghost use Rattle.tt_search.specs.Late.{KeepsOthers};
-ghost use Rattle.tt_search.specs.Numbers.{MayMake, after_move, rank_numbers};
+ghost use Rattle.tt_search.specs.Numbers.{MayMake, after_making, rank_numbers};
 ghost use Rattle.tt_search.specs.UnderWay.{LeadsOn};
 ghost use Rattle.tt_search.specs.WayNow.{BeginsAt, IsWayAt};
 
@@ -17,9 +17,9 @@ use crate::drawing::Candidates;
 use crate::least::LeastValues;
 use crate::moving::MovedClasses;
 use crate::price::{Rank, rank_now};
-use crate::turn::Move;
+use crate::turn::Turn;
 use std::alloc::{AllocError, Global};
-use tt_published::Published;
+use tt_published::Aim;
 use tt_state::State;
 use tt_watch::Progress;
 
@@ -42,9 +42,9 @@ pub(crate) struct Way {
 
 // The present moment, where so many published classes are moved.
 fn moment(state: &State, moved: u32) -> Best
-    ensures rank { (published : Option Timetable)
-        → moved ≡ moved_in state.now.problem published state.now.present.plan
-        → rank_numbers result.rank ≡ rank_of state.now.problem published state.now.present }
+    ensures rank { (aim : Option Timetable)
+        → moved ≡ moved_in state.now.problem aim state.now.present.plan
+        → rank_numbers result.rank ≡ rank_of state.now.problem aim state.now.present }
     ensures mark { result.mark + 1 ≡ length (trail state.now) }
 {
     Best {
@@ -65,13 +65,13 @@ fn better(best: Best, now: Best) -> Best
     }
 }
 
-// Forces the class of a move to its value, in the last step. Where it has none, a moment is added in
+// Forces the class of a turn to its value, in the last step. Where it has none, a moment is added in
 // which nothing changes.
-fn make(state: &mut State, next: Move) -> Result<(), AllocError>
+fn make(state: &mut State, next: Turn) -> Result<(), AllocError>
     requires may { MayMake state.old.problem state.old.present next }
     requires step { 0 < length (earlier state.old) }
     ensures desk { OnOk result (desk_of state.new
-        ≡ moved_to (desk_of state.old) (after_move state.old.problem state.old.present next)) }
+        ≡ moved_to (desk_of state.old) (after_making state.old.problem state.old.present next)) }
     ensures trail { OnOk result (trail state.new ≡ trail state.old ++ state.new.present ∷ []) }
     ensures taken { OnOk result (IfSome next.value
         (λ v. state.new.taken ≡ conflicts_of state.old.problem state.old.present next.class v)) }
@@ -87,17 +87,12 @@ fn make(state: &mut State, next: Move) -> Result<(), AllocError>
 
 impl Way {
     // The way from the present snapshot, before the step in which turns are made.
-    pub(crate) fn new(
-        alloc: Global,
-        state: &State,
-        published: Option<&Published>,
-    ) -> Result<Way, AllocError>
-        requires { ForSome (option_copied published) (IsTimetableOf state.now.problem) }
-        ensures { IfOk result
-            (BeginsAt state.now.problem (option_copied published.entry) state.now.present) }
+    pub(crate) fn new(alloc: Global, state: &State, aim: &Aim) -> Result<Way, AllocError>
+        requires { IsAimOf state.now.problem aim.now }
+        ensures { IfOk result (BeginsAt state.now.problem aim.now state.now.present) }
     {
         let candidates = Candidates::new(alloc, state)?;
-        let moved = MovedClasses::new(alloc, state, published)?;
+        let moved = MovedClasses::new(alloc, state, aim)?;
         let least = LeastValues::new(alloc, state)?;
         let rank = rank_now(state, moved.count);
         let best = Best { rank, mark: 0 };
@@ -109,33 +104,24 @@ impl Way {
         })
     }
 
-    // Makes a turn in the last step: makes the move, looks again at what changed, and keeps the best
-    // moment.
-    pub(crate) fn go(
-        &mut self,
-        state: &mut State,
-        published: Option<&Published>,
-        next: Move,
-    ) -> Result<(), AllocError>
-        requires belongs { ForSome (option_copied published) (IsTimetableOf state.old.problem) }
-        requires at { IsWayAt state.old.problem (option_copied published) state.old.present
-            self.old }
+    // Makes a turn in the last step, looks again at what changed, and keeps the best moment.
+    pub(crate) fn go(&mut self, state: &mut State, aim: &Aim, next: Turn) -> Result<(), AllocError>
+        requires belongs { IsAimOf state.old.problem aim.now }
+        requires at { IsWayAt state.old.problem aim.now state.old.present self.old }
         requires may { MayMake state.old.problem state.old.present next }
         requires step { 0 < length (earlier state.old) }
-        ensures at { OnOk result
-            (IsWayAt state.old.problem (option_copied published.entry) state.new.present self.new) }
+        ensures at { OnOk result (IsWayAt state.old.problem aim.now state.new.present self.new) }
         ensures present { OnOk result
-            (state.new.present ≡ after_move state.old.problem state.old.present next) }
+            (state.new.present ≡ after_making state.old.problem state.old.present next) }
         ensures taken { OnOk result (IfSome next.value (λ v.
             state.new.taken ≡ conflicts_of state.old.problem state.old.present next.class v)) }
-        ensures best { OnOk result (LeadsOn
-            (rank_of state.old.problem (option_copied published.entry)) (trail state.old)
+        ensures best { OnOk result (LeadsOn (rank_of state.old.problem aim.now) (trail state.old)
             (trail state.new) state.new.present self.old.best self.new.best) }
         ensures step { IsWithinStep (with_taken state.old []) (with_taken state.new []) }
     {
         make(state, next)?;
         self.candidates.follow(state, next.class);
-        self.moved.follow(state, published, next.class);
+        self.moved.follow(state, aim, next.class);
         self.best = better(self.best, moment(state, self.moved.count));
         Ok(())
     }

@@ -10,7 +10,7 @@ ghost use Rattle.tt_search.specs.PlacingNow.{CountsOuts, prices_by, taken_by, we
 use crate::least::LeastValues;
 use crate::offer::may_be_offered;
 use crate::price::Price;
-use crate::turn::Move;
+use crate::turn::Turn;
 use std::alloc::{AllocError, Global};
 use tt_bits::Value;
 use tt_plan::{domain_size, value_at};
@@ -62,9 +62,9 @@ impl ClassWeights {
         }
     }
 
-    // Counts the classes that a move has taken out, which are those found last. Where it forced
+    // Counts the classes that a turn has taken out, which are those found last. Where it forced
     // nothing, there is none.
-    pub(crate) fn count_out(&mut self, state: &State, made: Move)
+    pub(crate) fn count_out(&mut self, state: &State, made: Turn)
         requires whole { length self.old.outs.items ≡ length state.now.problem.classes }
         requires room { (class : ℕ) → slice_index_or self.old.outs.items class 0 ≤ 2 ^ 63 }
         ensures whole { length self.new.outs.items ≡ length self.old.outs.items }

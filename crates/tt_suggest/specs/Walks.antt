@@ -1,5 +1,5 @@
 -- Proof. Where the walk is, and what it has found.
-use Rattle.std.specs.Prelude.{ℕ, ◌≡◌, ◌+◌, ◌<◌, ◌≤◌, ◌∷◌, ◌++◌, [], All, List, Option, length, map}
+use Rattle.std.specs.Prelude.{ℕ, ◌≡◌, ◌+◌, ◌<◌, ◌≤◌, ◌∷◌, ◌++◌, [], All, List, Option, length, map, suc}
 use Rattle.std.specs.List.{flat_map, sum_by}
 use Rattle.tt_base.specs.Lists.{least_after}
 use Rattle.tt_bits.specs.declared.times.Value.{Value}
@@ -60,3 +60,28 @@ pub record AreFoundIn (tries : ℕ) (xs : List Suggestion) (old new : Suggested)
   pub tried : new.tried ≡ old.tried + tries
   pub best : new.best ≡ least_after suggestion_rank old.best xs
   pub few : new.tried ≤ 1000000
+
+-- what is found once all below a node was tried, where so many placements are left
+abbrev pub FindsAt : Parts → Option Timetable → (left : ℕ) → Node → (old new : Suggested) → Type 0
+FindsAt p aim left node old new = AreFoundIn (tries_of p left node) (map (suggestion_of p aim) (leaves_of p left node)) old new
+
+-- what is found below a branch at the snapshot of a state
+abbrev pub FindsBelow : Held → Option Timetable → Branch → (old new : Suggested) → Type 0
+FindsBelow state aim b old new = FindsAt state.problem aim (suc b.spare) (node_of state.present b) old new
+
+-- what is found below the child of a branch by its class at a value
+abbrev pub FindsAtChild : Held → Option Timetable → Branch → Value → (old new : Suggested) → Type 0
+FindsAtChild state aim b v old new = FindsAt state.problem aim b.spare (child_of state.problem state.present b v) old new
+
+-- what is found by a value of the class of a branch: that, if the value gives a child
+abbrev pub FindsBy : Held → Option Timetable → Branch → Value → (old new : Suggested) → Type 0
+FindsBy state aim b v old new =
+    AreFoundIn (tries_by state.problem state.present b (v ∷ [])) (suggestions_by state.problem aim state.present b (v ∷ [])) old new
+
+-- how many values are tried below a branch
+abbrev pub tries_below : Held → Branch → ℕ
+tries_below state b = tries_of state.problem (suc b.spare) (node_of state.present b)
+
+-- how many values are tried below its child by a value
+abbrev pub tries_at_child : Held → Branch → Value → ℕ
+tries_at_child state b v = tries_of state.problem b.spare (child_of state.problem state.present b v)

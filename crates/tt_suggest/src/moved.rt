@@ -1,24 +1,23 @@
 //! How many published classes are moved, now and once a class has a value or none.
 
 ghost use Rattle.std.specs.Prelude.{◌≡◌, ◌<◌, slice_set, Option};
-ghost use Rattle.std.specs.Option.{option_copied, ForSome};
 ghost use Rattle.tt_published.specs.Published.{is_moved, keeps, moved_in, moved_of};
+ghost use Rattle.tt_published.specs.Aim.{IsAimOf};
 ghost use Rattle.tt_published.specs.Timetable.{IsTimetableOf};
 ghost use Rattle.tt_state.specs.Snapshots.{with_value};
 ghost use Rattle.tt_state.specs.Values.{MayHave};
 
 use tt_bits::Value;
 use tt_problem::Problem;
-use tt_published::{Published, is_moved, moved};
+use tt_published::{Aim, Published, is_moved, moved};
 use tt_state::State;
 
 // How many published classes are moved at present; 0 where nothing is published.
-pub(crate) fn moved_now(state: &State, published: Option<&Published>) -> u32
-    requires { ForSome (option_copied published) (IsTimetableOf state.now.problem) }
-    ensures { result
-        ≡ moved_in state.now.problem (option_copied published.entry) state.now.present.plan }
+pub(crate) fn moved_now(state: &State, aim: &Aim) -> u32
+    requires { IsAimOf state.now.problem aim.now }
+    ensures { result ≡ moved_in state.now.problem aim.now state.now.present.plan }
 {
-    match published {
+    match aim.published() {
         None => 0,
         Some(published) => {
             state.soundness();
@@ -78,20 +77,18 @@ fn moved_by(
 // The same, and 0 where nothing is published.
 pub(crate) fn moved_with(
     state: &State,
-    published: Option<&Published>,
+    aim: &Aim,
     moved: u32,
     class: u32,
     value: Option<Value>,
 ) -> u32
-    requires belongs { ForSome (option_copied published) (IsTimetableOf state.now.problem) }
+    requires belongs { IsAimOf state.now.problem aim.now }
     requires may { MayHave state.now.problem class value }
-    requires moved { moved
-        ≡ moved_in state.now.problem (option_copied published) state.now.present.plan }
+    requires moved { moved ≡ moved_in state.now.problem aim.now state.now.present.plan }
     ensures { result
-        ≡ moved_in state.now.problem (option_copied published.entry)
-        (with_value state.now.present class value).plan }
+        ≡ moved_in state.now.problem aim.now (with_value state.now.present class value).plan }
 {
-    match published {
+    match aim.published() {
         None => moved,
         Some(published) => moved_by(state, published, moved, class, value),
     }

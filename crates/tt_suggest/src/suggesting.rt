@@ -1,18 +1,18 @@
 //! The walk over the tree of placements, and `suggest`.
 
-ghost use Rattle.std.specs.Prelude.{◌≡◌, ◌≢◌, ◌↔◌, ◌+◌, ◌==◌, true, false, ◌∷◌, [], ◌<◌, ◌≤◌, Option, Err, Ok, IfNone, IfOk, IfSome, IsSomeAnd, OnOk, OnErr, None, Some, length, map, suc};
-ghost use Rattle.std.specs.Option.{option_copied, ForSome};
+ghost use Rattle.std.specs.Prelude.{◌≡◌, ◌≢◌, ◌↔◌, ◌+◌, ◌==◌, true, false, ◌∷◌, [], ◌<◌, ◌≤◌, Option, Err, Ok, IfNone, IfOk, IfSome, IsSomeAnd, OnOk, OnErr, None, Some, length};
+ghost use Rattle.std.specs.Option.{option_copied};
 ghost use Rattle.tt_base.specs.Lists.{least_after};
 ghost use Rattle.tt_plan.specs.Domain.{IsOfDomain};
 ghost use Rattle.tt_published.specs.Published.{moved_in};
-ghost use Rattle.tt_published.specs.Timetable.{IsTimetableOf};
+ghost use Rattle.tt_published.specs.Aim.{IsAimOf};
 ghost use Rattle.tt_state.specs.History.{IsWithinStep, earlier, with_taken};
 ghost use Rattle.tt_state.specs.Snapshots.{with_value};
 ghost use Rattle.tt_state.specs.Values.{conflicts_of, total_with};
-ghost use Rattle.tt_suggest.specs.Suggestions.{suggestion_rank, suggested, suggestion_of, suggestions_of};
-ghost use Rattle.tt_suggest.specs.Tree.{gives_child, leaves_of, root_of, tries_of};
+ghost use Rattle.tt_suggest.specs.Suggestions.{suggestion_rank, suggested, suggestions_of};
+ghost use Rattle.tt_suggest.specs.Tree.{gives_child, root_of, tries_of};
 ghost use Rattle.tt_suggest.specs.Ranks.{is_better, rank_numbers};
-ghost use Rattle.tt_suggest.specs.Walks.{AreFoundIn, IsBack, IsBranchOf, child_of, leaf_of, node_of, suggestions_by, tries_by};
+ghost use Rattle.tt_suggest.specs.Walks.{FindsAtChild, FindsBelow, FindsBy, IsBack, IsBranchOf, leaf_of, node_of, tries_at_child, tries_below, tries_by};
 
 use crate::branch::Branch;
 use crate::moved::{moved_now, moved_with};
@@ -21,7 +21,7 @@ use crate::suggestion::{Moves, Rank, SuggestEnd, Suggested, Suggestion};
 use std::alloc::{AllocError, Global};
 use tt_bits::Value;
 use tt_plan::{domain_size, value_at};
-use tt_published::Published;
+use tt_published::{Aim, Published};
 use tt_state::State;
 
 // The most values that are tried.
@@ -114,26 +114,25 @@ impl Suggested {
 // out and no class waits then. `None` where its total is above that of what was found so far.
 fn rank_with(
     state: &mut State,
-    published: Option<&Published>,
+    aim: &Aim,
     branch: &Branch,
     value: Value,
     found: &Suggested,
 ) -> Option<Rank>
-    requires belongs { ForSome (option_copied published) (IsTimetableOf state.old.problem) }
-    requires branch { IsBranchOf state.old.problem (option_copied published) state.old.present
-        branch.now }
+    requires belongs { IsAimOf state.old.problem aim.now }
+    requires branch { IsBranchOf state.old.problem aim.now state.old.present branch.now }
     requires value { IsOfDomain state.old.problem branch.now.class value }
     ensures same { state.new ≡ state.old }
     ensures rank { IfSome result (λ rank.
         rank_numbers rank
         ≡ total_with state.old.problem state.old.present branch.now.class value
-        ∷ moved_in state.old.problem (option_copied published.entry)
+        ∷ moved_in state.old.problem aim.now
         (with_value state.old.present branch.now.class (Some value)).plan
         ∷ []) }
     ensures above { IfNone result (IsSomeAnd found.now.best (λ best.
         best.total < total_with state.old.problem state.old.present branch.now.class value)) }
 {
-    let moved = moved_with(state, published, branch.moved, branch.class, Some(value));
+    let moved = moved_with(state, aim, branch.moved, branch.class, Some(value));
     let total = found.total_within(state, branch.class, value)?;
     Some(Rank { total, moved })
 }
@@ -144,33 +143,25 @@ fn rank_with(
 fn walk(
     alloc: Global,
     state: &mut State,
-    published: Option<&Published>,
+    aim: &Aim,
     branch: &Branch,
     found: &mut Suggested,
 ) -> Result<(), SuggestEnd>
-    requires belongs { ForSome (option_copied published) (IsTimetableOf state.old.problem) }
-    requires branch { IsBranchOf state.old.problem (option_copied published) state.old.present
-        branch.now }
+    requires belongs { IsAimOf state.old.problem aim.now }
+    requires branch { IsBranchOf state.old.problem aim.now state.old.present branch.now }
     requires step { 0 < length (earlier state.old) }
     requires few { found.old.tried ≤ 1000000 }
     ensures step { IsWithinStep (with_taken state.old []) (with_taken state.new []) }
     ensures back { OnOk result (IsBack state.old state.new) }
-    ensures found { OnOk result (AreFoundIn
-        (tries_of state.old.problem (suc branch.now.spare) (node_of state.old.present branch.now))
-        (map (suggestion_of state.old.problem (option_copied published.entry)) (leaves_of
-        state.old.problem (suc branch.now.spare) (node_of state.old.present branch.now)))
-        found.old found.new) }
+    ensures found { OnOk result (FindsBelow state.old aim.now branch.now found.old found.new) }
     ensures too_many { result ≡ Err SuggestEnd.TooMany
-        → 1000000
-        < found.old.tried
-        + tries_of state.old.problem (suc branch.now.spare)
-        (node_of state.old.present branch.now) }
+        → 1000000 < found.old.tried + tries_below state.old branch.now }
 {
     let count = domain_size(state.problem(), branch.class);
     found.add_tries(count)?;
     for k in 0..count {
         let value = value_at(state.problem(), branch.class, k);
-        try_value(alloc, state, published, branch, value, found)?;
+        try_value(alloc, state, aim, branch, value, found)?;
     }
     Ok(())
 }
@@ -180,23 +171,19 @@ fn walk(
 fn try_value(
     alloc: Global,
     state: &mut State,
-    published: Option<&Published>,
+    aim: &Aim,
     branch: &Branch,
     value: Value,
     found: &mut Suggested,
 ) -> Result<(), SuggestEnd>
-    requires belongs { ForSome (option_copied published) (IsTimetableOf state.old.problem) }
-    requires branch { IsBranchOf state.old.problem (option_copied published) state.old.present
-        branch.now }
+    requires belongs { IsAimOf state.old.problem aim.now }
+    requires branch { IsBranchOf state.old.problem aim.now state.old.present branch.now }
     requires value { IsOfDomain state.old.problem branch.now.class value }
     requires step { 0 < length (earlier state.old) }
     requires few { found.old.tried ≤ 1000000 }
     ensures step { IsWithinStep (with_taken state.old []) (with_taken state.new []) }
     ensures back { OnOk result (IsBack state.old state.new) }
-    ensures found { OnOk result (AreFoundIn
-        (tries_by state.old.problem state.old.present branch.now (value ∷ []))
-        (suggestions_by state.old.problem (option_copied published.entry) state.old.present
-        branch.now (value ∷ [])) found.old found.new) }
+    ensures found { OnOk result (FindsBy state.old aim.now branch.now value found.old found.new) }
     ensures too_many { result ≡ Err SuggestEnd.TooMany
         → 1000000
         < found.old.tried
@@ -206,12 +193,12 @@ fn try_value(
         return Ok(());
     }
     if branch.is_last(state.taken()) {
-        return match rank_with(state, published, branch, value, found) {
+        return match rank_with(state, aim, branch, value, found) {
             None => Ok(()),
             Some(rank) => Ok(found.offer(alloc, branch, value, rank)?),
         };
     }
-    descend(alloc, state, published, branch, value, found)
+    descend(alloc, state, aim, branch, value, found)
 }
 
 // Goes to the child of a branch by its class at a value, walks on from there, and goes back.
@@ -219,14 +206,13 @@ fn try_value(
 fn descend(
     alloc: Global,
     state: &mut State,
-    published: Option<&Published>,
+    aim: &Aim,
     branch: &Branch,
     value: Value,
     found: &mut Suggested,
 ) -> Result<(), SuggestEnd>
-    requires belongs { ForSome (option_copied published) (IsTimetableOf state.old.problem) }
-    requires branch { IsBranchOf state.old.problem (option_copied published) state.old.present
-        branch.now }
+    requires belongs { IsAimOf state.old.problem aim.now }
+    requires branch { IsBranchOf state.old.problem aim.now state.old.present branch.now }
     requires value { IsOfDomain state.old.problem branch.now.class value }
     requires taken { state.old.taken
         ≡ conflicts_of state.old.problem state.old.present branch.now.class value }
@@ -238,21 +224,14 @@ fn descend(
     requires few { found.old.tried ≤ 1000000 }
     ensures step { IsWithinStep (with_taken state.old []) (with_taken state.new []) }
     ensures back { OnOk result (IsBack state.old state.new) }
-    ensures found { OnOk result (AreFoundIn
-        (tries_of state.old.problem branch.now.spare
-        (child_of state.old.problem state.old.present branch.now value))
-        (map (suggestion_of state.old.problem (option_copied published.entry)) (leaves_of
-        state.old.problem branch.now.spare
-        (child_of state.old.problem state.old.present branch.now value))) found.old found.new) }
+    ensures found { OnOk result
+        (FindsAtChild state.old aim.now branch.now value found.old found.new) }
     ensures too_many { result ≡ Err SuggestEnd.TooMany
-        → 1000000
-        < found.old.tried
-        + tries_of state.old.problem branch.now.spare
-        (child_of state.old.problem state.old.present branch.now value) }
+        → 1000000 < found.old.tried + tries_at_child state.old branch.now value }
 {
     let mark = state.mark_now();
-    let next = go_on(alloc, state, published, branch, value)?;
-    walk(alloc, state, published, &next, found)?;
+    let next = go_on(alloc, state, aim, branch, value)?;
+    walk(alloc, state, aim, &next, found)?;
     state.roll_back(mark);
     Ok(())
 }
@@ -261,20 +240,18 @@ fn descend(
 fn suggest_step(
     alloc: Global,
     state: &mut State,
-    published: Option<&Published>,
+    aim: &Aim,
     class: u32,
     depth: u8,
 ) -> Result<Suggested, SuggestEnd>
-    requires belongs { ForSome (option_copied published) (IsTimetableOf state.old.problem) }
+    requires belongs { IsAimOf state.old.problem aim.now }
     requires class { class < length state.old.problem.classes }
     requires some { 1 ≤ depth }
     requires few { depth ≤ 3 }
     requires step { 0 < length (earlier state.old) }
     ensures step { IsWithinStep (with_taken state.old []) (with_taken state.new []) }
-    ensures suggested { IfOk result (λ now.
-        now
-        ≡ suggested state.old.problem (option_copied published.entry) depth state.old.present
-        class) }
+    ensures suggested { IfOk result
+        (λ now. now ≡ suggested state.old.problem aim.now depth state.old.present class) }
     ensures few { IfOk result (λ now. now.tried ≤ 1000000) }
     ensures too_many { result ≡ Err SuggestEnd.TooMany
         → 1000000 < tries_of state.old.problem depth (root_of state.old.present class) }
@@ -284,13 +261,13 @@ fn suggest_step(
         class,
         others: Vec::new(alloc),
         spare: u32::from(depth) - 1,
-        moved: moved_now(state, published),
+        moved: moved_now(state, aim),
     };
     let mut found = Suggested {
         tried: 0,
         best: None,
     };
-    walk(alloc, state, published, &root, &mut found)?;
+    walk(alloc, state, aim, &root, &mut found)?;
     Ok(found)
 }
 
@@ -310,7 +287,7 @@ pub fn suggest(
     class: u32,
     depth: u8,
 ) -> Result<Suggested, SuggestEnd>
-    requires belongs { ForSome (option_copied published) (IsTimetableOf state.old.problem) }
+    requires belongs { IsAimOf state.old.problem (option_copied published) }
     requires class { class < length state.old.problem.classes }
     requires some { 1 ≤ depth }
     requires few { depth ≤ 3 }
@@ -330,7 +307,7 @@ pub fn suggest(
         ↔ (1000000 < tries_of state.old.problem depth (root_of state.old.present class)) }
 {
     state.begin()?;
-    let result = suggest_step(alloc, state, published, class, depth);
+    let result = suggest_step(alloc, state, &Aim::of(published), class, depth);
     state.take_back();
     result
 }

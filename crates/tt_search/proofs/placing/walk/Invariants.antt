@@ -12,5 +12,5 @@ invariant-loop-made g l =
     record {
       step : IsWithinStep (with_taken start []) (with_taken l.state []);
       at : IsWayAt start.problem None l.state.present l.way;
-      placing : IsPlacing start.problem l.turns l.seed start.present l.made (stream_of (steps_u32 pcg32) l.words) l.state.present (trail l.state) l.weights l.way.best;
+      placing : IsPlacing start.problem l.turns l.seed start.present l.made (stream_of (steps_u32 pcg32) l.random) l.state.present (trail l.state) l.weights l.way.best;
     }

@@ -6,4 +6,4 @@ use Rattle.tt_search.proofs.seeking.repair.Goals as goal
 pub returns-clause-locked : goal.returns-clause-locked
 returns-clause-locked g c =
     let start = c.args.state.now in
-    on_ok_weaker c.seek.result (λ end. locked_stay start.problem (Some c.args.published.now) c.args.turns c.args.seed start.present c.seek.new.state.present c.soundness.ensures.present.locks.placed end) c.seek.ensures.end
+    on_ok_weaker c.seek.result (λ end. locked_stay start.problem (Some c.args.published.now) c.args.turns c.args.seed start.present c.seek.new.state.present c.soundness.ensures.present.locks.placed end) (rw c.to.ensures at c.seek.ensures.end)

@@ -1,5 +1,4 @@
 use Rattle.std.proofs.Common.{◌-◌, []}
-use Rattle.std.specs.Option.{option_copied}
 use Rattle.rand_core.specs.Steps.{stream_of, steps_u32}
 use Rattle.rand_pcg.specs.Pcg.{pcg32}
 use Rattle.tt_state.specs.History.{IsWithinStep, trail, with_taken}
@@ -11,9 +10,9 @@ use Rattle.tt_search.proofs.seeking.walk.Given as goal
 abbrev pub invariant-loop-made : goal.invariant-loop-made
 invariant-loop-made g l =
     let start = l.fn.state in
-    let aim = option_copied l.published in
+    let aim = l.aim in
     record {
       step : IsWithinStep (with_taken start []) (with_taken l.state []);
       at : IsWayAt start.problem aim l.state.present l.way;
-      way : IsUnderWay (rank_of start.problem aim) (trail l.state) (after_turns start.problem aim (l.turns - l.made) (stream_of (steps_u32 pcg32) l.words) l.state.present) l.way.best l.made (search_end start.problem aim l.turns l.seed start.present) (turns_made start.problem aim l.turns l.seed start.present);
+      way : IsUnderWay (rank_of start.problem aim) (trail l.state) (after_turns start.problem aim (l.turns - l.made) (stream_of (steps_u32 pcg32) l.random) l.state.present) l.way.best l.made (search_end start.problem aim l.turns l.seed start.present) (turns_made start.problem aim l.turns l.seed start.present);
     }

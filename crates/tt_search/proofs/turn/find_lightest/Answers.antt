@@ -1,5 +1,4 @@
 use Rattle.std.proofs.Common.{refl, arith}
-use Rattle.std.specs.Option.{option_copied}
 use Rattle.tt_plan.specs.Domain.{domain_of}
 use Rattle.tt_search.specs.Numbers.{prices_of}
 use Rattle.tt_search.specs.Turns.{is_available}
@@ -15,7 +14,7 @@ loop-k-init c =
       entries = refl;
       room = λ other below. omega (arith, c.clear.ensures.room, c.requires.room other below);
       few = rw c.clear.ensures.values (omega arith);
-      lightest = none_found (prices_of start.problem (option_copied c.args.published) start.present c.args.class) c.clear.new.self c.clear.ensures.price c.clear.ensures.values;
+      lightest = none_found (prices_of start.problem c.args.aim.now start.present c.args.class) c.clear.new.self c.clear.ensures.price c.clear.ensures.values;
     }
 
 pub look_at-requires-clause-room : goal.look_at-requires-clause-room
@@ -36,5 +35,5 @@ loop-k-preserved c =
       entries = cc;
       room = λ other below. omega (arith, c.look_at.ensures.room, c.loop-k.invariant.room other below);
       few = omega (arith, c.look_at.ensures.few, c.loop-k.invariant.few);
-      lightest = one_further (prices_of start.problem (option_copied c.args.published) start.present c.args.class) (is_available start.problem start.present c.args.class) (domain_of start.problem c.args.class) c.loop-k.k c.value_at-value.result c.look_at.new.least at (looked _ c.loop-k.invariant.lightest);
+      lightest = one_further (prices_of start.problem c.args.aim.now start.present c.args.class) (is_available start.problem start.present c.args.class) (domain_of start.problem c.args.class) c.loop-k.k c.value_at-value.result c.look_at.new.least at (looked _ c.loop-k.invariant.lightest);
     }

@@ -1,6 +1,5 @@
 use Rattle.std.proofs.Common.{◌≡◌, ◌≤◌, length, take}
 use Rattle.std.specs.List.{filter}
-use Rattle.std.specs.Option.{option_copied}
 use Rattle.tt_plan.specs.Domain.{domain_of}
 use Rattle.tt_search.specs.LeastNow.{AreLightest, HasRoom}
 use Rattle.tt_search.specs.Numbers.{prices_of}
@@ -16,5 +15,5 @@ invariant-loop-k l =
       entries : l.state.entries ≡ start.entries;
       room : HasRoom start.problem l.least;
       few : length l.least.values.items ≤ l.k;
-      lightest : AreLightest (prices_of start.problem (option_copied l.published) start.present l.class) (filter (is_available start.problem start.present l.class) (take l.k (domain_of start.problem l.class))) l.least;
+      lightest : AreLightest (prices_of start.problem l.aim start.present l.class) (filter (is_available start.problem start.present l.class) (take l.k (domain_of start.problem l.class))) l.least;
     }

@@ -1,5 +1,4 @@
 use Rattle.std.proofs.Common.{◌≡◌, take}
-use Rattle.std.specs.Option.{option_copied}
 use Rattle.tt_published.specs.Published.{moved_in}
 use Rattle.tt_suggest.specs.Tree.{emptied}
 use Rattle.tt_suggest.specs.Walks.{HasGoneOn}
@@ -10,7 +9,7 @@ invariant-loop-class l =
     let start = l.fn.state in
     record {
       on : HasGoneOn start l.state;
-      moved : l.moved ≡ moved_in start.problem (option_copied l.published) l.state.present.plan;
+      moved : l.moved ≡ moved_in start.problem l.aim l.state.present.plan;
       locks : l.state.present.locks ≡ start.present.locks;
       present : l.state.present ≡ emptied start.present (take l.class-index l.classes);
     }

@@ -1,5 +1,4 @@
 use Rattle.std.proofs.Common.{◌≡◌, ◌∙◌, length, true, false, Err, ap, sym, refl, arith}
-use Rattle.std.specs.Option.{option_copied}
 use Rattle.tt_state.specs.History.{Held}
 use Rattle.tt_state.specs.Values.{conflicts_of}
 use Rattle.tt_suggest.specs.declared.suggestion.SuggestEnd.TheVariants.{TooMany}
@@ -13,7 +12,7 @@ pub try_value-returns-then-not-gives_child-clause-found : goal.try_value-returns
 try_value-returns-then-not-gives_child-clause-found t c =
     let start = c.args.state.now in
     let none : gives start.problem start.present c.args.branch.now c.args.value ≡ false = sym c.gives_child.ensures.gives ∙ c.if-not-gives_child.true in
-    barren_found start.problem (option_copied c.args.published) start.present c.args.branch.now c.args.value c.args.found.now none c.requires.few
+    barren_found start.problem c.args.aim.now start.present c.args.branch.now c.args.value c.args.found.now none c.requires.few
 
 pub try_value-returns-in_ok-offer-in-Some-clause-found : goal.try_value-returns-in_ok-offer-in-Some-clause-found
 try_value-returns-in_ok-offer-in-Some-clause-found t c =
@@ -25,7 +24,7 @@ try_value-returns-in_ok-offer-in-Some-clause-found t c =
     let conflicts : c.taken.result.now ≡ conflicts_of start.problem start.present branch.class c.args.value = c.taken.ensures.classes ∙ c.gives_child.ensures.taken c.if-not-gives_child.false in
     let empty = both_empty branch.others.items c.taken.result.now (sym c.is_last.ensures ∙ c.if-is_last.true) in
     let ranked = rw (problem, present) at c.in-Some.ensures.rank in
-    leaf_found start.problem (option_copied c.args.published) start.present branch c.args.value c.in-Some.rank c.args.found.now c.offer.new.self some empty.0 (sym conflicts ∙ empty.1) ranked c.offer.ensures.tried c.requires.few c.in_ok-offer-in-Some.ensures.best
+    leaf_found start.problem c.args.aim.now start.present branch c.args.value c.in-Some.rank c.args.found.now c.offer.new.self some empty.0 (sym conflicts ∙ empty.1) ranked c.offer.ensures.tried c.requires.few c.in_ok-offer-in-Some.ensures.best
 
 pub try_value-returns-in-None-clause-found : goal.try_value-returns-in-None-clause-found
 try_value-returns-in-None-clause-found t c =
@@ -36,7 +35,7 @@ try_value-returns-in-None-clause-found t c =
     let present : c.gives_child.new.state.present ≡ start.present = ap (λ (h : Held). h.present) c.gives_child.ensures.same in
     let conflicts : c.taken.result.now ≡ conflicts_of start.problem start.present branch.class c.args.value = c.taken.ensures.classes ∙ c.gives_child.ensures.taken c.if-not-gives_child.false in
     let empty = both_empty branch.others.items c.taken.result.now (sym c.is_last.ensures ∙ c.if-is_last.true) in
-    leaf_above start.problem (option_copied c.args.published) start.present branch c.args.value c.args.found.now some empty.0 (sym conflicts ∙ empty.1) c.requires.few (rw (problem, present) at c.in-None.ensures.above)
+    leaf_above start.problem c.args.aim.now start.present branch c.args.value c.args.found.now some empty.0 (sym conflicts ∙ empty.1) c.requires.few (rw (problem, present) at c.in-None.ensures.above)
 
 pub try_value-returns-clause-found : goal.try_value-returns-clause-found
 try_value-returns-clause-found t c =
@@ -45,7 +44,7 @@ try_value-returns-clause-found t c =
     let some : gives start.problem start.present branch c.args.value ≡ true = sym c.gives_child.ensures.gives ∙ c.if-not-gives_child.false in
     let problem : c.gives_child.new.state.problem ≡ start.problem = ap (λ (h : Held). h.problem) c.gives_child.ensures.same in
     let present : c.gives_child.new.state.present ≡ start.present = ap (λ (h : Held). h.present) c.gives_child.ensures.same in
-    on_ok c.descend.result (child_found start.problem (option_copied c.args.published) start.present branch c.args.value c.args.found.now c.descend.new.found some) (rw (problem, present) at c.descend.ensures.found)
+    on_ok c.descend.result (child_found start.problem c.args.aim.now start.present branch c.args.value c.args.found.now c.descend.new.found some) (rw (problem, present) at c.descend.ensures.found)
 
 pub try_value-returns-clause-too_many : goal.try_value-returns-clause-too_many
 try_value-returns-clause-too_many t c =
@@ -68,7 +67,7 @@ walk-loop-k-init t c =
     let size = rw c.problem.ensures at c.domain_size-count.ensures.size in
     record {
       back = back_same start start refl;
-      on = way_start start.problem (option_copied c.args.published) start.present c.args.branch.now c.args.found.now c.add_tries.new.self c.domain_size-count.result size c.add_tries.ensures.tried c.add_tries.ensures.best c.in_ok-add_tries.ensures.few;
+      on = way_start start.problem c.args.aim.now start.present c.args.branch.now c.args.found.now c.add_tries.new.self c.domain_size-count.result size c.add_tries.ensures.tried c.add_tries.ensures.best c.in_ok-add_tries.ensures.few;
     }
 
 pub walk-loop-k-preserved : goal.walk-loop-k-preserved
@@ -80,7 +79,7 @@ walk-loop-k-preserved t c =
     let found = rw (problem, present) at c.in_ok-try_value.ensures.found in
     record {
       back = back_next start c.loop-k.state c.try_value.new.state c.loop-k.invariant.back c.in_ok-try_value.ensures.back;
-      on = way_next start.problem (option_copied c.args.published) start.present c.args.branch.now c.loop-k.found c.try_value.new.found c.loop-k.k c.value_at-value.result _ _ c.loop-k.invariant.on at found;
+      on = way_next start.problem c.args.aim.now start.present c.args.branch.now c.loop-k.found c.try_value.new.found c.loop-k.k c.value_at-value.result _ _ c.loop-k.invariant.on at found;
     }
 
 pub walk-returns-in_err-try_value-clause-too_many : goal.walk-returns-in_err-try_value-clause-too_many
@@ -91,13 +90,13 @@ walk-returns-in_err-try_value-clause-too_many t c =
     let at = rw (c.problem-in-loop-k.ensures, problem) at c.value_at-value.ensures.value in
     λ many.
     let e : c.try_value.result ≡ Err TooMany = grind (arith, many, c.in_err-try_value.was, c.from_residual-in_err-try_value.ensures) in
-    way_too_many start.problem (option_copied c.args.published) start.present c.args.branch.now c.loop-k.found c.loop-k.k c.value_at-value.result _ _ c.loop-k.invariant.on at (rw (problem, present) at (c.try_value.ensures.too_many e))
+    way_too_many start.problem c.args.aim.now start.present c.args.branch.now c.loop-k.found c.loop-k.k c.value_at-value.result _ _ c.loop-k.invariant.on at (rw (problem, present) at (c.try_value.ensures.too_many e))
 
 pub walk-returns-clause-found : goal.walk-returns-clause-found
 walk-returns-clause-found t c =
     let start = c.args.state.now in
     let size = rw c.problem.ensures at c.domain_size-count.ensures.size in
-    way_end start.problem (option_copied c.args.published) start.present c.args.branch.now c.args.found.now c.loop-k.found c.loop-k.k _ _ c.loop-k.invariant.on (omega (arith, size))
+    way_end start.problem c.args.aim.now start.present c.args.branch.now c.args.found.now c.loop-k.found c.loop-k.k _ _ c.loop-k.invariant.on (omega (arith, size))
 
 pub descend-go_on-requires-clause-some : goal.descend-go_on-requires-clause-some
 descend-go_on-requires-clause-some t c = some_wait _ c.requires.some

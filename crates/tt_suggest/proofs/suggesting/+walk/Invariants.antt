@@ -1,5 +1,4 @@
 use Rattle.std.proofs.Common.{◌+◌, ◌*◌, suc, map}
-use Rattle.std.specs.Option.{option_copied}
 use Rattle.tt_base.specs.Lists.{least_after}
 use Rattle.tt_suggest.specs.Suggestions.{suggestion_rank, suggestion_of}
 use Rattle.tt_suggest.specs.Tree.{leaves_of, tries_of}
@@ -19,7 +18,7 @@ decreases-descend l = 3 * l.branch.now.spare
 abbrev pub invariant-walk-loop-k : goal.invariant-walk-loop-k
 invariant-walk-loop-k l =
     let start = l.fn.state in
-    let aim = option_copied l.published in
+    let aim = l.aim in
     let node = node_of start.present l.branch in
     record {
       back : IsBack start l.state;

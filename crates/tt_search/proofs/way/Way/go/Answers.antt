@@ -1,5 +1,4 @@
 use Rattle.std.proofs.Common.{◌≡◌, []}
-use Rattle.std.specs.Option.{option_copied}
 use Rattle.tt_search.specs.MovedNow.{AreMoved}
 use Rattle.tt_search.specs.Searched.{rank_of}
 use Rattle.tt_search.proofs.DrawingLemmas.{candidates_changed}
@@ -18,7 +17,7 @@ follow-requires c =
 pub follow-requires-2-clause-late : goal.follow-requires-2-clause-late
 follow-requires-2-clause-late c =
     let before = c.args.state.now in
-    let aim = option_copied c.args.published in
+    let aim = c.args.aim.now in
     let after = c.make.new.state in
     let problem : after.problem ≡ before.problem = c.in_ok-make.ensures.step.problem in
     rw problem (moved_changed before.problem aim before.present after.present c.args.self.now.moved _ c.in_ok-make.ensures.others c.requires.at.moved)
@@ -26,7 +25,7 @@ follow-requires-2-clause-late c =
 pub returns-clause-best : goal.returns-clause-best
 returns-clause-best c =
     let before = c.args.state.now in
-    let aim = option_copied c.args.published in
+    let aim = c.args.aim.now in
     let after = c.make.new.state in
     let problem : after.problem ≡ before.problem = c.in_ok-make.ensures.step.problem in
     let moved : AreMoved before.problem aim after.present.plan c.follow-2.new.self [] = rw problem at c.follow-2.ensures in

@@ -8,7 +8,7 @@ use Rattle.tt_search.proofs.ChoiceLemmas.{least_by_both}
 use Rattle.tt_search.proofs.DrawingLemmas.{drawn_below}
 use Rattle.tt_search.proofs.KeptLemmas.{least_available, least_of_domain, standing_available}
 use Rattle.tt_search.proofs.PlacingLemmas.{least_same, no_class, one_class}
-use Rattle.tt_search.proofs.placing.next_move.Goals as goal
+use Rattle.tt_search.proofs.placing.next_turn.Goals as goal
 
 pub returns-in_default-clause-turn : goal.returns-in_default-clause-turn
 returns-in_default-clause-turn c = λ outs counts.
