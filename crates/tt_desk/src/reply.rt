@@ -1,11 +1,13 @@
 //! The reply to a line: own lines, and the line of totals or refusal.
 
-ghost use Rattle.std.specs.Prelude.{◌≡◌, ◌<◌, ◌≤◌, ◌+◌, ◌++◌, [], OnOk, OnErr, codes, decimal, length};
+ghost use Rattle.std.specs.Prelude.{◌≡◌, ◌<◌, ◌≤◌, ◌+◌, ◌++◌, [], IfOk, OnOk, OnErr, codes, decimal, length};
 ghost use Rattle.std.specs.List.{flat_map};
 ghost use Rattle.std.specs.Option.{option_copied, option_map_or};
 ghost use Rattle.tt_text.specs.Fields.{field};
 ghost use Rattle.tt_text.specs.Reply.{kept_bytes, most_digits};
 ghost use Rattle.tt_state.specs.History.{desk_of};
+ghost use Rattle.tt_published.specs.Timetable.{IsTimetableOf};
+ghost use Rattle.tt_published.specs.Published.{timetable_of};
 ghost use Rattle.tt_desk.specs.Desk.{best_lines, draft_line, moved_text, moved_then, result_line, set_line, suggested_lines, taken_line, taken_lines};
 ghost use Rattle.tt_desk.specs.Refusals.{refusal_text, refusal_line};
 ghost use Rattle.tt_desk.specs.Lengths.{most_counts_bytes, most_moved_bytes, most_refusal_bytes, most_sums_bytes, most_totals_bytes};
@@ -19,7 +21,7 @@ use tt_explain::{add_block, add_value};
 use tt_problem::Problem;
 use tt_published::Published;
 use tt_score::Totals;
-use tt_solution::write_published;
+use tt_solution::{publish, write_published};
 use tt_state::State;
 use tt_suggest::{Move, Suggested, Suggestion};
 use tt_text::Reply;
@@ -159,6 +161,25 @@ pub(crate) fn add_draft(alloc: Global, state: &State, reply: &mut Reply) -> Resu
     let score = state.score();
     write_published(alloc, state.problem(), score.plan(), score.roster(), reply)?;
     reply.text("\n")
+}
+
+// The present timetable, whose line it appends, the same as `add_draft`.
+#[tactic(auto, using(std::proofs::Common::append_assoc))]
+pub(crate) fn add_published(
+    alloc: Global,
+    state: &State,
+    reply: &mut Reply,
+) -> Result<Published, AllocError>
+    ensures timetable { IfOk result
+        (λ t. t ≡ timetable_of state.now.problem state.now.present.plan state.now.present.lists) }
+    ensures belongs { IfOk result (λ t. IsTimetableOf state.now.problem t) }
+    ensures text { OnOk result (reply.new ≡ reply.old ++ draft_line (desk_of state.now)) }
+{
+    state.soundness();
+    let score = state.score();
+    let published = publish(alloc, state.problem(), score.plan(), score.roster(), reply)?;
+    reply.text("\n")?;
+    Ok(published)
 }
 
 // Appends a line for a class that was taken out.
