@@ -1,6 +1,30 @@
--- Theorem. A limit that several crates share.
+-- Theorem. Limits that several crates share.
 use Rattle.std.specs.Prelude.{ℕ}
+
+-- the most classes that a problem has; it has no more subparts
+abbrev pub most_classes : ℕ
+most_classes = 20000
+
+-- the most courses
+abbrev pub most_courses : ℕ
+most_courses = 20000
+
+-- the most distributions
+abbrev pub most_rules : ℕ
+most_rules = 20000
+
+-- the most students
+abbrev pub most_students : ℕ
+most_students = 100000
 
 -- the most members that a distribution has
 abbrev pub most_members : ℕ
 most_members = 2000
+
+-- the greatest id
+abbrev pub most_id : ℕ
+most_id = 4294967295
+
+-- the greatest limit of a class
+abbrev pub most_limit : ℕ
+most_limit = 4294967295

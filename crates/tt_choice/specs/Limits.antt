@@ -1,10 +1,6 @@
 -- Contract. How large the numbers of a choice become.
 use Rattle.std.specs.Prelude.{ℕ}
 
--- the most classes of a problem, so a choice has no more, and a configuration no more subparts
-abbrev pub most_classes : ℕ
-most_classes = 20000
-
 -- the most classes that a student has already taken, those of 40 courses
 abbrev pub most_taken : ℕ
 most_taken = 800000

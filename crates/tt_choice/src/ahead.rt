@@ -3,7 +3,8 @@
 ghost use Rattle.std.specs.Prelude.{[], ◌≡◌, ◌+◌, ◌<◌, ◌≤◌, length};
 ghost use Rattle.std.specs.List.{list_any};
 ghost use Rattle.tt_problem.specs.Spans.{is_in};
-ghost use Rattle.tt_choice.specs.Limits.{most_across, most_classes};
+ghost use Rattle.tt_base.specs.Limits.{most_classes};
+ghost use Rattle.tt_choice.specs.Limits.{most_across};
 ghost use Rattle.tt_choice.specs.Ahead.{AreSure, IsAcross, IsLeastOf, IsLeastWith, IsSureOf};
 ghost use Rattle.tt_choice.specs.Choices.{places_between};
 ghost use Rattle.tt_choice.specs.Open.{is_open, may_come, may_have_parent};

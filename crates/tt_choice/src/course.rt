@@ -1,7 +1,8 @@
 //! The least allowed choice of a course.
 
 ghost use Rattle.std.specs.Prelude.{◌≡◌, ℕ, ◌+◌, ◌-◌, ◌<◌, ◌≤◌, ◌++◌, ◌∷◌, [], None, false, length, take, IfNone, IfSome, All};
-ghost use Rattle.tt_choice.specs.Limits.{most_added, most_added_with, most_classes, most_taken};
+ghost use Rattle.tt_base.specs.Limits.{most_classes};
+ghost use Rattle.tt_choice.specs.Limits.{most_added, most_added_with, most_taken};
 ghost use Rattle.tt_choice.specs.Least.{pairs_added, least_choice};
 ghost use Rattle.tt_choice.specs.Passed.{better, passed};
 ghost use Rattle.tt_choice.specs.Ahead.{AreSure, IsSure};

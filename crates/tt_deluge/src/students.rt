@@ -1,6 +1,7 @@
 //! Rounds on students: a drawn choice of a course replaces a student's own.
 
 ghost use Rattle.std.specs.Prelude.{◌≡◌, ◌<◌, ◌≤◌, ◌++◌, [], All, None, Some, IfNone, IfOk, IfSome, OnOk, cond, false, length, nat_le, slice_get};
+ghost use Rattle.tt_base.specs.Limits.{most_classes};
 ghost use Rattle.rand_core.specs.Stream.{next_u32};
 ghost use Rattle.tt_problem.specs.ListLengths.{spans_at};
 ghost use Rattle.tt_problem.specs.Spans.{IsSpanWithin};
@@ -123,7 +124,7 @@ fn draw_classes(
         ≡ (cond found (Some choice.new.items) None, words_of words.new)) }
     ensures below { OnOk result
         (All (λ class. class < length problem.now.classes) choice.new.items) }
-    ensures few { OnOk result (length choice.new.items ≤ 20000) }
+    ensures few { OnOk result (length choice.new.items ≤ most_classes) }
 {
     problem.validity();
     choice.clear();
@@ -205,7 +206,7 @@ fn is_within(
         ≡ own_of state.now.problem course (list_in state.now.present student) }
     requires rest { buffers.now.rest.items
         ≡ rest_of state.now.problem course (list_in state.now.present student) }
-    requires few { length buffers.now.choice.items ≤ 20000 }
+    requires few { length buffers.now.choice.items ≤ most_classes }
     ensures { result
         ≡ nat_le
         (total_of state.now.problem (with_list state.now.present student
@@ -237,7 +238,7 @@ fn replace(
         ≡ rest_of state.old.problem course (list_in state.old.present student) }
     requires below { All (λ class. class < length state.old.problem.classes)
         buffers.old.choice.items }
-    requires few { length buffers.old.choice.items ≤ 20000 }
+    requires few { length buffers.old.choice.items ≤ most_classes }
     requires step { 0 < length (earlier state.old) }
     ensures step { IsWithinStep state.old state.new }
     ensures made { IfOk result (λ made.

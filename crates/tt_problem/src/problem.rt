@@ -1,6 +1,7 @@
 //! The problem, and what it tells of its parts.
 
 ghost use Rattle.std.specs.Prelude.{◌≡◌, ◌<◌, ◌≤◌, length, map, slice_get, slice_index, Some, IfOk, IfSome};
+ghost use Rattle.tt_base.specs.Limits.{most_classes, most_rules, most_students};
 ghost use Rattle.tt_travel.specs.Table.{most_rooms};
 ghost use Rattle.tt_problem.specs.Spans.{IsSpanWithin};
 ghost use Rattle.tt_problem.specs.ListLengths.{most_classes_of};
@@ -85,7 +86,7 @@ impl Problem {
     /// How many courses there are.
     pub fn course_count(&self) -> u32
         ensures count { result ≡ length self.now.courses }
-        ensures few { result ≤ 20000 }
+        ensures few { result ≤ most_classes }
     {
         self.parts.courses.len() as u32
     }
@@ -93,7 +94,7 @@ impl Problem {
     /// How many classes there are.
     pub fn class_count(&self) -> u32
         ensures count { result ≡ length self.now.classes }
-        ensures few { result ≤ 20000 }
+        ensures few { result ≤ most_classes }
     {
         self.parts.classes.len() as u32
     }
@@ -210,7 +211,7 @@ impl Problem {
     /// How many students there are.
     pub fn student_count(&self) -> u32
         ensures count { result ≡ length self.now.students }
-        ensures few { result ≤ 100000 }
+        ensures few { result ≤ most_students }
     {
         self.parts.students.len() as u32
     }
@@ -253,7 +254,7 @@ impl Problem {
     /// How many rules there are.
     pub fn rule_count(&self) -> u32
         ensures count { result ≡ length self.now.rules }
-        ensures few { result ≤ 20000 }
+        ensures few { result ≤ most_rules }
     {
         self.parts.rules.len() as u32
     }
@@ -309,7 +310,7 @@ impl Problem {
 
 // Where an id stands, and `None` where it is unknown.
 fn place_of_id(ids: &IndexSet<u32>, id: u32) -> Option<u32>
-    requires { length ids.now.keys ≤ 100000 }
+    requires { length ids.now.keys ≤ most_students }
     ensures place { result ≡ place_of_id ids.now.keys id }
     ensures in_range { IfSome result (λ place. place < length ids.now.keys) }
 {

@@ -2,7 +2,7 @@
 //! cells and of subparts take memory.
 
 ghost use Rattle.std.specs.Prelude.{◌≡◌, ◌≤◌, ◌<◌, All, IfOk, length, map, slice_index, sum_by};
-ghost use Rattle.tt_base.specs.Limits.{most_members};
+ghost use Rattle.tt_base.specs.Limits.{most_classes, most_members, most_rules, most_students};
 ghost use Rattle.tt_problem.specs.Spans.{Covers, IsSpanWithin};
 ghost use Rattle.tt_problem.specs.Valid.{IsValidRule, IsValidStudent, course_spans};
 ghost use Rattle.tt_problem.specs.ListLengths.{most_of_course};
@@ -34,7 +34,7 @@ pub fn class_cells(class: &ClassPart) -> u32
 
 /// The most cells that all classes take together.
 pub fn cells_of(parts: &Parts) -> u32
-    requires { length parts.now.classes ≤ 20000 }
+    requires { length parts.now.classes ≤ most_classes }
     ensures { result ≡ cells_of parts.now }
 {
     let mut sum = 0;
@@ -46,7 +46,7 @@ pub fn cells_of(parts: &Parts) -> u32
 
 /// How many members all rules have together.
 pub fn member_count(parts: &Parts) -> u32
-    requires few { length parts.now.rules ≤ 20000 }
+    requires few { length parts.now.rules ≤ most_rules }
     requires short { All (λ r. length r.members ≤ most_members) parts.now.rules }
     ensures { result ≡ member_count parts.now }
 {
@@ -87,7 +87,7 @@ fn links_of_rule(cells: &[u16], rule: &Rule) -> u32
 /// a problem file has a limit. `cells` has the most of each class.
 pub fn links_of(parts: &Parts, cells: &[u16]) -> u64
     requires cells { cells.now ≡ map class_cells parts.now.classes }
-    requires few { length parts.now.rules ≤ 20000 }
+    requires few { length parts.now.rules ≤ most_rules }
     requires rules { All (IsValidRule parts.now) parts.now.rules }
     ensures { result ≡ links_of parts.now }
 {
@@ -132,7 +132,7 @@ pub fn subpart_table(alloc: Global, parts: &Parts) -> Result<Row<u32>, AllocErro
 /// The sum of a table over the courses of a student. Where the table has for each course the greatest
 /// number of subparts of a configuration, it is the most classes that the student's list may have.
 pub fn most_classes_of(subparts: &[u32], student: &StudentPart) -> u32
-    requires few_subparts { All (λ most. most ≤ 20000) subparts.now }
+    requires few_subparts { All (λ most. most ≤ most_classes) subparts.now }
     requires courses { All (λ place. place < length subparts.now) student.now.courses }
     requires few_courses { length student.now.courses ≤ 40 }
     ensures most { result ≡ sum_by (slice_index subparts.now) student.now.courses }
@@ -151,8 +151,8 @@ pub fn most_classes_of(subparts: &[u32], student: &StudentPart) -> u32
 pub fn most_listed(parts: &Parts, subparts: &[u32]) -> u64
     requires subparts { subparts.now ≡ map (most_of_course parts.now) parts.now.courses }
     requires configs { Covers parts.now.configs (length parts.now.subparts) }
-    requires few_subparts { length parts.now.subparts ≤ 20000 }
-    requires few { length parts.now.students ≤ 100000 }
+    requires few_subparts { length parts.now.subparts ≤ most_classes }
+    requires few { length parts.now.students ≤ most_students }
     requires students { All (IsValidStudent parts.now) parts.now.students }
     ensures { result ≡ most_listed parts.now }
 {

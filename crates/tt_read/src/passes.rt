@@ -1,6 +1,7 @@
 //! The first and the second pass: the shape of all values, then the references.
 
 ghost use Rattle.std.specs.Prelude.{◌≡◌, ◌≤◌, length, None, IfOk, codes};
+ghost use Rattle.tt_base.specs.Limits.{most_classes, most_courses, most_rules, most_students};
 ghost use Rattle.tt_travel.specs.Table.{most_rooms};
 ghost use Rattle.tt_problem.specs.Valid.{AreValidWeights, IsValidTerm};
 ghost use Rattle.tt_fields.specs.Answer.{Reads, Gives, part_of};
@@ -123,9 +124,9 @@ fn read_course_list<'a>(
 ) -> Result<CourseList<'a>, FileFault>
     requires { IsValidTerm term.nr_days term.nr_weeks }
     ensures reads { Gives course_list_read result (course_list_of term (part_of object.now)) }
-    ensures few { IfOk result (λ list. length list.items.values.now ≤ 20000) }
+    ensures few { IfOk result (λ list. length list.items.values.now ≤ most_courses) }
     ensures count { IfOk result (λ list. length list.ids.keys ≡ length list.items.values.now) }
-    ensures few_classes { IfOk result (λ list. length list.class_ids.keys ≤ 20000) }
+    ensures few_classes { IfOk result (λ list. length list.class_ids.keys ≤ most_classes) }
     ensures classes { IfOk result
         (λ list. HasClasses (items_of list.items) (length list.class_ids.keys)) }
 {
@@ -150,8 +151,8 @@ fn read_rule_list<'a>(
     object: &'a Field<'a>,
 ) -> Result<PartList<'a>, FileFault>
     ensures reads { Gives items_of result
-        (checked_list 20000 (rules_in version None) (codes "distributions") (part_of object.now)) }
-    ensures few { IfOk result (λ items. length items.values.now ≤ 20000) }
+        (checked_list most_rules (rules_in version None) (codes "distributions") (part_of object.now)) }
+    ensures few { IfOk result (λ items. length items.values.now ≤ most_rules) }
 {
     let items = list_or_none(object, "distributions", 20_000)?;
     read_rules(alloc, version, &Known::none(), &items)?;
@@ -162,7 +163,7 @@ fn read_rule_list<'a>(
 #[tactic(auto, unfolding(crate::specs::Tables::checked_list))]
 fn read_student_list<'a>(alloc: Global, object: &'a Field<'a>) -> Result<PartList<'a>, FileFault>
     ensures reads { Gives items_of result
-        (checked_list 100000 (students_in None) (codes "students") (part_of object.now)) }
+        (checked_list most_students (students_in None) (codes "students") (part_of object.now)) }
     ensures few { IfOk result (λ items. length items.values.now ≤ 100000) }
 {
     let items = list_or_none(object, "students", 100_000)?;

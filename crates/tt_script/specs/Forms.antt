@@ -1,5 +1,6 @@
 -- Theorem. The forms of a line, and the command of each.
 use Rattle.std.specs.Prelude.{ℕ, ◌≤◌, ⊤, IsTrue, IsSome, List, [], ◌∷◌, Option, None, Some, option_map, if◌then◌else◌, codes, bytes_eq}
+use Rattle.tt_base.specs.Limits.{most_id}
 use Rattle.std.specs.Option.{option_zip}
 use Rattle.tt_text.specs.Decimal.{decimal_of, at_most}
 use Rattle.tt_script.specs.declared.command.Command.{Command}
@@ -15,7 +16,7 @@ use Rattle.tt_bits.specs.Words.{bit_word}
 
 -- an id, or the number of a time: a decimal number up to 4,294,967,295
 abbrev pub id_of : List ℕ → Option ℕ
-id_of word = at_most 4294967295 (decimal_of word)
+id_of word = at_most most_id (decimal_of word)
 
 -- an id for each word
 abbrev pub ids_of : List (List ℕ) → Option (List ℕ)

@@ -1,6 +1,7 @@
 //! How hard each class is: what it weighs in `place`.
 
 ghost use Rattle.std.specs.Prelude.{◌≡◌, ◌+◌, ◌<◌, ◌≤◌, ◌^◌, ◌∷◌, ◌++◌, [], ℕ, List, IfOk, count_by, length, nat_eq, slice_index_or, vec_capacity};
+ghost use Rattle.tt_base.specs.Limits.{most_classes};
 ghost use Rattle.std.specs.List.{filter, sum_by};
 ghost use Rattle.tt_plan.specs.Domain.{IsOfDomain};
 ghost use Rattle.tt_search.specs.Turns.{available_values, is_available};
@@ -54,7 +55,7 @@ impl ClassWeights {
             → slice_index_or self.new.outs.items class 0
             ≡ slice_index_or self.old.outs.items class 0
             + count_by (nat_eq class) state.now.taken }
-        ensures few { length state.now.taken ≤ 20000 }
+        ensures few { length state.now.taken ≤ most_classes }
     {
         state.problem().validity();
         for class in state.taken() {
@@ -72,7 +73,7 @@ impl ClassWeights {
             → slice_index_or self.new.outs.items class 0
             ≡ slice_index_or self.old.outs.items class 0
             + count_by (nat_eq class) (taken_by made state.now.taken) }
-        ensures few { length (taken_by made state.now.taken) ≤ 20000 }
+        ensures few { length (taken_by made state.now.taken) ≤ most_classes }
     {
         if made.value.is_some() {
             self.count_taken(state);

@@ -1,6 +1,7 @@
 //! What locking does to the present and the past. The calls of a state stand in `state/locking.rt`.
 
 ghost use Rattle.std.specs.Prelude.{◌≡◌, ◌+◌, ◌<◌, ◌≤◌, ◌∷◌, None, length, true};
+ghost use Rattle.tt_base.specs.Limits.{most_classes};
 ghost use Rattle.tt_state.specs.Snapshots.{may_lock, with_lock};
 ghost use Rattle.tt_state.specs.Faults.{lock_fault_of};
 ghost use Rattle.tt_state.specs.History.{noted_by};
@@ -69,7 +70,7 @@ pub fn turn(present: &mut Present, past: &mut Past, class: u32, lock: bool)
 pub fn turn_count(problem: &Problem, present: &Present, lock: bool) -> u32
     requires { length (snapshot_of present.now).plan ≡ length problem.now.classes }
     ensures count { result ≡ length (turning lock (snapshot_of present.now)) }
-    ensures few { result ≤ 20000 }
+    ensures few { result ≤ most_classes }
 {
     let mut count = 0;
     for class in 0..problem.class_count() {

@@ -1,5 +1,6 @@
 -- Contract. What the code has read so far.
 use Rattle.std.specs.Prelude.{◌≡◌, ℕ, ◌≤◌, List, length, map, All, IfSome, nat_eq}
+use Rattle.tt_base.specs.Limits.{most_classes}
 use Rattle.std.specs.List.{IsDistinct}
 use Rattle.tt_tree.specs.declared.context as context
 use Rattle.tt_tree.specs.declared.rooms as rooms
@@ -71,14 +72,14 @@ pub record AreClasses (c : context.Context.Context) (s : courses.Classes.Classes
 -- there are at most 20,000 classes and as many subparts, and the subparts cover the classes
 pub record IsSubparts (c : context.Context.Context) (s : courses.Subparts.Subparts) : Type 0 where
   pub classes : AreClasses c s.classes
-  pub few_classes : length s.classes.classes.items ≤ 20000
-  pub few : length s.spans.items ≤ 20000
+  pub few_classes : length s.classes.classes.items ≤ most_classes
+  pub few : length s.spans.items ≤ most_classes
   pub spans : Covers s.spans.items (length s.classes.classes.items)
 
 -- there are at most 20,000 configurations, and they cover the subparts
 pub record IsConfigs (c : context.Context.Context) (s : courses.Configs.Configs) : Type 0 where
   pub subparts : IsSubparts c s.subparts
-  pub few : length s.spans.items ≤ 20000
+  pub few : length s.spans.items ≤ most_classes
   pub spans : Covers s.spans.items (length s.subparts.spans.items)
 
 -- the courses cover the configurations, and have these ids, which differ

@@ -1,5 +1,6 @@
 -- Theorem. The tables of rooms and courses, one line for each key, in the order in which they are read.
 use Rattle.std.specs.Prelude.{ℕ, ◌+◌, ◌-◌, ◌==◌, ◌||◌, List, [], ◌∷◌, ◌++◌, length, Bool, true, false, Result, Ok, codes, nat_lt, if◌then◌else◌}
+use Rattle.tt_base.specs.Limits.{most_classes, most_id, most_limit}
 use Rattle.tt_bits.specs.declared.times.Time.{Time}
 use Rattle.tt_bits.specs.Sets.{days_text, weeks_text}
 use Rattle.tt_bits.specs.Times as bits
@@ -69,7 +70,7 @@ pub record Campus : Type 0 where
 unfoldable pub a_room : Context → Field → Campus → Result Campus Fault
 a_room c p s = do
   o ← an_object p
-  id ← required (a_number 0 4294967295) (codes "id") o
+  id ← required (a_number 0 most_id) (codes "id") o
   ids ← new_id id (room_ids s.rooms) o
   entries ← or_else [] (a_list 0 4000) (codes "travel") o
   travel ← each (a_travel_entry c (length s.rooms)) entries s.travel
@@ -110,9 +111,9 @@ rooms_of c o = do
 unfoldable pub a_class : Context → Field → List ClassPart → Result (List ClassPart) Fault
 a_class c p before = do
   o ← an_object p
-  id ← required (a_number 0 4294967295) (codes "id") o
+  id ← required (a_number 0 most_id) (codes "id") o
   ids ← new_id id (class_ids before) o
-  limit ← optional (a_number 0 4294967295) (codes "limit") o
+  limit ← optional (a_number 0 most_limit) (codes "limit") o
   parent ← optional (a_reference c.classes) (codes "parent") o
   rooms ← rooms_of c o
   items ← required (a_list 1 1000) (codes "times") o
@@ -136,7 +137,7 @@ pub record Subparts : Type 0 where
 unfoldable pub a_subpart : Context → Field → Subparts → Result Subparts Fault
 a_subpart c p s = do
   o ← an_object p
-  items ← required (a_list 1 (20000 - length s.classes)) (codes "classes") o
+  items ← required (a_list 1 (most_classes - length s.classes)) (codes "classes") o
   classes ← each (a_class c) items s.classes
   Ok (record { spans = s.spans ++ span (length s.classes) (length classes) ∷ []; classes = classes })
 
@@ -162,7 +163,7 @@ pub record Tree : Type 0 where
 unfoldable pub a_course : Context → Field → Tree → Result Tree Fault
 a_course c p s = do
   o ← an_object p
-  id ← required (a_number 0 4294967295) (codes "id") o
+  id ← required (a_number 0 most_id) (codes "id") o
   ids ← new_id id (course_ids s.courses) o
   items ← required (a_list 1 no_limit) (codes "configs") o
   configs ← each (a_config c) items s.configs

@@ -1,6 +1,7 @@
 //! The courses of a problem file, with all that is in them.
 
 ghost use Rattle.std.specs.Prelude.{◌≡◌, ◌<◌, ◌≤◌, ◌^◌, List, [], ◌∷◌, ◌++◌, length, All, IfOk, OnOk};
+ghost use Rattle.tt_base.specs.Limits.{most_classes};
 ghost use Rattle.tt_problem.specs.Spans.{Covers};
 ghost use Rattle.tt_problem.specs.declared.parts.ClassPart.{ClassPart as ClassSeen};
 ghost use Rattle.tt_fields.specs.Answer.{Reads, Gives, part_of};
@@ -134,7 +135,7 @@ impl NextTable<Classes> for ClassTable<'_> {
 
     ghost reads = { λ t. a_class (context_of t.context.now) };
 
-    ghost most = { λ t. 20000 };
+    ghost most = { λ t. most_classes };
 
     ghost valid = { λ t place s. IsContext t.context.now × AreClasses t.context.now s };
 
@@ -173,10 +174,10 @@ impl NextTable<Classes> for ClassTable<'_> {
 fn push_span(spans: &mut Vec<Span>, first: usize, after: usize) -> Result<(), AllocError>
     requires covers { Covers spans.old.items first }
     requires some { first < after }
-    requires few { after ≤ 20000 }
+    requires few { after ≤ most_classes }
     ensures pushed { OnOk result (spans.new.items ≡ spans.old.items ++ span first after ∷ []) }
     ensures covers { OnOk result (Covers spans.new.items after) }
-    ensures few { OnOk result (length spans.new.items ≤ 20000) }
+    ensures few { OnOk result (length spans.new.items ≤ most_classes) }
 {
     spans.push(Span {
         first: first as u32,

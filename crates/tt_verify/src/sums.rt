@@ -1,6 +1,7 @@
 //! The four sums of a timetable, and their total.
 
 ghost use Rattle.std.specs.Prelude.{[], ◌≡◌, ◌*◌, ◌/◌, ◌<◌, ◌≤◌, ◌^◌, IfOk, length};
+ghost use Rattle.tt_base.specs.Limits.{most_classes};
 ghost use Rattle.tt_plan.specs.Domain.{room_penalty, spots_of, time_penalty};
 ghost use Rattle.tt_problem.specs.Valid.{AreValidWeights};
 ghost use Rattle.tt_score.specs.Amounts.{cost_sum, kind_cost};
@@ -34,7 +35,7 @@ pub struct Sums {
 fn time_sum(problem: &Problem, plan: &[Option<Value>]) -> u64
     requires { IsPlanOf problem.now plan.now }
     ensures sum { result ≡ over_placed (time_penalty problem.now) plan.now }
-    ensures small { result ≤ 20000 * 1000000 }
+    ensures small { result ≤ most_classes * 1000000 }
 {
     let mut sum = 0;
     for class in 0..problem.class_count() {
@@ -50,7 +51,7 @@ fn time_sum(problem: &Problem, plan: &[Option<Value>]) -> u64
 fn room_sum(problem: &Problem, plan: &[Option<Value>]) -> u64
     requires { IsPlanOf problem.now plan.now }
     ensures sum { result ≡ over_placed (room_penalty problem.now) plan.now }
-    ensures small { result ≤ 20000 * 1000000 }
+    ensures small { result ≤ most_classes * 1000000 }
 {
     let mut sum = 0;
     for class in 0..problem.class_count() {
@@ -113,7 +114,7 @@ fn cost_sum(alloc: Global, problem: &Problem, spots: &[Option<Spot>]) -> Result<
     requires whole { length spots.now ≡ length problem.now.classes }
     requires fit { AreSpotsOf problem.now spots.now }
     ensures sum { IfOk result (λ n. n ≡ cost_sum problem.now spots.now) }
-    ensures small { IfOk result (λ n. n ≤ 20000 * (1000000 * 2 ^ 62)) }
+    ensures small { IfOk result (λ n. n ≤ most_classes * (1000000 * 2 ^ 62)) }
 {
     let mut sum = 0;
     for place in 0..problem.rule_count() {
