@@ -3,15 +3,16 @@
 //! the placed classes of a room, in order.
 #![tactic(auto)]
 
-ghost use Rattle.std.specs.Prelude.{◌≡◌, ◌<◌, ◌≤◌, Some, None, IsSome, IfOk, IfSome, length, replicate, slice_set, []};
+ghost use Rattle.std.specs.Prelude.{◌≡◌, ◌<◌, ◌≤◌, ◌&&◌, nat_lt, min, max, Some, None, IsSome, IfOk, IfSome, length, replicate, slice_set, []};
 ghost use Rattle.std.specs.Option.{option_map_or};
 ghost use Rattle.tt_bits.specs.Spots.{spot_at, IsEmptyAt};
+ghost use Rattle.tt_bits.specs.Times.{shares_day, end_of};
 ghost use Rattle.tt_occupancy.specs.Rooms.{classes_in, AreListed};
 ghost use Rattle.tt_occupancy.specs.Clashes.{clash, clashes_in_room, clash_pairs, clash_count};
 
 use std::alloc::{AllocError, Global};
 use std::marker::Model;
-use tt_bits::Spot;
+use tt_bits::{Spot, Time};
 use tt_pool::{Items, Pool};
 
 /// The spots of the placed classes. Classes and rooms are named by their places in the problem.
@@ -130,6 +131,7 @@ impl Occupancy {
 }
 
 /// Whether a class isn't the one excepted, is placed, and overlaps the spot in its room.
+#[inline(always)]
 #[tactic(auto, unfolding(crate::specs::Clashes::clash))]
 pub fn clashes_in_room(spots: &[Option<Spot>], except: u32, spot: &Spot, class: u32) -> bool
     requires { class < length spots.now }
@@ -138,8 +140,29 @@ pub fn clashes_in_room(spots: &[Option<Spot>], except: u32, spot: &Spot, class: 
     class != except
         && match &spots[class as usize] {
             None => false,
-            Some(other) => spot.shares_room(other) && spot.time.overlaps(&other.time),
+            Some(other) => may_overlap(&spot.time, &other.time) && clash(spot, other),
         }
+}
+
+// Whether two spots have the same room and overlap.
+#[tactic(auto, unfolding(crate::specs::Clashes::clash))]
+fn clash(a: &Spot, b: &Spot) -> bool
+    ensures { result ≡ clash a.now b.now }
+{
+    a.shares_room(b) && a.time.overlaps(&b.time)
+}
+
+// Whether two times share a day and a slot. One number tells, without a branch for each part: most
+// classes of a room fail here, some by their days and some by their slots.
+#[inline(always)]
+fn may_overlap(a: &Time, b: &Time) -> bool
+    ensures { result
+        ≡ (shares_day a.now b.now
+        && nat_lt (max a.now.start b.now.start) (min (end_of a.now) (end_of b.now))) }
+{
+    let days = u16::from(a.days.share(b.days));
+    let slots = a.end().min(b.end()).saturating_sub(a.start.max(b.start));
+    days.min(slots) > 0
 }
 
 // Gives a class that has no spot this one, and puts it into the list of its room.
