@@ -150,8 +150,8 @@ fn read_rule_list<'a>(
     version: u8,
     object: &'a Field<'a>,
 ) -> Result<PartList<'a>, FileFault>
-    ensures reads { Gives items_of result
-        (checked_list most_rules (rules_in version None) (codes "distributions") (part_of object.now)) }
+    ensures reads { Gives items_of result (checked_list most_rules (rules_in version None)
+        (codes "distributions") (part_of object.now)) }
     ensures few { IfOk result (λ items. length items.values.now ≤ most_rules) }
 {
     let items = list_or_none(object, "distributions", 20_000)?;
