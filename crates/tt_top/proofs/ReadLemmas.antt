@@ -2,6 +2,7 @@
 use Rattle.std.proofs.Common.{◌≡◌, ◌≤◌, ◌+◌, ℕ, Bool, true, false, List, [], ◌∷◌, ◌++◌, None, Some, Option, Err, refl, subst, arith, length}
 use Rattle.std.specs.Prelude.{IfSome, IsTrue, option_to_list}
 use Rattle.std.specs.List.{AllByRecursion}
+use Rattle.tt_io.specs.Causes.{most_read}
 use Rattle.tt_io.specs.Whole.{TakesAtMost}
 use Rattle.tt_io.specs.Lines.{Counts}
 use Rattle.tt_desk.specs.declared.refusal.Outcome.{Outcome}
@@ -42,10 +43,10 @@ unopened most holds name = by (holds name)
     by (Some all) = tt
 
 -- of a file within the limit no more is read
-pub within_read : (limit : ℕ) (holds : List ℕ → Option (List ℕ)) (left : Option (List ℕ)) (name : List ℕ) → HasAtMost limit holds name → IsReadAtMost (limit + 65536) holds left name
+pub within_read : (limit : ℕ) (holds : List ℕ → Option (List ℕ)) (left : Option (List ℕ)) (name : List ℕ) → HasAtMost limit holds name → IsReadAtMost (limit + most_read) holds left name
 within_read limit holds left name within = by (holds name) within left
   where
-    by : (o : Option (List ℕ)) → IfSome o (λ all. length all ≤ limit) → (left : Option (List ℕ)) → IfSome o (λ all. IfSome left (λ rest. length all ≤ length rest + (limit + 65536)))
+    by : (o : Option (List ℕ)) → IfSome o (λ all. length all ≤ limit) → (left : Option (List ℕ)) → IfSome o (λ all. IfSome left (λ rest. length all ≤ length rest + (limit + most_read)))
     by None within left = tt
     by (Some all) within None = tt
     by (Some all) within (Some rest) = omega (arith, within)
@@ -63,7 +64,7 @@ read_same most holds now same left (Some name) read = subst (λ (o : Option (Lis
 -- ---- one file after others
 
 -- a last one, if there is one, after others within the limit
-pub reads_after : (limit : ℕ) (holds : List ℕ → Option (List ℕ)) (left : Option (List ℕ)) (names : List (List ℕ)) (more : Option (List ℕ)) → AllByRecursion (HasAtMost limit holds) names → IfSome more (IsReadAtMost (limit + 65536) holds left) → ReadsWithin limit holds left (names ++ option_to_list more)
+pub reads_after : (limit : ℕ) (holds : List ℕ → Option (List ℕ)) (left : Option (List ℕ)) (names : List (List ℕ)) (more : Option (List ℕ)) → AllByRecursion (HasAtMost limit holds) names → IfSome more (IsReadAtMost (limit + most_read) holds left) → ReadsWithin limit holds left (names ++ option_to_list more)
 reads_after limit holds left [] None within read = tt
 reads_after limit holds left [] (Some name) within read = read
 reads_after limit holds left (name ∷ []) None within read = within_read limit holds left name within.0

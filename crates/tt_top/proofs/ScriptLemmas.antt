@@ -9,7 +9,7 @@ use Rattle.std.proofs.lemmas.Bool.Decides.{nat_tests}
 use Rattle.std.proofs.Math.Seq.{take-append-add}
 use Rattle.tt_io.specs.Causes.{Writes}
 use Rattle.tt_io.specs.Whole.{Grows, WritesFront}
-use Rattle.tt_io.specs.Lines.{Reader, new_reader, has_line_end, leading_line, after_line, to_come, Counts, StopsIn}
+use Rattle.tt_io.specs.Lines.{Reader, new_reader, has_line_end, leading_line, after_line, to_come, Counts, StopsIn, most_line}
 use Rattle.tt_io.proofs.WrittenLemmas.{Writes-append}
 use Rattle.tt_desk.specs.declared.refusal.Refusal.TheVariants.{BadLine}
 use Rattle.tt_desk.specs.declared.refusal.Outcome.{Outcome}
@@ -300,10 +300,10 @@ module _ (limit : ℕ) (d : Session) (script : List ℕ) (before : Option (List 
 -- ---- the answer to the next line
 
 -- a line that is too long is bad, whatever it holds
-pub long_step : (d : Session) (line : List ℕ) → 65536 < length line → line_step d line ≡ record { session = d; outcome = Refused BadLine; lines = [] }
+pub long_step : (d : Session) (line : List ℕ) → most_line < length line → line_step d line ≡ record { session = d; outcome = Refused BadLine; lines = [] }
 unfolding line_step
 long_step d line long =
-    let is : nat_lt 65536 (length line) ≡ true = grind (arith, nat_tests, long) in
+    let is : nat_lt most_line (length line) ≡ true = grind (arith, nat_tests, long) in
     rw is refl
 
 -- what the answer to a line leaves, whatever becomes of it
@@ -320,14 +320,14 @@ next_answered text before now d d' reader left (Err Memory) some later cut sessi
 next_answered text before now d d' reader left (Err TooLong) some later cut session outcome_is written memory wants front no_files no_limit = absurd (no_limit refl)
 
 -- the answer to a line that is too long
-refused_line : (d : Session) (line : List ℕ) (before now : Option (List ℕ)) (outcome : Outcome) → 65536 < length line → outcome ≡ Refused BadLine → Writes before now (refusal_line BadLine) → Answers line before now d d outcome
+refused_line : (d : Session) (line : List ℕ) (before now : Option (List ℕ)) (outcome : Outcome) → most_line < length line → outcome ≡ Refused BadLine → Writes before now (refusal_line BadLine) → Answers line before now d d outcome
 refused_line d line before now outcome long outcome_is written =
     let step = long_step d line long in
     record { session = ap (λ s. s.session) step; outcome_is = ap (λ s. s.outcome) step ∙ sym outcome_is; written = rw step written }
 
 -- what the answer to a line that is too long leaves, whatever becomes of it
 pub next_refused : (text : List ℕ) (before now : Option (List ℕ)) (d : Session) (reader : Reader) (left : Option (List ℕ)) (r : Result Outcome End)
-    → 65536 < length (leading_line text) → 0 < length text → to_come reader left ≡ Some (after_line text) → (reader.ended ≡ false → has_line_end text ≡ true)
+    → most_line < length (leading_line text) → 0 < length text → to_come reader left ≡ Some (after_line text) → (reader.ended ≡ false → has_line_end text ≡ true)
     → IfOk r (λ outcome. outcome ≡ Refused BadLine) → OnOk r (Writes before now (refusal_line BadLine)) → WritesFront before now (refusal_line BadLine) → IfErr r (λ e. e ≡ Sink) → ServesNext text before now d d reader left r
 next_refused text before now d reader left (Ok outcome) long some later cut outcome_is written front only =
     inr (record { taken = record { some = some; later = later; last = cut }; answered = refused_line d (leading_line text) before now outcome long outcome_is written })
@@ -362,7 +362,7 @@ pub grows_then : (a b c : Option (List ℕ)) → Grows a b → Grows b c → Gro
 grows_then a b c first second = (first.0 ++ second.0, Writes-append a b c first.0 second.0 first.1 second.1)
 
 -- a text with a long line isn't empty
-pub some_of : (text : List ℕ) → 65536 < length (leading_line text) → 0 < length text
+pub some_of : (text : List ℕ) → most_line < length (leading_line text) → 0 < length text
 some_of [] long = absurd (omega (arith, long))
 some_of (b ∷ bs) long = omega arith
 

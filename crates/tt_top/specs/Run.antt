@@ -1,7 +1,7 @@
 -- Theorem. The clauses of the top call.
 use Rattle.std.specs.Prelude.{◌≡◌, ◌≢◌, ◌≤◌, ◌<◌, ◌+◌, ⊤, ℕ, Bool, false, List, [], ◌∷◌, ◌++◌, ◌⊎◌, IfSome, IsSome, take, length, if◌then◌else◌, None, Some, Option, option_and_then}
 use Rattle.std.specs.List.{concat}
-use Rattle.tt_io.specs.Causes.{Writes, one_more, AsksAll}
+use Rattle.tt_io.specs.Causes.{Writes, one_more, AsksAll, most_read}
 use Rattle.tt_make.specs.Text.{make_text}
 use Rattle.tt_script.specs.Script.{lines_of}
 use Rattle.tt_top.specs.Words.{FileWords, Form, Files, Verify, Demo, Make, first_words, file_words, verify_words}
@@ -97,7 +97,7 @@ IsReadAtMost most holds left name = IfSome (holds name) (λ all. IfSome left (λ
 -- are read.
 abbrev pub ReadsWithin : (limit : ℕ) → (holds : List ℕ → Option (List ℕ)) → (left : Option (List ℕ)) → (names : List (List ℕ)) → Type 0
 ReadsWithin limit holds left [] = ⊤
-ReadsWithin limit holds left (name ∷ []) = IsReadAtMost (limit + 65536) holds left name
+ReadsWithin limit holds left (name ∷ []) = IsReadAtMost (limit + most_read) holds left name
 ReadsWithin limit holds left (name ∷ next ∷ names) = HasAtMost limit holds name × ReadsWithin limit holds left (next ∷ names)
 
 -- ---- what runs with files do

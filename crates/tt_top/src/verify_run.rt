@@ -1,7 +1,7 @@
 //! The run that checks a solution file.
 
 ghost use Rattle.std.specs.Prelude.{◌≡◌, ◌≢◌, ◌+◌, ◌∷◌, [], ℕ, List, Err, IfOk, IfErr, IsOk, Ok, OnOk};
-ghost use Rattle.tt_io.specs.Causes.{Asks, Writes};
+ghost use Rattle.tt_io.specs.Causes.{Asks, Writes, most_read};
 ghost use Rattle.tt_io.specs.Whole.{WritesFront};
 ghost use Rattle.tt_published.specs.Timetable.{IsTimetableOf};
 ghost use Rattle.tt_top.specs.PlainRun.{check_phase, checking, solution_phase};
@@ -53,7 +53,7 @@ fn check_solution<F: Files>(
         → Agrees names (solution_phase limit (F.holds files.old) names problem.now solution.now)
         (check_seen names result) }
     ensures input { IfOk result (λ l. IfErr l (λ f. f.input ≡ Input.Published)) }
-    ensures reads { IsReadAtMost (limit + 65536) (F.holds files.old)
+    ensures reads { IsReadAtMost (limit + most_read) (F.holds files.old)
         (left_open (F.is_open files.new) (F.left files.new)) solution.now }
     ensures fits { IsOk result → HasAtMost limit (F.holds files.old) solution.now }
     ensures no_sink { result ≢ Err End.Sink }

@@ -1,5 +1,6 @@
 use Rattle.std.proofs.Common.{◌+◌, Ok, Err}
 use Rattle.tt_base.proofs.ResultLemmas.{handed_on}
+use Rattle.tt_io.specs.Causes.{most_read}
 use Rattle.tt_top.specs.declared.end.End.TheVariants.{Files, Sink}
 use Rattle.tt_top.specs.declared.end.Done.TheVariants.{Faulty}
 use Rattle.tt_top.specs.Run.{Outside}
@@ -33,4 +34,4 @@ returns-in-Ok-clause-runs g c =
     let o : Outside = outside_of g.F.Files.holds g.F.Files.asked g.F.Files.is_open g.F.Files.left g.F.Files.faults g.S.Sink.written g.S.Sink.faults c.args.outside.now.files.now c.serve_script.new.files c.args.outside.now.out.now c.serve_script.new.out in
     rw c.served.ensures
     (served_run (words_seen c.args.words) c.args.workspace.now.limit o first.now c.in-Ok.session e.loads e.opens e.files e.sink c.serve_script.result s.done
-    (λ t told. s.serves t (script_same o.holds _ _ c.begin.ensures.same told)) (read_same (c.args.workspace.now.limit + 65536) o.holds _ c.begin.ensures.same _ _ s.reads) s.some s.grows s.asks s.files s.sink)
+    (λ t told. s.serves t (script_same o.holds _ _ c.begin.ensures.same told)) (read_same (c.args.workspace.now.limit + most_read) o.holds _ c.begin.ensures.same _ _ s.reads) s.some s.grows s.asks s.files s.sink)

@@ -1,5 +1,6 @@
 use Rattle.std.proofs.Common.{◌+◌, Some, subst, refl, [], ◌∷◌}
 use Rattle.tt_base.proofs.ResultLemmas.{handed_on}
+use Rattle.tt_io.specs.Causes.{most_read}
 use Rattle.tt_top.specs.Words.{verify_words}
 use Rattle.tt_top.specs.PlainRun.{PlainRun, Phase, problem_phase, solution_phase, check_phase}
 use Rattle.tt_top.specs.Ends.{Agrees}
@@ -26,7 +27,7 @@ returns-in-Ok-clause-checks g c =
     (subst (λ (phase : Phase PlainRun). Agrees names phase r)
     (solution_same c.args.limit holds (g.F.Files.holds c.load_problem.new.files) names c.in-Ok.problem solution c.load_problem.ensures.same) (e.agrees names)))
     (reads_after c.args.limit holds _ (problem ∷ []) (Some solution) (has, tt)
-    (read_same (c.args.limit + 65536) holds (g.F.Files.holds c.load_problem.new.files) c.load_problem.ensures.same _ (Some solution) e.reads))
+    (read_same (c.args.limit + most_read) holds (g.F.Files.holds c.load_problem.new.files) c.load_problem.ensures.same _ (Some solution) e.reads))
     (λ ok. holds_after c.args.limit holds problem (Some solution) has (held_same c.args.limit holds (g.F.Files.holds c.load_problem.new.files) c.load_problem.ensures.same (Some solution) (e.fits (seen_ok names c.check_solution.result ok))))
 
 pub returns-in-Err-clause-checks : goal.returns-in-Err-clause-checks
