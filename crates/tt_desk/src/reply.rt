@@ -2,7 +2,7 @@
 
 ghost use Rattle.std.specs.Prelude.{◌≡◌, ◌<◌, ◌≤◌, ◌+◌, ◌++◌, [], IfOk, OnOk, OnErr, codes, decimal, length};
 ghost use Rattle.std.specs.List.{flat_map};
-ghost use Rattle.std.specs.Option.{option_copied, option_map_or};
+ghost use Rattle.std.specs.Option.{option_map_or};
 ghost use Rattle.tt_text.specs.Fields.{field};
 ghost use Rattle.tt_text.specs.Reply.{kept_bytes, most_digits};
 ghost use Rattle.tt_state.specs.History.{desk_of};
@@ -19,7 +19,7 @@ use std::alloc::{AllocError, Global};
 use tt_enrol::Enrolled;
 use tt_explain::{add_block, add_value};
 use tt_problem::Problem;
-use tt_published::Published;
+use tt_published::Aim;
 use tt_score::Totals;
 use tt_solution::{publish, write_published};
 use tt_state::State;
@@ -227,25 +227,20 @@ fn add_sets(reply: &mut Reply, problem: &Problem, moves: &[Move]) -> Result<(), 
 }
 
 // How many published classes are moved with a suggestion, while there is a published timetable.
-fn moved_then(published: Option<&Published>, suggestion: &Suggestion) -> Option<u32>
-    ensures { result ≡ moved_then (option_copied published.entry) suggestion.now }
+fn moved_then(aim: &Aim, suggestion: &Suggestion) -> Option<u32>
+    ensures { result ≡ moved_then aim.now suggestion.now }
 {
-    match published {
+    match aim.published() {
         None => None,
         Some(_) => Some(suggestion.moved),
     }
 }
 
 // Appends the line on what a suggestion comes to.
-fn add_result(
-    reply: &mut Reply,
-    published: Option<&Published>,
-    suggestion: &Suggestion,
-) -> Result<(), AllocError>
-    ensures { OnOk result
-        (reply.new ≡ reply.old ++ result_line (option_copied published.entry) suggestion.now) }
+fn add_result(reply: &mut Reply, aim: &Aim, suggestion: &Suggestion) -> Result<(), AllocError>
+    ensures { OnOk result (reply.new ≡ reply.old ++ result_line aim.now suggestion.now) }
 {
-    let moved = moved_then(published, suggestion);
+    let moved = moved_then(aim, suggestion);
     reply.field("result total ", suggestion.total)?;
     add_moved(reply, moved)
 }
@@ -255,17 +250,16 @@ fn add_result(
 fn add_best(
     reply: &mut Reply,
     problem: &Problem,
-    published: Option<&Published>,
+    aim: &Aim,
     best: &Option<Suggestion>,
 ) -> Result<(), AllocError>
-    ensures { OnOk result
-        (reply.new ≡ reply.old ++ best_lines problem.now (option_copied published.entry) best.now) }
+    ensures { OnOk result (reply.new ≡ reply.old ++ best_lines problem.now aim.now best.now) }
 {
     match best {
         None => reply.text("none\n"),
         Some(suggestion) => {
             add_sets(reply, problem, suggestion.moves.as_slice())?;
-            add_result(reply, published, suggestion)
+            add_result(reply, aim, suggestion)
         }
     }
 }
@@ -328,15 +322,15 @@ pub(crate) fn put_rounds(reply: &mut Reply, rounds: u32, changed: u32)
 pub(crate) fn add_suggested(
     reply: &mut Reply,
     problem: &Problem,
-    published: Option<&Published>,
+    aim: &Aim,
     found: &Suggested,
 ) -> Result<(), AllocError>
-    ensures { OnOk result (reply.new
-        ≡ reply.old ++ suggested_lines problem.now (option_copied published.entry) found.now) }
+    ensures { OnOk result
+        (reply.new ≡ reply.old ++ suggested_lines problem.now aim.now found.now) }
 {
     reply.field("tried ", u128::from(found.tried))?;
     reply.text("\n")?;
-    add_best(reply, problem, published, &found.best)
+    add_best(reply, problem, aim, &found.best)
 }
 
 impl Session {
