@@ -19,7 +19,7 @@ use std::alloc::{AllocError, Global};
 use tt_enrol::Enrolled;
 use tt_explain::{add_block, add_value};
 use tt_problem::Problem;
-use tt_published::Aim;
+use tt_published::{Aim, Published};
 use tt_score::Totals;
 use tt_solution::{publish, write_published};
 use tt_state::State;
