@@ -9,7 +9,7 @@ use crate::joint::JointRoster;
 use crate::making::new_groups;
 use crate::rules::{RuleSums, cost_of, set_in_rules};
 use crate::students::{conflicts_with, conflicts_without, students_with_courses, unsectioned_at};
-use crate::totals::{Penalties, Totals};
+use crate::totals::{Penalties, Totals, Without};
 use crate::trial::{costs_with, costs_without};
 use std::alloc::{AllocError, Global};
 use tt_bits::{Spot, Time, Value};
@@ -52,6 +52,7 @@ impl Score {
     ghost use Rattle.tt_score.specs.Forcing.{conflicts_at};
     ghost use Rattle.tt_score.specs.Totals.{totals_of};
     ghost use Rattle.tt_score.specs.Below.{below};
+    ghost use Rattle.tt_score.specs.Without.{without_at};
 
     /// The score where no class is placed, no student has a class, and nothing is closed. Only this
     /// call and `close` take memory.
@@ -365,44 +366,50 @@ impl Score {
         paid.total(self.weights, distribution, student)
     }
 
-    /// The student conflicts without a class.
-    pub fn conflicts_without(&mut self, problem: &Problem, class: u32) -> u64
+    /// What the total has without a class.
+    pub fn without(&mut self, problem: &Problem, class: u32) -> Without
         requires fits { Fits problem.now self.old }
         requires class { class < length problem.now.classes }
-        ensures conflicts { result
-            ≡ (totals_of problem.now (closures_of self.old)
-            (slice_set (plan_of self.old) class None) (student_lists self.old)).student }
+        ensures without { result
+            ≡ without_at problem.now (plan_of self.old) (student_lists self.old) class }
         ensures same { self.new ≡ self.old }
     {
         let has = self.spot(class);
-        conflicts_without(problem, &mut self.roster, class, has)
+        let student = conflicts_without(problem, &mut self.roster, class, has);
+        let distribution = self.costs_without(problem, class);
+        Without {
+            student,
+            distribution,
+        }
     }
 
-    /// The total with a class at a value, where it is below a bound. `others` are the student conflicts
-    /// without the class. What is cheap is asked first: the rules of the class only where the times,
-    /// the rooms, the other rules and the students who are sure don't come to the bound, and the
-    /// travel of its students only where the rules don't either. Nothing is changed.
+    /// The total with a class at a value, where it is below a bound. `without` is what it has without
+    /// the class. What is cheap is asked first: the rules of the class only where the times, the rooms,
+    /// the other rules and the students who are sure don't come to the bound, and the travel of its
+    /// students only where the rules don't either. Nothing is changed.
     pub fn trial_below(
         &mut self,
         problem: &Problem,
         class: u32,
         value: Value,
-        others: u64,
+        without: Without,
         bound: u128,
     ) -> Option<u128>
         requires fits { Fits problem.now self.old }
         requires value { IsOfDomain problem.now class value }
-        requires others { others
-            ≡ (totals_of problem.now (closures_of self.old)
-            (slice_set (plan_of self.old) class None) (student_lists self.old)).student }
+        requires without { without
+            ≡ without_at problem.now (plan_of self.old) (student_lists self.old) class }
         ensures total { result
             ≡ below bound (totals_of problem.now (closures_of self.old)
             (slice_set (plan_of self.old) class (Some value)) (student_lists self.old)).total }
         ensures same { self.new ≡ self.old }
     {
         problem.validity();
+        let Without {
+            student: others,
+            distribution: rest,
+        } = without;
         let paid = paid_with(problem, self.plan.as_slice(), class, value, self.classes);
-        let rest = self.costs_without(problem, class);
         if paid.total(self.weights, rest, others) >= bound {
             return None;
         }

@@ -1,12 +1,12 @@
 use Rattle.std.proofs.Common.{◌≡◌, subst, sym}
 use Rattle.tt_score.specs.Below.{below}
-use Rattle.tt_state.specs.Values.{conflicts_without, total_with}
+use Rattle.tt_state.specs.Values.{total_with, without_of}
 use Rattle.tt_state.specs.History.{Held}
 use Rattle.tt_state.proofs.state.State.trial_below.Goals as goal
 
-pub trial_below-requires-clause-others : goal.trial_below-requires-clause-others
-unfolding conflicts_without
-trial_below-requires-clause-others c = subst (λ (h : Held). c.args.others ≡ conflicts_without h.problem h.present c.args.class) (sym c.self.view_is) c.requires.others
+pub trial_below-requires-clause-without : goal.trial_below-requires-clause-without
+unfolding without_of
+trial_below-requires-clause-without c = subst (λ (h : Held). c.args.without ≡ without_of h.problem h.present c.args.class) (sym c.self.view_is) c.requires.without
 
 pub returns-clause-total : goal.returns-clause-total
 unfolding total_with
