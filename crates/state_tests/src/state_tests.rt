@@ -79,10 +79,10 @@ fn has_totals(state: &State) -> bool {
 // The total with the first class at its first time in a room, asked for below each of three bounds.
 fn trials_below(state: &mut State, room: u32, bounds: [u128; 3]) -> Option<[Option<u128>; 3]> {
     let value = value(state.problem(), 0, 1, Some(room))?;
-    let others = state.conflicts_without(0);
-    let first = state.trial_below(0, value, others, bounds[0]);
-    let second = state.trial_below(0, value, others, bounds[1]);
-    let third = state.trial_below(0, value, others, bounds[2]);
+    let without = state.without(0);
+    let first = state.trial_below(0, value, without, bounds[0]);
+    let second = state.trial_below(0, value, without, bounds[1]);
+    let third = state.trial_below(0, value, without, bounds[2]);
     Some([first, second, third])
 }
 

@@ -71,8 +71,8 @@ fn move_within(state: &mut State, class: u32, value: Value, level: u128) -> Resu
 {
     state.problem().validity();
     state.soundness();
-    let others = state.conflicts_without(class);
-    if state.trial_below(class, value, others, level + 1).is_none() {
+    let without = state.without(class);
+    if state.trial_below(class, value, without, level + 1).is_none() {
         return Ok(false);
     }
     state.place_step(class, Some(value))?;

@@ -5,7 +5,7 @@ ghost use Rattle.std.specs.Option.{option_map};
 ghost use Rattle.tt_plan.specs.Domain.{IsOfDomain};
 ghost use Rattle.tt_state.specs.History.{IsWithinStep, earlier, with_taken};
 ghost use Rattle.tt_state.specs.Snapshots.{value_in, with_value};
-ghost use Rattle.tt_state.specs.Values.{conflicts_without, total_with};
+ghost use Rattle.tt_state.specs.Values.{total_with, without_of};
 ghost use Rattle.tt_improve.specs.Classes.{is_free, moved_class, total_of};
 ghost use Rattle.tt_improve.specs.Below.{better};
 ghost use Rattle.tt_improve.specs.Standing.{IsLower, IsMovable, IsNoWorse};
@@ -13,6 +13,7 @@ ghost use Rattle.tt_improve.specs.Standing.{IsLower, IsMovable, IsNoWorse};
 use std::alloc::AllocError;
 use tt_bits::Value;
 use tt_plan::{domain_size, value_at};
+use tt_score::Without;
 use tt_state::State;
 
 // The best value so far, if there is one, and its total. Only a total below this is better.
@@ -29,13 +30,13 @@ fn has_value(state: &State, class: u32, value: Value) -> bool
     state.score().value(class) == Some(value)
 }
 
-// The best once a value was looked at. `others` are the student conflicts without the class. With the
-// value that the class has the total is the present one, so this is left out. Whether the value is
+// The best once a value was looked at. `without` is what the total has without the class. With
+// the value that the class has the total is the present one, so this is left out. Whether the value is
 // blocked, and then its conflict set, is asked for only where the total is lower.
 #[tactic(auto, using(crate::proofs::ClassLemmas::none_within))]
-fn look_at(state: &mut State, class: u32, value: Value, others: u64, best: Best) -> Best
+fn look_at(state: &mut State, class: u32, value: Value, without: Without, best: Best) -> Best
     requires value { IsOfDomain state.old.problem class value }
-    requires others { others ≡ conflicts_without state.old.problem state.old.present class }
+    requires without { without ≡ without_of state.old.problem state.old.present class }
     requires low { best.total ≤ total_of state.old.problem state.old.present }
     ensures problem { state.new.problem ≡ state.old.problem }
     ensures present { state.new.present ≡ state.old.present }
@@ -47,7 +48,7 @@ fn look_at(state: &mut State, class: u32, value: Value, others: u64, best: Best)
     if has_value(state, class, value) {
         return best;
     }
-    let Some(total) = state.trial_below(class, value, others, best.total) else {
+    let Some(total) = state.trial_below(class, value, without, best.total) else {
         return best;
     };
     if state.blocked(class, value).is_some() {
@@ -77,10 +78,10 @@ fn lower_value(state: &mut State, class: u32) -> Option<Value>
         total: state.totals().total,
         value: None,
     };
-    let others = state.conflicts_without(class);
+    let without = state.without(class);
     for k in 0..domain_size(state.problem(), class) {
         let value = value_at(state.problem(), class, k);
-        best = look_at(state, class, value, others, best);
+        best = look_at(state, class, value, without, best);
     }
     best.value
 }

@@ -3,7 +3,7 @@
 ghost use Rattle.std.specs.Prelude.{◌≡◌, ◌+◌, ◌<◌, ◌≤◌, ◌∷◌, ◌++◌, [], ℕ, All, List, None, Some, IfNone, IfOk, IfSome, drop, length, slice_get, vec_capacity};
 ghost use Rattle.tt_draw.specs.Words.{drawn};
 ghost use Rattle.tt_plan.specs.Domain.{IsOfDomain, domain_of};
-ghost use Rattle.tt_state.specs.Values.{conflicts_without, total_with};
+ghost use Rattle.tt_state.specs.Values.{total_with, without_of};
 ghost use Rattle.tt_search.specs.Numbers.{price_numbers};
 ghost use Rattle.tt_search.specs.PlaceTurns.{all_least};
 ghost use Rattle.tt_search.specs.LeastNow.{AreKept, AreLightest, HasRoom, total_numbers};
@@ -58,17 +58,17 @@ fn most_values(problem: &Problem) -> u32
     most
 }
 
-// The total with a class at a value, and none where it is above the least so far. `others` are the
-// student conflicts without the class.
+// The total with a class at a value, and none where it is above the least so far. `without` is what it
+// has without the class.
 fn total_up_to(
     state: &mut State,
     class: u32,
     value: Value,
-    others: u64,
+    without: Without,
     least: Option<u128>,
 ) -> Option<u128>
     requires value { IsOfDomain state.old.problem class value }
-    requires others { others ≡ conflicts_without state.old.problem state.old.present class }
+    requires without { without ≡ without_of state.old.problem state.old.present class }
     ensures same { state.new ≡ state.old }
     ensures total { IfSome result
         (λ total. total ≡ total_with state.old.problem state.old.present class value) }
@@ -79,7 +79,7 @@ fn total_up_to(
 {
     match least.and_then(|total| total.checked_add(1)) {
         None => Some(state.trial(class, value)),
-        Some(bound) => state.trial_below(class, value, others, bound),
+        Some(bound) => state.trial_below(class, value, without, bound),
     }
 }
 
@@ -148,10 +148,17 @@ impl LeastValues {
     }
 
     // Keeps a value behind those kept so far, unless its total is above theirs. Where it is below, they
-    // go. `others` are the student conflicts without the class.
-    fn keep(&mut self, state: &mut State, class: u32, others: u64, value: Value, kept: Kept) -> Kept
+    // go. `without` is what the total has without the class.
+    fn keep(
+        &mut self,
+        state: &mut State,
+        class: u32,
+        without: Without,
+        value: Value,
+        kept: Kept,
+    ) -> Kept
         requires value { IsOfDomain state.old.problem class value }
-        requires others { others ≡ conflicts_without state.old.problem state.old.present class }
+        requires without { without ≡ without_of state.old.problem state.old.present class }
         requires within { kept.count < length self.old.values.items }
         ensures same { state.new ≡ state.old }
         ensures room { vec_capacity self.new.values ≡ vec_capacity self.old.values }
@@ -166,7 +173,7 @@ impl LeastValues {
             → AreKept (total_numbers state.old.problem state.old.present class)
             (xs ++ value ∷ []) self.new.values.items result }
     {
-        let Some(total) = total_up_to(state, class, value, others, kept.total) else {
+        let Some(total) = total_up_to(state, class, value, without, kept.total) else {
             return kept;
         };
         let count = kept.staying(total);
@@ -192,14 +199,14 @@ impl LeastValues {
         if self.values.len() < 2 {
             return;
         }
-        let others = state.conflicts_without(class);
+        let without = state.without(class);
         let mut kept = Kept {
             count: 0,
             total: None,
         };
         for place in 0..self.values.len() {
             let value = self.values[place];
-            kept = self.keep(state, class, others, value, kept);
+            kept = self.keep(state, class, without, value, kept);
         }
         self.values.truncate(kept.count);
     }

@@ -64,8 +64,8 @@ impl Suggested {
         let Some(bound) = self.bound() else {
             return Some(state.trial(class, value));
         };
-        let others = state.conflicts_without(class);
-        state.trial_below(class, value, others, bound)
+        let without = state.without(class);
+        state.trial_below(class, value, without, bound)
     }
 
     // Takes the suggestion that a branch gives with its class at a value, if it is better than what

@@ -13,8 +13,8 @@ pub returns-then-is_none-clause-round : goal.returns-then-is_none-clause-round
 returns-then-is_none-clause-round c =
     let h = c.args.state.now in
     let next : Snapshot = with_value h.present c.args.class (Some c.args.value) in
-    let same : c.trial_below.new.self ≡ h = c.trial_below.ensures.same ∙ c.conflicts_without-others.ensures.same in
-    let total = rw c.conflicts_without-others.ensures.same at c.trial_below.ensures.total in
+    let same : c.trial_below.new.self ≡ h = c.trial_below.ensures.same ∙ c.without-without.ensures.same in
+    let total = rw c.without-without.ensures.same at c.trial_below.ensures.total in
     let high : nat_le (total_of h.problem next) c.args.level ≡ false = tried-high h.problem h.present c.args.class c.args.value c.args.level c.trial_below.result total (none-tried c.trial_below.result c.if-is_none.ensures) in
     round-left c.args.level (Some next) (with_taken h []) (with_taken c.trial_below.new.self []) (change-left h.problem c.args.level next high) (ap (λ (x : Held). x.present) same) (ap trail same)
 
@@ -23,8 +23,8 @@ returns-clause-round c =
     let h = c.args.state.now in
     let end = c.place_step.new.self in
     let next : Snapshot = with_value h.present c.args.class (Some c.args.value) in
-    let same : c.trial_below.new.self ≡ h = c.trial_below.ensures.same ∙ c.conflicts_without-others.ensures.same in
-    let total = rw c.conflicts_without-others.ensures.same at c.trial_below.ensures.total in
+    let same : c.trial_below.new.self ≡ h = c.trial_below.ensures.same ∙ c.without-without.ensures.same in
+    let total = rw c.without-without.ensures.same at c.trial_below.ensures.total in
     let low : nat_le (total_of h.problem next) c.args.level ≡ true = tried-low h.problem h.present c.args.class c.args.value c.args.level c.trial_below.result total (some-tried c.trial_below.result c.if-is_none.ensures) in
     let present : end.present ≡ next = ap (λ (d : Desk). d.present) c.in_ok-place_step.ensures.desk ∙ ap (λ (x : Held). with_value x.present c.args.class (Some c.args.value)) same in
     let added : trail end ≡ trail h ++ end.present ∷ [] = c.in_ok-place_step.ensures.trail ∙ ap (λ (x : Held). trail x ++ end.present ∷ []) same in

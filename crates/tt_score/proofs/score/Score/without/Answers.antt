@@ -2,7 +2,6 @@ use Rattle.std.proofs.Common.{◌∙◌, ap, sym, refl}
 use Rattle.tt_bits.specs.Spots.{spot_at}
 use Rattle.tt_roster.specs.Conflicts.{student_conflicts}
 use Rattle.tt_score.specs.Apart.{cost_sum_without}
-use Rattle.tt_score.specs.declared.totals.Without.{Without}
 use Rattle.tt_score.proofs.TriedLemmas.{spots_without}
 use Rattle.tt_score.proofs.score.Score.without.Goals as goal
 
