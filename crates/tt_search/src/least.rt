@@ -14,6 +14,7 @@ use tt_bits::Value;
 use tt_draw::draw;
 use tt_plan::domain_size;
 use tt_problem::Problem;
+use tt_score::Without;
 use tt_state::State;
 
 // The values of a class with the least price so far, in the order of its domain, and this price. There

@@ -43,6 +43,7 @@ fn main(rt: HostRuntime) -> ExitCode {
         Ok(words) => run_watched(alloc, &words, &mut files, &mut out, &mut watcher),
         Err(end) => end.status(),
     };
+    // Status 6 is that of the output. Where a call failed with another status, it was one on files.
     let error = if status == 6 {
         out.error()
     } else {
