@@ -7,6 +7,8 @@ use Rattle.tt_pair.specs.declared.Listed.TheVariants.{Before, After}
 use Rattle.tt_pair.specs.Listed.{is_violated_by}
 use Rattle.tt_base.specs.Lists.{is_listed}
 use Rattle.tt_travel.specs.Table.{Table}
+use Rattle.tt_occupancy.specs.Clashes.{clashes_in_room}
+use Rattle.tt_occupancy.specs.RoomDays.{is_on}
 use Rattle.tt_clash.specs.declared.placing as code
 use Rattle.tt_clash.specs.Placings.{Placing, placing_of}
 use Rattle.tt_clash.specs.ConflictSet.{passes, breaks_pair, out_for}
@@ -41,6 +43,19 @@ spots_left s list members = map (spot_unless (is_out s.class list) s.occupancy.n
 -- the listed classes, and behind them those that have to go for the rule of a group
 abbrev pub with_group : {M : Type 0} → (shape : M → List ℕ) → (sum : List ℕ → Table → List (Option Spot) → ℕ) → code.Placing.Placing → M → (members list : List ℕ) → List ℕ
 with_group shape sum s group members list = list ++ out_for (sum (shape group) s.problem.now.travel) members (placing_of s) list
+
+-- each listed class has a spot that overlaps in the room
+abbrev pub AreClashing : code.Placing.Placing → List ℕ → Type 0
+AreClashing s list = (d : ℕ) → is_listed d list ≡ true → clashes_in_room s.occupancy.now.spots s.class s.spot d ≡ true
+
+-- each class in the room on a day whose spot overlaps is listed
+abbrev pub AreListedOn : code.Placing.Placing → (day : ℕ) → List ℕ → Type 0
+AreListedOn s day list =
+    (d : ℕ) → is_on s.spot.room day (spot_at s.occupancy.now.spots d) ≡ true → clashes_in_room s.occupancy.now.spots s.class s.spot d ≡ true → is_listed d list ≡ true
+
+-- each class that was listed is listed
+abbrev pub AreStillListed : (old new : List ℕ) → Type 0
+AreStillListed old new = (d : ℕ) → is_listed d old ≡ true → is_listed d new ≡ true
 
 -- The listed classes pass the test; and all that pass are listed, where no more than `most` are.
 pub record AreListedWithin (most : ℕ) (test : ℕ → Bool) (list : List ℕ) : Type 0 where

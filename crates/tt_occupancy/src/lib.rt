@@ -1,13 +1,14 @@
 //! Where classes stand: the spots of the placed classes, and which of them clash in a room.
-//! Whatever calls were made, each number is the count over the spots held, and `classes_in` gives
-//! the placed classes of a room, in order.
+//! Whatever calls were made, each number is the count over the spots held, `classes_in` gives the
+//! placed classes of a room and `classes_on` those that meet there on a day, in order.
 #![tactic(auto)]
 
-ghost use Rattle.std.specs.Prelude.{◌≡◌, ◌<◌, ◌≤◌, ◌&&◌, nat_lt, min, max, Some, None, IsSome, IfOk, IfSome, length, replicate, slice_set, []};
+ghost use Rattle.std.specs.Prelude.{◌≡◌, ◌<◌, ◌≤◌, ◌+◌, ◌*◌, ◌&&◌, nat_lt, min, max, Some, None, IsSome, IfOk, IfSome, length, replicate, slice_set, []};
 ghost use Rattle.std.specs.Option.{option_map_or};
 ghost use Rattle.tt_bits.specs.Spots.{spot_at, IsEmptyAt};
 ghost use Rattle.tt_bits.specs.Times.{shares_day, end_of};
 ghost use Rattle.tt_occupancy.specs.Rooms.{classes_in, AreListed};
+ghost use Rattle.tt_occupancy.specs.RoomDays.{classes_on, AreOnDays};
 ghost use Rattle.tt_occupancy.specs.Clashes.{clash, clashes_in_room, clash_pairs, clash_count};
 
 use std::alloc::{AllocError, Global};
@@ -21,6 +22,8 @@ pub struct Occupancy {
     spots: Vec<Option<Spot>>,
     // The placed classes of each room, in order.
     by_room: Pool,
+    // The placed classes of each room on each day of the week, in order: 7 lists for each room.
+    by_day: Pool,
     rooms: u32,
     clashes: u64,
 }
@@ -44,15 +47,17 @@ impl Occupancy {
         ensures spots { IfOk result (λ o. o.spots ≡ replicate classes None) }
         ensures rooms { IfOk result (λ o. o.rooms ≡ rooms) }
     {
-        if classes == u32::MAX {
-            // More than a pool finds room for.
+        if classes > 600_000_000 {
+            // More than a pool finds room for on 7 days.
             return Err(AllocError);
         }
         let spots = vec![in alloc; None; classes as usize]?;
         let by_room = Pool::new(alloc, rooms, classes)?;
+        let by_day = Pool::new(alloc, rooms * 7, classes * 7)?;
         Ok(Occupancy {
             spots,
             by_room,
+            by_day,
             rooms,
             clashes: 0,
         })
@@ -67,6 +72,7 @@ impl Occupancy {
     {
         let more = self.clashes_with(spot, class);
         self.clashes += more;
+        enter_days(self.spots.as_slice(), &mut self.by_day, class, spot);
         enter(self.spots.as_mut_slice(), &mut self.by_room, class, spot);
     }
 
@@ -82,6 +88,7 @@ impl Occupancy {
         };
         let less = self.clashes_with(spot, class);
         self.clashes -= less;
+        leave_days(self.spots.as_slice(), &mut self.by_day, class, spot);
         leave(self.spots.as_mut_slice(), &mut self.by_room, class, spot);
         spot
     }
@@ -124,6 +131,21 @@ impl Occupancy {
         let room = room?;
         if room < self.rooms {
             Some(self.by_room.items(room))
+        } else {
+            None
+        }
+    }
+
+    /// The placed classes that have a room on a day of the week, in order. `None` stands for no
+    /// classes.
+    pub fn classes_on(&self, room: Option<u32>, day: u8) -> Option<Items>
+        requires { day < 7 }
+        ensures { option_map_or (λ classes. classes) result []
+            ≡ classes_on self.now.spots room day }
+    {
+        let room = room?;
+        if room < self.rooms {
+            Some(self.by_day.items(room * 7 + u32::from(day)))
         } else {
             None
         }
@@ -195,5 +217,43 @@ fn leave(spots: &mut [Option<Spot>], by_room: &mut Pool, class: u32, spot: Spot)
     match spot.room {
         None => {}
         Some(room) => by_room.remove_item(room, class),
+    }
+}
+
+// Puts a class that has no spot into the list of its room on each day of the spot that it gets.
+fn enter_days(spots: &[Option<Spot>], by_day: &mut Pool, class: u32, spot: Spot)
+    requires listed { AreOnDays spots.now by_day.old }
+    requires place { IsEmptyAt spots.now class }
+    requires room { IfSome spot.room (λ room. room * 7 + 7 ≤ length by_day.old.lists) }
+    requires few { length by_day.old.lists ≤ 17500 }
+    ensures listed { AreOnDays (slice_set spots.now class (Some spot)) by_day.new }
+    ensures rooms { length by_day.new.lists ≡ length by_day.old.lists }
+{
+    let Some(room) = spot.room else {
+        return;
+    };
+    for day in 0..7 {
+        if spot.time.days.has(day) {
+            by_day.insert_in_order(room * 7 + u32::from(day), class);
+        }
+    }
+}
+
+// Takes a class out of the list of its room on each day of the spot that it loses.
+fn leave_days(spots: &[Option<Spot>], by_day: &mut Pool, class: u32, spot: Spot)
+    requires listed { AreOnDays spots.now by_day.old }
+    requires place { spot_at spots.now class ≡ Some spot }
+    requires room { IfSome spot.room (λ room. room * 7 + 7 ≤ length by_day.old.lists) }
+    requires few { length by_day.old.lists ≤ 17500 }
+    ensures listed { AreOnDays (slice_set spots.now class None) by_day.new }
+    ensures rooms { length by_day.new.lists ≡ length by_day.old.lists }
+{
+    let Some(room) = spot.room else {
+        return;
+    };
+    for day in 0..7 {
+        if spot.time.days.has(day) {
+            by_day.remove_item(room * 7 + u32::from(day), class);
+        }
     }
 }
