@@ -1,19 +1,26 @@
 //! Tests of where classes stand and clash.
 
-ghost use Rattle.std.specs.Prelude.{◌≡◌, ◌≤◌, None, IfSome, replicate};
+ghost use Rattle.std.specs.Prelude.{◌≡◌, ◌<◌, ◌≤◌, None, IfSome, replicate};
 
 use std::alloc::{AllocError, Global};
 use std::test::Fail;
 use tt_bits::{Days, Spot, Time, Weeks};
 use tt_occupancy::{Occupancy, clashes_in_room};
 
-// A spot of 5 slots on both of two days.
+// A spot of 5 slots on some of three days.
+fn spot_on(days: &str, weeks: &str, start: u16, room: Option<u32>) -> Option<Spot>
+    ensures { IfSome result (λ x. x.room ≡ room) }
+{
+    let (days, weeks) = (Days::read(days, 3)?, Weeks::read(weeks, 2)?);
+    let time = Time::new(days, weeks, start, 5)?;
+    Some(Spot { time, room })
+}
+
+// A spot of 5 slots on the first two days.
 fn spot(weeks: &str, start: u16, room: Option<u32>) -> Option<Spot>
     ensures { IfSome result (λ x. x.room ≡ room) }
 {
-    let (days, weeks) = (Days::read("11", 2)?, Weeks::read(weeks, 2)?);
-    let time = Time::new(days, weeks, start, 5)?;
-    Some(Spot { time, room })
+    spot_on("110", weeks, start, room)
 }
 
 // The clashes of two classes that share several cells, of one of them alone, and of that one and a class
@@ -95,6 +102,50 @@ fn the_class_that_is_left_out_is_not_counted(rt: HostRuntime) -> Result<(), Fail
     let shown = clashes_but_one(&mut occupancy);
     drop(occupancy);
     assert!(rt; shown == Some(([2, 1], [true, false])));
+    Ok(())
+}
+
+// The first two classes of a room on a day.
+fn two_on(occupancy: &Occupancy, room: Option<u32>, day: u8) -> [Option<u32>; 2]
+    requires { day < 7 }
+{
+    let Some(mut classes) = occupancy.classes_on(room, day) else {
+        return [None, None];
+    };
+    [classes.next(), classes.next()]
+}
+
+// Who is in a room on each of three days, where class 2 meets there on two of them and class 0 on one;
+// who is there on that day once class 2 has gone, and who in no room.
+fn classes_on_days(occupancy: &mut Occupancy) -> Option<[[Option<u32>; 2]; 5]>
+    requires spots { occupancy.old.spots ≡ replicate 3 None }
+    requires rooms { occupancy.old.rooms ≡ 2 }
+{
+    let twice = spot_on("110", "11", 10, Some(1))?;
+    let once = spot_on("010", "01", 30, Some(1))?;
+    occupancy.put(2, twice);
+    occupancy.put(0, once);
+    let [first, second, third] = [
+        two_on(occupancy, Some(1), 0),
+        two_on(occupancy, Some(1), 1),
+        two_on(occupancy, Some(1), 2),
+    ];
+    if occupancy.take(2) != twice {
+        return None;
+    }
+    let left = two_on(occupancy, Some(1), 1);
+    Some([first, second, third, left, two_on(occupancy, None, 1)])
+}
+
+#[test]
+fn a_class_is_on_each_of_its_days_until_it_goes(rt: HostRuntime) -> Result<(), Fail> {
+    let mut occupancy = Occupancy::new(rt.alloc(), 3, 2)?;
+    let shown = classes_on_days(&mut occupancy);
+    drop(occupancy);
+    let nobody = [None, None];
+    let both = [Some(0), Some(2)];
+    let wanted = [[Some(2), None], both, nobody, [Some(0), None], nobody];
+    assert!(rt; shown == Some(wanted));
     Ok(())
 }
 
