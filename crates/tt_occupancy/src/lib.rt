@@ -182,9 +182,10 @@ fn may_overlap(a: &Time, b: &Time) -> bool
         ≡ (shares_day a.now b.now
         && nat_lt (max a.now.start b.now.start) (min (end_of a.now) (end_of b.now))) }
 {
-    let days = u16::from(a.days.share(b.days));
-    let slots = a.end().min(b.end()).saturating_sub(a.start.max(b.start));
-    days.min(slots) > 0
+    // Below 0 it is a number above all slots.
+    let behind = u32::from(b.end()).wrapping_sub(u32::from(a.start) + 1);
+    let slots = u32::from(a.length) + u32::from(b.length) - 1;
+    a.days.share(b.days) && behind < slots
 }
 
 // Gives a class that has no spot this one, and puts it into the list of its room.
