@@ -188,10 +188,10 @@ module _ (p : Parts) (s : Snapshot) (student course : ℕ) (valid : IsValid p) (
       by true is = at_most total others adds had (total_of p (with_list s student (classes_in_order (rest ++ choice)))) level replaced_is others_are low (leb-true others (level - adds) is)
       by false is = above total others adds had (total_of p (with_list s student (classes_in_order (rest ++ choice)))) level replaced_is others_are (omega (arith, past others (level - adds) is, low))
 
-  not_below : (m n : ℕ) → n < m → nat_le m n ≡ false
-  not_below m n lt = grind (arith, nat_tests)
-
-  pub level_past : (level : ℕ) → level < adds → nat_le adds level ≡ nat_le (total_of p (with_list s student (classes_in_order (rest ++ choice)))) level
+  pub level_past : (level : ℕ) → level < adds → false ≡ nat_le (total_of p (with_list s student (classes_in_order (rest ++ choice)))) level
   level_past level high =
-      not_below adds level high
-      ∙ above total (total - had) adds had (total_of p (with_list s student (classes_in_order (rest ++ choice)))) level replaced_is (omega (arith, had_low)) (omega (arith, high))
+      above total (total - had) adds had (total_of p (with_list s student (classes_in_order (rest ++ choice)))) level replaced_is (omega (arith, had_low)) (omega (arith, high))
+
+  pub level_low : (level : ℕ) → adds ≤ level → total ≤ level - adds → true ≡ nat_le (total_of p (with_list s student (classes_in_order (rest ++ choice)))) level
+  level_low level fits low =
+      at_most total (total - had) adds had (total_of p (with_list s student (classes_in_order (rest ++ choice)))) level replaced_is (omega (arith, had_low)) fits (omega (arith, low))

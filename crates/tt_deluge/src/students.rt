@@ -41,7 +41,7 @@ fn fits_beside(problem: &Problem, rest: &[u32], so_far: &[u32], class: u32) -> b
 {
     match problem.class(class).parent {
         None => true,
-        Some(parent) => rest.contains(&parent) || so_far.contains(&parent),
+        Some(parent) => so_far.contains(&parent) || rest.contains(&parent),
     }
 }
 
@@ -216,10 +216,16 @@ fn is_within(
     state.problem().validity();
     let weight = u128::from(state.problem().weights().student);
     let rest = buffers.rest.as_slice();
-    let had = weight * u128::from(pairs_of(state, student, rest, buffers.own.as_slice()));
     let adds = weight * u128::from(pairs_of(state, student, rest, buffers.choice.as_slice()));
-    let others = state.totals().total - had;
-    adds <= level && others <= level - adds
+    if level < adds {
+        return false;
+    }
+    let total = state.totals().total;
+    if total <= level - adds {
+        return true;
+    }
+    let had = weight * u128::from(pairs_of(state, student, rest, buffers.own.as_slice()));
+    total - had <= level - adds
 }
 
 // Replaces a student's own classes of a course by the drawn choice, in the last step, where it differs
