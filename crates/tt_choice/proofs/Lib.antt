@@ -9,6 +9,7 @@ pub mod Steps
 pub mod Order
 pub mod CourseLemmas
 pub mod AheadLemmas
+pub mod PriceLemmas
 pub mod LeastLemmas
 pub mod LengthLemmas
 pub mod CountLemmas

@@ -20,6 +20,14 @@ use Rattle.tt_choice.proofs.Order.{all-weaken}
 use Rattle.tt_choice.proofs.PairLemmas.{pairs_added-join}
 use Rattle.tt_choice.proofs.Walked.{IsHopeless}
 
+no_less : (m n k : ℕ) → m ≤ n → nat_lt m k ≡ false → nat_lt n k ≡ false
+no_less m n k le h = grind (arith, nat_tests)
+
+-- more pairs than some that aren't fewer aren't fewer
+pub no_fewer : (found : Option Found) (m n : ℕ) → m ≤ n → has_fewer found m ≡ false → has_fewer found n ≡ false
+no_fewer None m n le h = h
+no_fewer (Some f) m n le h = no_less m n f.pairs le h
+
 module _ (s : Situation) (found : Option Found) (front : List ℕ) (rest : List Span) where
   none-vain : AllByRecursion (λ choice. is_allowed s (front ++ choice) ≡ false) (choices_of rest) → IsInVain s found front rest
   none-vain h = record {
@@ -35,7 +43,7 @@ module _ (s : Situation) (found : Option Found) (front : List ℕ) (rest : List 
   pub barred-vain : (k : ℕ) → k < length front → may_come s front rest (get_or front k 0) ≡ false → IsInVain s found front rest
   barred-vain k lt h = none-vain (barred-none s front rest k lt h)
 
-  seats_of : (choice : List ℕ) → is_allowed s (front ++ choice) ≡ true → list_all s.has_seat choice ≡ true
+  pub seats_of : (choice : List ℕ) → is_allowed s (front ++ choice) ≡ true → list_all s.has_seat choice ≡ true
   seats_of choice h =
       let whole = front ++ choice in
       let parts = and_parts (may_be_taken s whole) (list_all (has_parent_with s whole) s.wanting) h in
@@ -55,13 +63,6 @@ module _ (s : Situation) (found : Option Found) (front : List ℕ) (rest : List 
         no_fewer found total (pairs_added s (front ++ choice)) (omega arith) many)
         (choices_of rest) sure.each between.each;
   }
-    where
-      no_less : (m n k : ℕ) → m ≤ n → nat_lt m k ≡ false → nat_lt n k ≡ false
-      no_less m n k le h = grind (arith, nat_tests)
-
-      no_fewer : (found : Option Found) (m n : ℕ) → m ≤ n → has_fewer found m ≡ false → has_fewer found n ≡ false
-      no_fewer None m n le h = h
-      no_fewer (Some f) m n le h = no_less m n f.pairs le h
 
 -- nothing is sure between both, at first
 pub across-zero : (s : Situation) (front : List ℕ) (rest : List Span) → IsAcross s front rest 0

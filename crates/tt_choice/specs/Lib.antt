@@ -6,6 +6,7 @@ pub mod Situations
 pub mod Standings
 pub mod Found
 pub mod Ahead
+pub mod Priced
 pub mod Open
 pub mod Tables
 pub mod Ready
