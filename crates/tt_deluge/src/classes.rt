@@ -72,7 +72,10 @@ fn move_within(state: &mut State, class: u32, value: Value, level: u128) -> Resu
     state.problem().validity();
     state.soundness();
     let without = state.without(class);
-    if state.trial_below(class, value, without, level + 1).is_none() {
+    if state
+        .trial_below(class, value, without, level + 1)
+        .is_none()
+    {
         return Ok(false);
     }
     state.place_step(class, Some(value))?;
