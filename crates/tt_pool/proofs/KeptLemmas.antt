@@ -12,7 +12,7 @@ use Rattle.tt_pool.specs.declared.chain.Node.{Node}
 use Rattle.tt_pool.specs.declared.chain.Chain.{Chain}
 use Rattle.tt_pool.specs.declared.places.Place.{Place}
 use Rattle.tt_pool.specs.Chains.{no_link, item_of, after, chain_of, uses, IsPlace, LeadsBack}
-use Rattle.tt_pool.specs.Pools.{chains_of, lists_of, no_chain, chain_at, place_in, IsPool, IsBacked, IsFresh, IsKept}
+use Rattle.tt_pool.specs.Pools.{chains_of, lists_of, no_chain, chain_at, place_in, IsPool, IsBacked, IsFresh, IsKept, node_bound}
 use Rattle.tt_pool.proofs.Paths.{on_way, path-get_or}
 use Rattle.tt_pool.proofs.Search.{item-get_or, found_at}
 use Rattle.tt_pool.proofs.EndLemmas.{list_is_chain, node_place}
@@ -95,7 +95,7 @@ chains_of-empty nodes (suc n) = ap (λ (t : List (List ℕ)). [] ∷ t) (chains_
 leads-empty : (n end : ℕ) → LeadsBack (replicate n no_link) end []
 leads-empty n end = ap (λ (link : Link). link.0 ∷ []) (get_or-replicate_default n end no_link)
 
-pub IsKept-fresh : (nodes : List Node) (n lists : ℕ) → IsFresh nodes n → n < 4294967295
+pub IsKept-fresh : (nodes : List Node) (n lists : ℕ) → IsFresh nodes n → n < node_bound
     → IsKept nodes (replicate lists no_chain) (replicate (n + lists) no_link) (record { first = record { 0 = 0 }; len = n }) true
 IsKept-fresh nodes n lists s few = record {
   pool = IsPool-fresh nodes n lists s few;

@@ -3,7 +3,7 @@
 ghost use Rattle.std.specs.Prelude.{◌≡◌, ℕ, ◌+◌, ◌<◌, ◌≤◌, [], ◌++◌, length, slice_index, slice_index_or, slice_set};
 ghost use Rattle.std.specs.List.{insert, remove};
 ghost use Rattle.tt_pool.specs.Chains.{after, chain_of, uses, IsChain, IsPlace, IsNodeAt, ArePair, KeepsOthers, KeepsItems};
-ghost use Rattle.tt_pool.specs.Pools.{chain_at, chains_of, lists_of, IsPool, IsBacked};
+ghost use Rattle.tt_pool.specs.Pools.{chain_at, chains_of, lists_of, IsPool, IsBacked, node_bound};
 
 use crate::places::{Place, back_from, behind_node, node_at};
 
@@ -43,7 +43,7 @@ fn attach(nodes: &mut [Node], chain: Chain, place: Place, node: Link) -> Chain
     requires node { node.0 < length nodes.old }
     requires new { uses node.0 (chain_of nodes.old chain) ≡ 0 }
     requires place { IsPlace nodes.old chain place }
-    requires room { chain.len < 4294967295 }
+    requires room { chain.len < node_bound }
     ensures chain { chain_of nodes.new result ≡ insert (chain_of nodes.old chain) place.at node.0 }
     ensures len { result.len ≡ chain.len + 1 }
     ensures others { KeepsOthers (insert (chain_of nodes.old chain) place.at node.0) nodes.old
@@ -108,7 +108,7 @@ fn transfer(
     requires chains { ArePair nodes.old (chain_of nodes.old from) (chain_of nodes.old to) }
     requires node { IsNodeAt nodes.old from at node before }
     requires place { IsPlace nodes.old to place }
-    requires room { to.len < 4294967295 }
+    requires room { to.len < node_bound }
     ensures from { chain_of nodes.new result.from ≡ remove (chain_of nodes.old from) at }
     ensures to { chain_of nodes.new result.to ≡ insert (chain_of nodes.old to) place.at node.0 }
     ensures less { result.from.len + 1 ≡ from.len }

@@ -8,7 +8,7 @@ ghost use Rattle.std.specs.Prelude.{◌≡◌, ℕ, ◌==◌, ◌+◌, ◌<◌, 
 ghost use Rattle.std.specs.List.{insert, remove, position_or_len};
 ghost use Rattle.std.specs.Iterator.{YieldsFirst, item_count};
 ghost use Rattle.tt_pool.specs.Chains.{after, path, item_of};
-ghost use Rattle.tt_pool.specs.Pools.{Pooled, list_at, nodes_at, lists_of, KeepsNodes};
+ghost use Rattle.tt_pool.specs.Pools.{Pooled, list_at, nodes_at, lists_of, KeepsNodes, node_bound};
 
 mod chain;
 mod order;
@@ -52,7 +52,7 @@ impl Model for Pool {
 impl Pool {
     /// Empty lists, with room for so many items.
     pub fn new(alloc: Global, lists: u32, nodes: u32) -> Result<Pool, AllocError>
-        requires { nodes < 4294967295 }
+        requires { nodes < node_bound }
         ensures lists { IfOk result (λ p. p.lists ≡ replicate lists []) }
         ensures nodes { IfOk result (λ p. p.nodes ≡ replicate lists []) }
         ensures spare { IfOk result (λ p. p.spare ≡ nodes) }
@@ -219,7 +219,7 @@ impl Pool {
     pub fn items(&self, list: u32) -> Items
         requires { list < length self.now.lists }
         ensures items { result ≡ list_at self.now list }
-        ensures few { length result < 4294967295 }
+        ensures few { length result < node_bound }
     {
         let chain = self.lists[list as usize];
         Items {
