@@ -9,6 +9,10 @@ use Rattle.tt_score.specs.Rows.{kept_row, pair_at}
 use Rattle.tt_score.specs.declared.rows.JointClass.{JointClass}
 use Rattle.tt_score.specs.declared.table.TableRow.TheInside.{Inside}
 
+-- the most classes of a problem whose rows are changed in place
+abbrev pub most_in_place : ℕ
+most_in_place = 512
+
 -- of how many classes a row is, and its pairs, where these are kept
 pub record RowSeen : Type 0 where
   pub classes : ℕ
@@ -21,7 +25,7 @@ row_seen row = record { classes = length row.places.items; pairs = cond row.kept
 pub record HasPairs (row : Inside) : Type 0 where
   pub few : length row.pairs.items ≤ length row.places.items
   pub room : length row.places.items ≤ vec_capacity row.pairs
-  pub small : length row.places.items ≤ 512
+  pub small : length row.places.items ≤ most_in_place
 
 -- the numbers of the classes that pass a test, together
 abbrev pub numbers_where : (g : ℕ → Bool) → List JointClass → ℕ

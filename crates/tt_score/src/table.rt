@@ -3,7 +3,7 @@
 ghost use Rattle.std.specs.Prelude.{◌≡◌, ℕ, ◌<◌, ◌≤◌, ◌^◌, All, IfOk, IfSome, IsSome, IsSomeAnd, IsTrue, None, [], false, length, replicate, slice_index_or, vec_capacity};
 ghost use Rattle.std.specs.Option.{option_map_or};
 ghost use Rattle.tt_roster.specs.Lists.{list_of};
-ghost use Rattle.tt_score.specs.Table.{AreBetween, IsOneLess, IsOneMore, new_row, row_of, table_row};
+ghost use Rattle.tt_score.specs.Table.{AreBetween, IsOneLess, IsOneMore, most_in_place, new_row, row_of, table_row};
 
 use crate::rows::{JointClass, JointRows};
 use std::alloc::{AllocError, Global};
@@ -11,7 +11,7 @@ use std::marker::Model;
 use tt_roster::Roster;
 
 // The most classes of a problem whose rows are changed in place.
-const MOST_CLASSES: u32 = 512;
+const MOST_IN_PLACE: u32 = 512;
 
 /// The joint row of a class, changed in place. Only `new` takes memory.
 #[derive(Drop)]
@@ -37,7 +37,7 @@ impl Model for TableRow {
 impl TableRow {
     /// The row of a class that nobody has, of so many classes.
     pub fn new(alloc: Global, classes: u32) -> Result<TableRow, AllocError>
-        requires { classes ≤ 512 }
+        requires { classes ≤ most_in_place }
         ensures { IfOk result (λ row. row ≡ new_row classes) }
     {
         Ok(TableRow {
@@ -59,7 +59,7 @@ impl TableRow {
     /// The pairs, none where they aren't kept.
     pub fn as_slice(&self) -> &[JointClass]
         ensures row { result.now ≡ option_map_or (λ row. row) self.now.pairs [] }
-        ensures few { length result.now ≤ 512 }
+        ensures few { length result.now ≤ most_in_place }
     {
         if self.kept {
             self.pairs.as_slice()
@@ -111,7 +111,7 @@ fn add_one(pairs: &mut Vec<JointClass>, places: &mut [u16], class: u32) -> bool
     requires class { class < length places.old }
     requires few { length pairs.old.items ≤ length places.old }
     requires room { length places.old ≤ vec_capacity pairs.old }
-    requires small { length places.old ≤ 512 }
+    requires small { length places.old ≤ most_in_place }
     ensures one { IsTrue result → IsOneMore class pairs.old.items pairs.new.items }
     ensures few { length pairs.new.items ≤ length places.old }
     ensures room { vec_capacity pairs.old ≤ vec_capacity pairs.new }
@@ -183,7 +183,7 @@ pub fn new_table(alloc: Global, classes: u32) -> Result<Vec<TableRow>, AllocErro
         (λ table. (c : ℕ) → c < length table.items → length table.items ≡ classes) }
 {
     let mut table = Vec::new(alloc);
-    if classes > MOST_CLASSES {
+    if classes > MOST_IN_PLACE {
         return Ok(table);
     }
     for _ in 0..classes {
