@@ -1,6 +1,7 @@
 //! Tests of where classes stand and clash.
 
 ghost use Rattle.std.specs.Prelude.{◌≡◌, ◌<◌, ◌≤◌, None, IfSome, replicate};
+ghost use Rattle.tt_base.specs.Limits.{most_rooms};
 
 use std::alloc::{AllocError, Global};
 use std::test::Fail;
@@ -151,7 +152,7 @@ fn a_class_is_on_each_of_its_days_until_it_goes(rt: HostRuntime) -> Result<(), F
 
 // The clashes and the classes of an occupancy that is made.
 fn made(alloc: Global, classes: u32, rooms: u32) -> Result<(u64, usize), AllocError>
-    requires { rooms ≤ 2500 }
+    requires { rooms ≤ most_rooms }
 {
     let occupancy = Occupancy::new(alloc, classes, rooms)?;
     Ok((occupancy.clashes(), occupancy.spots().len()))

@@ -28,3 +28,27 @@ most_id = 4294967295
 -- the greatest limit of a class
 abbrev pub most_limit : ℕ
 most_limit = 4294967295
+
+-- the most rooms
+abbrev pub most_rooms : ℕ
+most_rooms = 2500
+
+-- the most closures that hold at a time
+abbrev pub most_closures : ℕ
+most_closures = 10000
+
+-- the greatest slot of a day; no time, and no way from one room to another, takes more slots
+abbrev pub most_slot : ℕ
+most_slot = 65535
+
+-- the greatest weight of a sum
+abbrev pub most_weight : ℕ
+most_weight = 100000
+
+-- the greatest penalty of a time, of a room or of a distribution
+abbrev pub most_penalty : ℕ
+most_penalty = 1000000
+
+-- the most values that a class has
+abbrev pub most_values : ℕ
+most_values = 1000000

@@ -2,6 +2,7 @@
 
 ghost use Rattle.std.specs.Prelude.{◌≡◌, ◌++◌, ◌∷◌, [], ◌<◌, ◌≤◌, ◌==◌, OnOk, OnErr, Some, IfSome, false, true, length, slice_get};
 ghost use Rattle.std.specs.List.{list_any};
+ghost use Rattle.tt_base.specs.Limits.{most_closures};
 ghost use Rattle.tt_clash.specs.Closures.{closes, made, relifted, without_last};
 
 use std::alloc::{AllocError, Global};
@@ -23,7 +24,7 @@ impl Model for Closures {
 
     ghost view = { λ c. c.items.items };
 
-    ghost invariant = { λ c. length c.items.items ≤ 10000 };
+    ghost invariant = { λ c. length c.items.items ≤ most_closures };
 }
 
 impl Closures {
@@ -38,7 +39,7 @@ impl Closures {
 
     /// Adds one that isn't lifted. Refused for want of memory alone, which only this call takes.
     pub fn close(&mut self, room: u32, time: Time) -> Result<(), AllocError>
-        requires { length self.old < 10000 }
+        requires { length self.old < most_closures }
         ensures ok { OnOk result (self.new ≡ self.old ++ made room time ∷ []) }
         ensures err { OnErr result (self.new ≡ self.old) }
     {
@@ -79,7 +80,7 @@ impl Closures {
     /// How many there are, lifted ones among them.
     pub fn len(&self) -> u32
         ensures count { result ≡ length self.now }
-        ensures few { result ≤ 10000 }
+        ensures few { result ≤ most_closures }
     {
         self.items.len() as u32
     }

@@ -1,6 +1,7 @@
 //! Rounds on classes: a class gets a free value, or exchanges places with another class.
 
 ghost use Rattle.std.specs.Prelude.{◌≡◌, ◌+◌, ◌∷◌, ◌<◌, ◌≤◌, ◌^◌, [], None, Some, IfNone, IfOk, IfSome, OnOk, cond, false, length, true};
+ghost use Rattle.tt_base.specs.Limits.{most_values};
 ghost use Rattle.tt_plan.specs.Domain.{IsOfDomain, domain_of};
 ghost use Rattle.tt_state.specs.History.{IsWithinStep, earlier, trail, with_taken};
 ghost use Rattle.tt_state.specs.Snapshots.{with_value};
@@ -21,7 +22,7 @@ use tt_state::State;
 fn place_after(place: u32, more: u32, count: u32) -> u32
     requires place { place < count }
     requires more { more < count }
-    requires few { count ≤ 1000000 }
+    requires few { count ≤ most_values }
     ensures within { result < count }
     ensures front { place + more < count → result ≡ place + more }
     ensures back { count ≤ place + more → result + count ≡ place + more }

@@ -3,6 +3,7 @@ use Rattle.std.specs.Prelude.{ℕ, true, false, ◌==◌, nat_le, List, [], ◌�
 use Rattle.std.specs.List.{flat_map, list_any}
 use Rattle.std.specs.Option.{option_map_or}
 use Rattle.std.specs.Result.{result_map_both}
+use Rattle.tt_base.specs.Limits.{most_closures}
 use Rattle.tt_bits.specs.declared.times.Value.{Value}
 use Rattle.tt_bits.specs.declared.words.BitWord.{BitWord}
 use Rattle.tt_bits.specs.declared.times.Time.{Time}
@@ -41,7 +42,7 @@ use Rattle.tt_suggest.specs.declared.suggestion.Move.{Move}
 use Rattle.tt_suggest.specs.declared.suggestion.Suggestion.{Suggestion}
 use Rattle.tt_suggest.specs.declared.suggestion.Suggested.{Suggested}
 use Rattle.tt_suggest.specs.Suggestions.{suggested}
-use Rattle.tt_suggest.specs.Tree.{root_of, tries_of}
+use Rattle.tt_suggest.specs.Tree.{most_tries, root_of, tries_of}
 use Rattle.tt_explain.specs.Names.{value_text}
 use Rattle.tt_explain.specs.Explain.{explain_lines}
 use Rattle.tt_explain.specs.Why.{why_lines}
@@ -105,7 +106,7 @@ known_time p days start length weeks = ok_or (written_time p days start length w
 
 -- there are fewer closures than there may be
 abbrev pub may_close : Snapshot → Result (Unit {0}) Refusal
-may_close s = if length s.closures == 10000 then Err TooManyClosures else Ok tt
+may_close s = if length s.closures == most_closures then Err TooManyClosures else Ok tt
 
 -- some closure of the room isn't lifted
 abbrev pub may_reopen : Snapshot → ℕ → Result (Unit {0}) Refusal
@@ -174,7 +175,7 @@ published s = ok_or s.published NothingPublished
 
 -- there are at most 1,000,000 values to try
 abbrev pub few_tries : ℕ → Result (Unit {0}) Refusal
-few_tries tries = if nat_le tries 1000000 then Ok tt else Err TooManyTries
+few_tries tries = if nat_le tries most_tries then Ok tt else Err TooManyTries
 
 -- ---- what accepted commands leave
 

@@ -2,6 +2,7 @@
 //! as a value.
 
 ghost use Rattle.std.specs.Prelude.{◌≡◌, ◌≤◌, IfOk};
+ghost use Rattle.tt_base.specs.Limits.{most_classes};
 ghost use Rattle.tt_make.specs.Text.{make_text as text_of};
 
 use crate::append::push_text;
@@ -21,7 +22,7 @@ use std::alloc::{AllocError, Global};
 #[tactic(auto, unfolding(crate::specs::Text::make_text))]
 pub fn make_text(alloc: Global, seed: u64, classes: u32) -> Result<Vec<u8>, AllocError>
     requires some { 1 ≤ classes }
-    requires few { classes ≤ 20000 }
+    requires few { classes ≤ most_classes }
     ensures { IfOk result (λ v. v.items ≡ text_of seed classes) }
 {
     let mut words = Lcg64Xsh32::new(seed, 1);

@@ -1,5 +1,6 @@
 -- Proof. What an occupancy keeps. What callers see stands in Occupied.
 use Rattle.std.specs.Prelude.{◌≡◌, ℕ, ◌<◌, ◌≤◌, ◌*◌, ◌^◌, List, Option, length}
+use Rattle.tt_base.specs.Limits.{most_rooms}
 use Rattle.tt_bits.specs.declared.times.Spot.{Spot}
 use Rattle.tt_occupancy.specs.declared.Occupancy.TheInside.{Inside}
 use Rattle.tt_occupancy.specs.Occupied.{Occupied}
@@ -23,4 +24,4 @@ pub record IsKept (o : Inside) : Type 0 where
   pub rooms : length o.by_room.lists ≡ o.rooms
   pub on_days : AreOnDays o.spots.items o.by_day
   pub room_days : length o.by_day.lists ≡ o.rooms * 7
-  pub few_rooms : o.rooms ≤ 2500
+  pub few_rooms : o.rooms ≤ most_rooms

@@ -5,6 +5,7 @@
 
 ghost use Rattle.std.specs.Prelude.{◌≡◌, ◌<◌, ◌≤◌, ◌+◌, ◌*◌, ◌&&◌, nat_lt, min, max, Some, None, IsSome, IfOk, IfSome, length, replicate, slice_set, []};
 ghost use Rattle.std.specs.Option.{option_map_or};
+ghost use Rattle.tt_base.specs.Limits.{most_rooms};
 ghost use Rattle.tt_bits.specs.Spots.{spot_at, IsEmptyAt};
 ghost use Rattle.tt_bits.specs.Times.{shares_day, end_of};
 ghost use Rattle.tt_occupancy.specs.Rooms.{classes_in, AreListed};
@@ -43,7 +44,7 @@ impl Model for Occupancy {
 impl Occupancy {
     /// So many classes, none of them placed.
     pub fn new(alloc: Global, classes: u32, rooms: u32) -> Result<Occupancy, AllocError>
-        requires { rooms ≤ 2500 }
+        requires { rooms ≤ most_rooms }
         ensures spots { IfOk result (λ o. o.spots ≡ replicate classes None) }
         ensures rooms { IfOk result (λ o. o.rooms ≡ rooms) }
     {

@@ -1,6 +1,7 @@
 //! The domain of a class, and what each value stands for.
 
 ghost use Rattle.std.specs.Prelude.{◌≡◌, ◌<◌, ◌≤◌, Some, IfSome, length, max, slice_get};
+ghost use Rattle.tt_base.specs.Limits.{most_penalty, most_values};
 ghost use Rattle.tt_plan.specs.Domain.{IsOfDomain, IsSpotOf, domain_of, values_per_time, spot_at_value, time_penalty, room_penalty};
 
 use tt_bits::{Spot, Value};
@@ -22,7 +23,7 @@ fn values_per_time(part: &ClassPart) -> u32
 pub fn domain_size(problem: &Problem, class: u32) -> u32
     requires { class < length problem.now.classes }
     ensures size { result ≡ length (domain_of problem.now class) }
-    ensures small { result ≤ 1000000 }
+    ensures small { result ≤ most_values }
 {
     let part = problem.class(class);
     part.times.len() as u32 * values_per_time(part)
@@ -67,7 +68,7 @@ pub fn spot(problem: &Problem, class: u32, value: Value) -> Spot
 pub fn time_penalty(problem: &Problem, class: u32, value: Value) -> u32
     requires { IsOfDomain problem.now class value }
     ensures penalty { result ≡ time_penalty problem.now class value }
-    ensures small { result ≤ 1000000 }
+    ensures small { result ≤ most_penalty }
 {
     let part = problem.class(class);
     part.times.as_slice()[value.time as usize].penalty
@@ -78,7 +79,7 @@ pub fn time_penalty(problem: &Problem, class: u32, value: Value) -> u32
 pub fn room_penalty(problem: &Problem, class: u32, value: Value) -> u32
     requires { IsOfDomain problem.now class value }
     ensures penalty { result ≡ room_penalty problem.now class value }
-    ensures small { result ≤ 1000000 }
+    ensures small { result ≤ most_penalty }
 {
     let part = problem.class(class);
     let rooms = part.rooms.as_slice();

@@ -1,8 +1,7 @@
 //! The problem, and what it tells of its parts.
 
 ghost use Rattle.std.specs.Prelude.{◌≡◌, ◌<◌, ◌≤◌, length, map, slice_get, slice_index, Some, IfOk, IfSome};
-ghost use Rattle.tt_base.specs.Limits.{most_classes, most_rules, most_students};
-ghost use Rattle.tt_travel.specs.Table.{most_rooms};
+ghost use Rattle.tt_base.specs.Limits.{most_classes, most_rooms, most_rules, most_students};
 ghost use Rattle.tt_problem.specs.Spans.{IsSpanWithin};
 ghost use Rattle.tt_problem.specs.ListLengths.{most_classes_of};
 ghost use Rattle.tt_problem.specs.Valid.{class_ids, student_ids, AreValidWeights, IsValid, IsValidClass, IsValidRoom, IsValidRule, IsValidStudent};

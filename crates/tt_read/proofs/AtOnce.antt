@@ -1,7 +1,7 @@
 -- What is read with the right ids known is what the passes read.
 use Rattle.std.proofs.Common.{◌≡◌, ℕ, List, [], Some, None, Result, Ok, Err, refl, sym, ap, subst, ◌∙◌, codes}
 use Rattle.std.proofs.lemmas.Result.{IfOk-at_ok}
-use Rattle.tt_travel.specs.Table.{most_rooms}
+use Rattle.tt_base.specs.Limits.{most_rooms}
 use Rattle.tt_problem.specs.declared.parts.Weights.{Weights}
 use Rattle.tt_problem.specs.declared.parts.Rule.{Rule}
 use Rattle.tt_problem.specs.declared.parts.StudentPart.{StudentPart}

@@ -1,8 +1,7 @@
 //! The first and the second pass: the shape of all values, then the references.
 
 ghost use Rattle.std.specs.Prelude.{◌≡◌, ◌≤◌, length, None, IfOk, codes};
-ghost use Rattle.tt_base.specs.Limits.{most_classes, most_courses, most_rules, most_students};
-ghost use Rattle.tt_travel.specs.Table.{most_rooms};
+ghost use Rattle.tt_base.specs.Limits.{most_classes, most_courses, most_rooms, most_rules, most_students};
 ghost use Rattle.tt_problem.specs.Valid.{AreValidWeights, IsValidTerm};
 ghost use Rattle.tt_fields.specs.Answer.{Reads, Gives, part_of};
 ghost use Rattle.tt_fields.specs.List.{items_of};
@@ -164,7 +163,7 @@ fn read_rule_list<'a>(
 fn read_student_list<'a>(alloc: Global, object: &'a Field<'a>) -> Result<PartList<'a>, FileFault>
     ensures reads { Gives items_of result
         (checked_list most_students (students_in None) (codes "students") (part_of object.now)) }
-    ensures few { IfOk result (λ items. length items.values.now ≤ 100000) }
+    ensures few { IfOk result (λ items. length items.values.now ≤ most_students) }
 {
     let items = list_or_none(object, "students", 100_000)?;
     read_students(alloc, &Known::none(), &items)?;

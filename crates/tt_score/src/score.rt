@@ -38,6 +38,7 @@ pub struct Score {
 
 impl Score {
     ghost use Rattle.std.specs.Prelude.{◌≡◌, ◌↔◌, ◌<◌, ◌≤◌, ◌^◌, ◌++◌, ◌∷◌, Some, None, IsSome, IfSome, IsTrue, IfOk, OnOk, OnErr, [], false, true, length, slice_index, replicate, slice_get, slice_set, slice_index_or, option_and_then, nat_le};
+    ghost use Rattle.tt_base.specs.Limits.{most_closures};
     ghost use Rattle.tt_problem.specs.declared.parts.Parts.{Parts};
     ghost use Rattle.tt_problem.specs.declared.parts.Rule.{Rule};
     ghost use Rattle.tt_clash.specs.Blocked.{blocked_by};
@@ -242,7 +243,7 @@ impl Score {
     /// is as it was.
     pub fn close(&mut self, problem: &Problem, room: u32, time: Time) -> Result<(), AllocError>
         requires fits { Fits problem.now self.old }
-        requires few { length (closures_of self.old) < 10000 }
+        requires few { length (closures_of self.old) < most_closures }
         ensures closures { OnOk result
             (closures_of self.new ≡ closures_of self.old ++ made room time ∷ []) }
         ensures plan { plan_of self.new ≡ plan_of self.old }

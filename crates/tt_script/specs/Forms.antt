@@ -1,6 +1,6 @@
 -- Theorem. The forms of a line, and the command of each.
 use Rattle.std.specs.Prelude.{ℕ, ◌≤◌, ⊤, IsTrue, IsSome, List, [], ◌∷◌, Option, None, Some, option_map, if◌then◌else◌, codes, bytes_eq}
-use Rattle.tt_base.specs.Limits.{most_id}
+use Rattle.tt_base.specs.Limits.{most_id, most_slot}
 use Rattle.std.specs.Option.{option_zip}
 use Rattle.tt_text.specs.Decimal.{decimal_of, at_most}
 use Rattle.tt_script.specs.declared.command.Command.{Command}
@@ -27,9 +27,13 @@ ids_of (word ∷ words) = option_map (λ b. b.0 ∷ b.1) (option_zip (id_of word
 abbrev pub room_or_none : List ℕ → Option (Option ℕ)
 room_or_none word = if bytes_eq word (codes "-") then Some None else option_map Some (id_of word)
 
--- a number of turns: up to 1,000,000
+-- the most turns
+abbrev pub most_turns : ℕ
+most_turns = 1000000
+
+-- a number of turns
 abbrev pub count_of : List ℕ → Option ℕ
-count_of word = at_most 1000000 (decimal_of word)
+count_of word = at_most most_turns (decimal_of word)
 
 -- a seed: up to 18,446,744,073,709,551,615
 abbrev pub seed_of : List ℕ → Option ℕ
@@ -37,7 +41,7 @@ seed_of word = at_most 18446744073709551615 (decimal_of word)
 
 -- a number of slots: up to 65,535
 abbrev pub slot_of : List ℕ → Option ℕ
-slot_of word = at_most 65535 (decimal_of word)
+slot_of word = at_most most_slot (decimal_of word)
 
 -- ---- what follows the word of a command
 

@@ -1,6 +1,7 @@
 //! The values of a class that are least: by their price, and then by the total with the class there.
 
 ghost use Rattle.std.specs.Prelude.{◌≡◌, ◌+◌, ◌<◌, ◌≤◌, ◌∷◌, ◌++◌, [], ℕ, All, List, None, Some, IfNone, IfOk, IfSome, drop, length, slice_get, vec_capacity};
+ghost use Rattle.tt_base.specs.Limits.{most_values};
 ghost use Rattle.tt_draw.specs.Words.{drawn};
 ghost use Rattle.tt_plan.specs.Domain.{IsOfDomain, domain_of};
 ghost use Rattle.tt_state.specs.Values.{total_with, without_of};
@@ -221,7 +222,7 @@ impl LeastValues {
 
     // The value that a random word draws.
     pub(crate) fn drawn(&self, word: u32) -> Option<Value>
-        requires { length self.now.values.items ≤ 1000000 }
+        requires { length self.now.values.items ≤ most_values }
         ensures { result ≡ drawn word self.now.values.items }
     {
         let place = draw(word, self.values.len() as u64);

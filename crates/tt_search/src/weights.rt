@@ -1,7 +1,7 @@
 //! How hard each class is: what it weighs in `place`.
 
 ghost use Rattle.std.specs.Prelude.{◌≡◌, ◌+◌, ◌<◌, ◌≤◌, ◌^◌, ◌∷◌, ◌++◌, [], ℕ, List, IfOk, count_by, length, nat_eq, slice_index_or, vec_capacity};
-ghost use Rattle.tt_base.specs.Limits.{most_classes};
+ghost use Rattle.tt_base.specs.Limits.{most_classes, most_values};
 ghost use Rattle.std.specs.List.{filter, sum_by};
 ghost use Rattle.tt_plan.specs.Domain.{IsOfDomain};
 ghost use Rattle.tt_search.specs.Turns.{available_values, is_available};
@@ -119,7 +119,7 @@ impl ClassWeights {
         ensures present { state.new.present ≡ state.old.present }
         ensures entries { state.new.entries ≡ state.old.entries }
         ensures room { HasRoom state.old.problem least.new }
-        ensures few { length least.new.values.items ≤ 1000000 }
+        ensures few { length least.new.values.items ≤ most_values }
         ensures lightest { AreLightest
             (prices_by state.old.problem state.old.present self.now.outs.items class)
             (available_values state.old.problem state.old.present class) least.new }

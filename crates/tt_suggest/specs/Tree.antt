@@ -8,6 +8,10 @@ use Rattle.tt_state.specs.Snapshots.{Snapshot, value_in, with_value}
 use Rattle.tt_state.specs.Values.{conflicts_of, is_value, obstacle_of}
 use Rattle.tt_suggest.specs.declared.suggestion.Move.{Move}
 
+-- the most values that are tried
+abbrev pub most_tries : ℕ
+most_tries = 1000000
+
 -- a node: the snapshot, the placements that led to it, and the classes that wait for a value
 pub record Node : Type 0 where
   pub snapshot : Snapshot

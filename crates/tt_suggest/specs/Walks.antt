@@ -13,7 +13,7 @@ use Rattle.tt_suggest.specs.declared.suggestion.Rank.{Rank}
 use Rattle.tt_suggest.specs.declared.suggestion.Suggested.{Suggested}
 use Rattle.tt_suggest.specs.declared.suggestion.Suggestion.{Suggestion}
 use Rattle.tt_suggest.specs.Suggestions.{suggestion_rank, suggestion_of}
-use Rattle.tt_suggest.specs.Tree.{Node, child_by, children_by, leaves_of, tries_of}
+use Rattle.tt_suggest.specs.Tree.{Node, child_by, children_by, leaves_of, most_tries, tries_of}
 
 -- the node of a branch at a snapshot
 abbrev pub node_of : Snapshot → Branch → Node
@@ -59,7 +59,7 @@ pub record IsBack (old new : Held) : Type 0 where
 pub record AreFoundIn (tries : ℕ) (xs : List Suggestion) (old new : Suggested) : Type 0 where
   pub tried : new.tried ≡ old.tried + tries
   pub best : new.best ≡ least_after suggestion_rank old.best xs
-  pub few : new.tried ≤ 1000000
+  pub few : new.tried ≤ most_tries
 
 -- what is found once all below a node was tried, where so many placements are left
 abbrev pub FindsAt : Parts → Option Timetable → (left : ℕ) → Node → (old new : Suggested) → Type 0

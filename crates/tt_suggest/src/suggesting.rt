@@ -10,7 +10,7 @@ ghost use Rattle.tt_state.specs.History.{IsWithinStep, earlier, with_taken};
 ghost use Rattle.tt_state.specs.Snapshots.{with_value};
 ghost use Rattle.tt_state.specs.Values.{conflicts_of, total_with};
 ghost use Rattle.tt_suggest.specs.Suggestions.{suggestion_rank, suggested, suggestions_of};
-ghost use Rattle.tt_suggest.specs.Tree.{gives_child, root_of, tries_of};
+ghost use Rattle.tt_suggest.specs.Tree.{gives_child, most_tries, root_of, tries_of};
 ghost use Rattle.tt_suggest.specs.Ranks.{is_better, rank_numbers};
 ghost use Rattle.tt_suggest.specs.Walks.{FindsAtChild, FindsBelow, FindsBy, IsBack, IsBranchOf, leaf_of, node_of, tries_at_child, tries_below, tries_by};
 
@@ -94,12 +94,12 @@ impl Suggested {
 
     // Counts so many values more to try.
     fn add_tries(&mut self, tries: u32) -> Result<(), SuggestEnd>
-        requires so_far { self.old.tried ≤ 1000000 }
-        requires few { tries ≤ 1000000 }
+        requires so_far { self.old.tried ≤ most_tries }
+        requires few { tries ≤ most_tries }
         ensures tried { self.new.tried ≡ self.old.tried + tries }
         ensures best { self.new.best ≡ self.old.best }
-        ensures few { OnOk result (self.new.tried ≤ 1000000) }
-        ensures too_many { OnErr result (1000000 < self.new.tried) }
+        ensures few { OnOk result (self.new.tried ≤ most_tries) }
+        ensures too_many { OnErr result (most_tries < self.new.tried) }
         ensures only { OnErr result (result ≡ Err SuggestEnd.TooMany) }
     {
         self.tried += tries;
@@ -150,12 +150,12 @@ fn walk(
     requires belongs { IsAimOf state.old.problem aim.now }
     requires branch { IsBranchOf state.old.problem aim.now state.old.present branch.now }
     requires step { 0 < length (earlier state.old) }
-    requires few { found.old.tried ≤ 1000000 }
+    requires few { found.old.tried ≤ most_tries }
     ensures step { IsWithinStep (with_taken state.old []) (with_taken state.new []) }
     ensures back { OnOk result (IsBack state.old state.new) }
     ensures found { OnOk result (FindsBelow state.old aim.now branch.now found.old found.new) }
     ensures too_many { result ≡ Err SuggestEnd.TooMany
-        → 1000000 < found.old.tried + tries_below state.old branch.now }
+        → most_tries < found.old.tried + tries_below state.old branch.now }
 {
     let count = domain_size(state.problem(), branch.class);
     found.add_tries(count)?;
@@ -180,12 +180,12 @@ fn try_value(
     requires branch { IsBranchOf state.old.problem aim.now state.old.present branch.now }
     requires value { IsOfDomain state.old.problem branch.now.class value }
     requires step { 0 < length (earlier state.old) }
-    requires few { found.old.tried ≤ 1000000 }
+    requires few { found.old.tried ≤ most_tries }
     ensures step { IsWithinStep (with_taken state.old []) (with_taken state.new []) }
     ensures back { OnOk result (IsBack state.old state.new) }
     ensures found { OnOk result (FindsBy state.old aim.now branch.now value found.old found.new) }
     ensures too_many { result ≡ Err SuggestEnd.TooMany
-        → 1000000
+        → most_tries
         < found.old.tried
         + tries_by state.old.problem state.old.present branch.now (value ∷ []) }
 {
@@ -221,13 +221,13 @@ fn descend(
         ≡ true }
     requires some { (length branch.now.others.items + length state.old.taken == 0) ≡ false }
     requires step { 0 < length (earlier state.old) }
-    requires few { found.old.tried ≤ 1000000 }
+    requires few { found.old.tried ≤ most_tries }
     ensures step { IsWithinStep (with_taken state.old []) (with_taken state.new []) }
     ensures back { OnOk result (IsBack state.old state.new) }
     ensures found { OnOk result
         (FindsAtChild state.old aim.now branch.now value found.old found.new) }
     ensures too_many { result ≡ Err SuggestEnd.TooMany
-        → 1000000 < found.old.tried + tries_at_child state.old branch.now value }
+        → most_tries < found.old.tried + tries_at_child state.old branch.now value }
 {
     let mark = state.mark_now();
     let next = go_on(alloc, state, aim, branch, value)?;
@@ -252,9 +252,9 @@ fn suggest_step(
     ensures step { IsWithinStep (with_taken state.old []) (with_taken state.new []) }
     ensures suggested { IfOk result
         (λ now. now ≡ suggested state.old.problem aim.now depth state.old.present class) }
-    ensures few { IfOk result (λ now. now.tried ≤ 1000000) }
+    ensures few { IfOk result (λ now. now.tried ≤ most_tries) }
     ensures too_many { result ≡ Err SuggestEnd.TooMany
-        → 1000000 < tries_of state.old.problem depth (root_of state.old.present class) }
+        → most_tries < tries_of state.old.problem depth (root_of state.old.present class) }
 {
     let root = Branch {
         path: Vec::new(alloc),
@@ -301,10 +301,10 @@ pub fn suggest(
         ↔ (suggestions_of state.old.problem (option_copied published.entry) depth
         state.old.present class
         ≡ [])) }
-    ensures few { IfOk result (λ now. now.tried ≤ 1000000) }
+    ensures few { IfOk result (λ now. now.tried ≤ most_tries) }
     ensures too_many { result ≢ Err SuggestEnd.Memory
         → (result ≡ Err SuggestEnd.TooMany)
-        ↔ (1000000 < tries_of state.old.problem depth (root_of state.old.present class)) }
+        ↔ (most_tries < tries_of state.old.problem depth (root_of state.old.present class)) }
 {
     state.begin()?;
     let result = suggest_step(alloc, state, &Aim::of(published), class, depth);

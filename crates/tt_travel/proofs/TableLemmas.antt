@@ -7,7 +7,8 @@ use Rattle.std.proofs.lemmas.Bool.Decides.{nat_tests}
 use Rattle.std.proofs.lemmas.List.{length-replicate}
 use Rattle.std.proofs.lemmas.List.Elements.{All-set, All-weaker}
 use Rattle.std.proofs.Math.ListN.{length-set}
-use Rattle.tt_travel.specs.Table.{most_rooms, Table, between, no_travel, with_travel, IsRoomOf, IsTravel, IsPair}
+use Rattle.tt_base.specs.Limits.{most_rooms}
+use Rattle.tt_travel.specs.Table.{Table, between, no_travel, with_travel, IsRoomOf, IsTravel, IsPair}
 
 -- a fact of two parts holds or doesn't
 both_hold : {A B : Type 0} → A ⊎ ¬ A → B ⊎ ¬ B → (A × B) ⊎ ¬ (A × B)

@@ -1,9 +1,6 @@
 -- Theorem. The table of travel between rooms, in slots.
 use Rattle.std.specs.Prelude.{◌≡◌, ℕ, ◌+◌, ◌*◌, ◌<◌, ◌≤◌, ◌⊎◌, ◌==◌, List, Option, Some, None, slice_index, slice_set, replicate, length, IfSome, if◌then◌else◌}
-
--- the most rooms that a table has
-abbrev pub most_rooms : ℕ
-most_rooms = 2500
+use Rattle.tt_base.specs.Limits.{most_rooms}
 
 -- the slots from each room to each room, row after row
 pub record Table : Type 0 where

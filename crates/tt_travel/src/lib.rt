@@ -3,7 +3,8 @@
 #![tactic(auto)]
 
 ghost use Rattle.std.specs.Prelude.{◌≡◌, ◌≢◌, ℕ, ◌+◌, ◌*◌, ◌<◌, ◌≤◌, Option, Some, IfOk, length};
-ghost use Rattle.tt_travel.specs.Table.{most_rooms, between, no_travel, with_travel, IsRoomOf, IsTravel, IsPair};
+ghost use Rattle.tt_base.specs.Limits.{most_rooms};
+ghost use Rattle.tt_travel.specs.Table.{between, no_travel, with_travel, IsRoomOf, IsTravel, IsPair};
 
 use std::alloc::{AllocError, Global};
 use std::marker::Model;

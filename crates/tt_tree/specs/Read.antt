@@ -1,11 +1,11 @@
 -- Contract. What the code has read so far.
 use Rattle.std.specs.Prelude.{◌≡◌, ℕ, ◌≤◌, List, length, map, All, IfSome, nat_eq}
-use Rattle.tt_base.specs.Limits.{most_classes}
+use Rattle.tt_base.specs.Limits.{most_classes, most_penalty, most_rooms}
 use Rattle.std.specs.List.{IsDistinct}
 use Rattle.tt_tree.specs.declared.context as context
 use Rattle.tt_tree.specs.declared.rooms as rooms
 use Rattle.tt_tree.specs.declared.courses as courses
-use Rattle.tt_travel.specs.Table.{Table, IsTravel, most_rooms}
+use Rattle.tt_travel.specs.Table.{Table, IsTravel}
 use Rattle.tt_problem.specs.declared.parts.RoomChoice.{RoomChoice}
 use Rattle.tt_problem.specs.declared.parts.ClassPart.{ClassPart}
 use Rattle.tt_problem.specs.Spans.{Covers}
@@ -52,7 +52,7 @@ pub record IsCampus (c : context.Context.Context) (count : ℕ) (s : rooms.Campu
 -- the room is one of those that are known, and its penalty is at most 1,000,000
 pub record IsChoiceAmong (rooms : Known) (r : RoomChoice) : Type 0 where
   pub room : IsAmong rooms r.room
-  pub penalty : r.penalty ≤ 1000000
+  pub penalty : r.penalty ≤ most_penalty
 
 -- the class has 1 to 1,000 valid times, and what it refers to is known
 pub record IsClassAmong (c : context.Context.Context) (p : ClassPart) : Type 0 where

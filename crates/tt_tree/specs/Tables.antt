@@ -1,6 +1,6 @@
 -- Theorem. The tables of rooms and courses, one line for each key, in the order in which they are read.
 use Rattle.std.specs.Prelude.{ℕ, ◌+◌, ◌-◌, ◌==◌, ◌||◌, List, [], ◌∷◌, ◌++◌, length, Bool, true, false, Result, Ok, codes, nat_lt, if◌then◌else◌}
-use Rattle.tt_base.specs.Limits.{most_classes, most_id, most_limit}
+use Rattle.tt_base.specs.Limits.{most_classes, most_id, most_limit, most_penalty, most_slot}
 use Rattle.tt_bits.specs.declared.times.Time.{Time}
 use Rattle.tt_bits.specs.Sets.{days_text, weeks_text}
 use Rattle.tt_bits.specs.Times as bits
@@ -24,15 +24,15 @@ use Rattle.tt_tree.specs.Context.{Context}
 -- the length of a time that begins at `start`, which is to be one that a time has
 unfoldable pub length_after : ℕ → Field → Result ℕ Fault
 length_after start o = do
-  length ← required (a_number 0 65535) (codes "length") o
-  if length == 0 || nat_lt 65535 (start + length) then fault NoTime (at o.path (codes "length")) else Ok length
+  length ← required (a_number 0 most_slot) (codes "length") o
+  if length == 0 || nat_lt most_slot (start + length) then fault NoTime (at o.path (codes "length")) else Ok length
 
 -- a time object, within the days of a week and the weeks of the term; its length has been read as one that a
 -- time has, so that the last line always finds a time
 unfoldable pub time_in : Context → Field → Result Time Fault
 time_in c o = do
   days ← required (a_set days_text c.nr_days) (codes "days") o
-  start ← required (a_number 0 65535) (codes "start") o
+  start ← required (a_number 0 most_slot) (codes "start") o
   length ← length_after start o
   weeks ← required (a_set weeks_text c.nr_weeks) (codes "weeks") o
   or_fault NoTime o (bits.time_of days weeks start length)
@@ -42,7 +42,7 @@ unfoldable pub a_time_choice : Context → Field → Result TimeChoice Fault
 a_time_choice c p = do
   o ← an_object p
   time ← time_in c o
-  penalty ← required (a_number 0 1000000) (codes "penalty") o
+  penalty ← required (a_number 0 most_penalty) (codes "penalty") o
   Ok (record { time = time; penalty = penalty })
 
 -- an unavailable time of a room
@@ -58,7 +58,7 @@ unfoldable pub a_travel_entry : Context → ℕ → Field → Table → Result T
 a_travel_entry c from p table = do
   o ← an_object p
   to ← required (a_reference c.rooms) (codes "room") o
-  slots ← required (a_number 0 65535) (codes "value") o
+  slots ← required (a_number 0 most_slot) (codes "value") o
   Ok (with_travel table from to slots)
 
 -- the rooms that have been read, and the travel between all rooms as far as it has been read
@@ -93,7 +93,7 @@ unfoldable pub a_room_choice : Context → Field → Result RoomChoice Fault
 a_room_choice c p = do
   o ← an_object p
   room ← required (place_of c.rooms) (codes "id") o
-  penalty ← required (a_number 0 1000000) (codes "penalty") o
+  penalty ← required (a_number 0 most_penalty) (codes "penalty") o
   Ok (record { room = room; penalty = penalty })
 
 -- the rooms of a class that may need one, none for one that needs none

@@ -1,7 +1,8 @@
 //! The rooms of a problem file, and the travel between them.
 
 ghost use Rattle.std.specs.Prelude.{◌≡◌, ◌<◌, ◌≤◌, length, IfOk, OnOk};
-ghost use Rattle.tt_travel.specs.Table.{Table, most_rooms};
+ghost use Rattle.tt_base.specs.Limits.{most_rooms};
+ghost use Rattle.tt_travel.specs.Table.{Table};
 ghost use Rattle.tt_fields.specs.Answer.{Reads, Gives, part_of};
 ghost use Rattle.tt_fields.specs.List.{items_of};
 ghost use Rattle.tt_tree.specs.Context.{context_of, IsContext, HasIds};

@@ -3,7 +3,7 @@
 ghost use Rattle.std.specs.Prelude.{◌≡◌, ◌-◌, ◌*◌, ◌<◌, ◌≤◌, ◌^◌, All, IfOk, count_by, filter, length, map, sum_by, vec_len};
 ghost use Rattle.std.specs.List.{list_any};
 ghost use Rattle.tt_base.specs.Among.{pairs_among};
-ghost use Rattle.tt_base.specs.Limits.{most_members};
+ghost use Rattle.tt_base.specs.Limits.{most_members, most_slot};
 ghost use Rattle.tt_base.specs.Sets.{has, places};
 ghost use Rattle.tt_bits.specs.Sets.{day_set, week_set};
 ghost use Rattle.tt_bits.specs.Spots.{placed, spot_at};
@@ -146,7 +146,7 @@ fn load_in(spots: &[Spot], week: u8, day: u8) -> u64
     requires week { week < most_weeks }
     requires day { day < 7 }
     ensures load { result ≡ load_of (filter (stands_in week day) spots.now) }
-    ensures small { result ≤ most_members * 65535 }
+    ensures small { result ≤ most_members * most_slot }
 {
     let mut load = 0;
     for spot in spots {
@@ -164,7 +164,7 @@ fn load_over_in(most: u16, spots: &[Spot], week: u8) -> u64
     requires week { week < most_weeks }
     ensures load { result
         ≡ sum_by (λ day. load_of (filter (stands_in week day) spots.now) - most) seven_days }
-    ensures small { result ≤ 7 * most_members * 65535 }
+    ensures small { result ≤ 7 * most_members * most_slot }
 {
     let mut sum = 0;
     for day in 0..7 {
@@ -180,7 +180,7 @@ fn load_over(most: u16, weeks: u8, spots: &[Spot]) -> u64
     requires weeks { weeks ≤ most_weeks }
     ensures load { result
         ≡ over_cells weeks (λ week day. load_of (filter (stands_in week day) spots.now) - most) }
-    ensures small { result ≤ 128 * (7 * most_members * 65535) }
+    ensures small { result ≤ 128 * (7 * most_members * most_slot) }
 {
     let mut sum = 0;
     for week in 0..weeks {

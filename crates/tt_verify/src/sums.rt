@@ -1,7 +1,7 @@
 //! The four sums of a timetable, and their total.
 
 ghost use Rattle.std.specs.Prelude.{[], ◌≡◌, ◌*◌, ◌/◌, ◌<◌, ◌≤◌, ◌^◌, IfOk, length};
-ghost use Rattle.tt_base.specs.Limits.{most_classes};
+ghost use Rattle.tt_base.specs.Limits.{most_classes, most_penalty};
 ghost use Rattle.tt_plan.specs.Domain.{room_penalty, spots_of, time_penalty};
 ghost use Rattle.tt_problem.specs.Valid.{AreValidWeights};
 ghost use Rattle.tt_score.specs.Amounts.{cost_sum, kind_cost};
@@ -35,7 +35,7 @@ pub struct Sums {
 fn time_sum(problem: &Problem, plan: &[Option<Value>]) -> u64
     requires { IsPlanOf problem.now plan.now }
     ensures sum { result ≡ over_placed (time_penalty problem.now) plan.now }
-    ensures small { result ≤ most_classes * 1000000 }
+    ensures small { result ≤ most_classes * most_penalty }
 {
     let mut sum = 0;
     for class in 0..problem.class_count() {
@@ -51,7 +51,7 @@ fn time_sum(problem: &Problem, plan: &[Option<Value>]) -> u64
 fn room_sum(problem: &Problem, plan: &[Option<Value>]) -> u64
     requires { IsPlanOf problem.now plan.now }
     ensures sum { result ≡ over_placed (room_penalty problem.now) plan.now }
-    ensures small { result ≤ most_classes * 1000000 }
+    ensures small { result ≤ most_classes * most_penalty }
 {
     let mut sum = 0;
     for class in 0..problem.class_count() {
@@ -74,9 +74,9 @@ fn per_week(cost: u128, weeks: u8) -> u128
 
 // The cost of a rule that has this amount.
 fn cost_of(problem: &Problem, rule: &Rule, amount: u64) -> u128
-    requires { rule.now.penalty ≤ 1000000 }
+    requires { rule.now.penalty ≤ most_penalty }
     ensures cost { result ≡ kind_cost rule.now.kind problem.now.nr_weeks rule.now.penalty amount }
-    ensures small { result ≤ 1000000 * amount }
+    ensures small { result ≤ most_penalty * amount }
 {
     let cost = u128::from(rule.penalty) * u128::from(amount);
     match rule.kind {
@@ -98,7 +98,7 @@ fn rule_cost(
     requires whole { length spots.now ≡ length problem.now.classes }
     requires fit { AreSpotsOf problem.now spots.now }
     ensures cost { IfOk result (λ n. n ≡ cost_at problem.now spots.now place) }
-    ensures small { IfOk result (λ n. n ≤ 1000000 * 2 ^ 62) }
+    ensures small { IfOk result (λ n. n ≤ most_penalty * 2 ^ 62) }
 {
     let rule = problem.rule(place);
     if rule.required {
@@ -114,7 +114,7 @@ fn cost_sum(alloc: Global, problem: &Problem, spots: &[Option<Spot>]) -> Result<
     requires whole { length spots.now ≡ length problem.now.classes }
     requires fit { AreSpotsOf problem.now spots.now }
     ensures sum { IfOk result (λ n. n ≡ cost_sum problem.now spots.now) }
-    ensures small { IfOk result (λ n. n ≤ most_classes * (1000000 * 2 ^ 62)) }
+    ensures small { IfOk result (λ n. n ≤ most_classes * (most_penalty * 2 ^ 62)) }
 {
     let mut sum = 0;
     for place in 0..problem.rule_count() {
