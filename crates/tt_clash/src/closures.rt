@@ -18,6 +18,7 @@ pub struct Closures {
 
 impl Model for Closures {
     ghost use Rattle.std.specs.Prelude.{List, ◌≤◌, length};
+    ghost use Rattle.tt_base.specs.Limits.{most_closures};
     ghost use Rattle.tt_bits.specs.declared.times.Closure.{Closure};
 
     ghost Value = { List Closure };
