@@ -11,7 +11,7 @@ use Rattle.tt_problem.specs.declared.parts.Span.{Span}
 use Rattle.tt_problem.specs.Spans.{is_in}
 use Rattle.tt_choice.specs.Choices.{places_between, each_before, choices_of}
 use Rattle.tt_choice.specs.Least.{Situation, has_parent_with, may_be_taken, is_allowed}
-use Rattle.tt_choice.specs.Open.{may_come, is_open}
+use Rattle.tt_choice.specs.Open.{may_come, can_all_be_filled}
 use Rattle.tt_choice.proofs.EachLemmas.{all_both, before-map, before-each, no-and, and-no, fails, all_follow}
 use Rattle.tt_choice.proofs.Order.{all-append, all-weaken}
 
@@ -140,7 +140,7 @@ module _ (s : Situation) (front : List ℕ) (rest : List Span) (choice : List �
       refused (list_all-append p front choice ∙ no-and (list_all p front) (list_all p choice) all)
 
 -- no choice that goes on from a front is allowed, where one of the subparts can't be filled
-pub closed-none : (s : Situation) (front : List ℕ) (rest : List Span) → is_open s front rest ≡ false → AllByRecursion (λ choice. is_allowed s (front ++ choice) ≡ false) (choices_of rest)
+pub closed-none : (s : Situation) (front : List ℕ) (rest : List Span) → can_all_be_filled s front rest ≡ false → AllByRecursion (λ choice. is_allowed s (front ++ choice) ≡ false) (choices_of rest)
 closed-none s front rest h =
     all_both (AreAmong rest) (λ x. list_all (may_come s front rest) x ≡ false) (λ choice. is_allowed s (front ++ choice) ≡ false)
     (λ choice those failed. refused-later s front rest choice those failed) (choices_of rest) (among-choices rest) (none-fills (may_come s front rest) rest h)

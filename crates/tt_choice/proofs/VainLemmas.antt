@@ -13,7 +13,7 @@ use Rattle.tt_choice.specs.Least.{Situation, has_parent_with, may_be_taken, is_a
 use Rattle.tt_choice.specs.Passed.{is_fewer, better, passed}
 use Rattle.tt_choice.specs.Found.{chosen, has_fewer, IsFoundIn, IsInVain}
 use Rattle.tt_choice.specs.Ahead.{pairs_across, IsAcross, IsSure}
-use Rattle.tt_choice.specs.Open.{may_come, is_open}
+use Rattle.tt_choice.specs.Open.{may_come, can_all_be_filled}
 use Rattle.tt_choice.proofs.EachLemmas.{all_of, all_both, no-and, and-no, all_follow}
 use Rattle.tt_choice.proofs.OpenLemmas.{closed-none, barred-none}
 use Rattle.tt_choice.proofs.Order.{all-weaken}
@@ -36,7 +36,7 @@ module _ (s : Situation) (found : Option Found) (front : List ℕ) (rest : List 
   }
 
   -- one of the subparts can't be filled
-  pub closed-vain : is_open s front rest ≡ false → IsInVain s found front rest
+  pub closed-vain : can_all_be_filled s front rest ≡ false → IsInVain s found front rest
   closed-vain h = none-vain (closed-none s front rest h)
 
   -- a class of the front may not come
@@ -89,7 +89,7 @@ vain-hopeless s best found front rest h vain = record {
     cases choice false e failed = rw (and-no (is_fewer s (front ++ choice) (chosen best found)) (is_allowed s (front ++ choice)) e) refl
 
 -- a configuration that can't be filled leaves the best as it is
-pub passed-closed : (s : Situation) (best : Option (List ℕ)) (subparts : List Span) → is_open s [] subparts ≡ false → passed s best (choices_of subparts) ≡ best
+pub passed-closed : (s : Situation) (best : Option (List ℕ)) (subparts : List Span) → can_all_be_filled s [] subparts ≡ false → passed s best (choices_of subparts) ≡ best
 passed-closed s best subparts h = stays (choices_of subparts) (closed-none s [] subparts h)
   where
     stays : (xs : List (List ℕ)) → AllByRecursion (λ choice. is_allowed s choice ≡ false) xs → passed s best xs ≡ best

@@ -17,5 +17,5 @@ abbrev pub may_come : Situation → (front : List ℕ) → (rest : List Span) �
 may_come s front rest c = s.has_seat c && may_have_parent s front rest c
 
 -- each of the subparts still to come has a class that may come
-abbrev pub is_open : Situation → (front : List ℕ) → (rest : List Span) → Bool
-is_open s front rest = list_all (λ t. list_any (may_come s front rest) (places_between t.first t.after)) rest
+abbrev pub can_all_be_filled : Situation → (front : List ℕ) → (rest : List Span) → Bool
+can_all_be_filled s front rest = list_all (λ t. list_any (may_come s front rest) (places_between t.first t.after)) rest

@@ -7,7 +7,7 @@ ghost use Rattle.tt_base.specs.Limits.{most_classes};
 ghost use Rattle.tt_choice.specs.Limits.{most_across};
 ghost use Rattle.tt_choice.specs.Ahead.{AreSure, IsAcross, IsLeastOf, IsLeastWith, IsSureOf};
 ghost use Rattle.tt_choice.specs.Choices.{places_between};
-ghost use Rattle.tt_choice.specs.Open.{is_open, may_come, may_have_parent};
+ghost use Rattle.tt_choice.specs.Open.{can_all_be_filled, may_come, may_have_parent};
 ghost use Rattle.tt_choice.specs.Standings.{situation_in};
 
 use crate::standing::Standing;
@@ -61,8 +61,8 @@ fn can_be_filled(standing: &Standing, front: &[u32], rest: &[Span], span: Span) 
 }
 
 // Whether each of the subparts that are still to come has a class that may come.
-pub(crate) fn is_open(standing: &Standing, front: &[u32], rest: &[Span]) -> bool
-    ensures { result ≡ is_open (situation_in standing.now) front.now rest.now }
+pub(crate) fn can_all_be_filled(standing: &Standing, front: &[u32], rest: &[Span]) -> bool
+    ensures { result ≡ can_all_be_filled (situation_in standing.now) front.now rest.now }
 {
     rest.iter()
         .all(|span| can_be_filled(standing, front, rest, *span))

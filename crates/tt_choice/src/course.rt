@@ -14,7 +14,7 @@ ghost use Rattle.tt_choice.specs.Situations.{situation_of};
 ghost use Rattle.tt_choice.specs.Standings.{situation_in};
 ghost use Rattle.tt_choice.specs.Found.{chosen, chosen_by, has_fewer, IsFoundIn, IsInVain};
 
-use crate::ahead::{is_open, look_ahead, may_come, sure_across};
+use crate::ahead::{can_all_be_filled, look_ahead, may_come, sure_across};
 use crate::buffers::ChoiceBuffers;
 use crate::standing::Standing;
 use tt_problem::Span;
@@ -73,7 +73,7 @@ fn leads_on(
     if rest.len() < 2 {
         return true;
     }
-    if !is_open(standing, front, rest) {
+    if !can_all_be_filled(standing, front, rest) {
         return false;
     }
     let across = sure_across(standing, front, rest);
@@ -224,7 +224,7 @@ fn pass_open(
         (choices_of subparts.now) }
     ensures found { IfSome result (IsFoundIn (situation_in standing.now) buffers.new.best.items) }
 {
-    if !is_open(standing, &[], subparts) {
+    if !can_all_be_filled(standing, &[], subparts) {
         return found;
     }
     look_ahead(standing, subparts, buffers.ahead.as_mut_slice());

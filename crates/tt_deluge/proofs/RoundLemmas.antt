@@ -5,7 +5,7 @@ use Rattle.std.proofs.lemmas.Bool.{le-ltb, leb-false, lt-ltb}
 use Rattle.tt_bits.specs.declared.times.Value.{Value}
 use Rattle.tt_problem.specs.declared.parts.Parts.{Parts}
 use Rattle.tt_plan.specs.Domain.{domain_of}
-use Rattle.tt_state.specs.History.{Held, trail, with_taken}
+use Rattle.tt_state.specs.History.{Contents, trail, with_taken}
 use Rattle.tt_state.specs.Snapshots.{Snapshot, is_locked_in, with_value}
 use Rattle.tt_state.specs.Values.{blocked_of, conflicts_of, total_with}
 use Rattle.tt_score.specs.Below.{below}
@@ -18,10 +18,10 @@ use Rattle.tt_deluge.proofs.FrontLemmas.{front-same}
 use Rattle.tt_deluge.proofs.LevelLemmas.{below-level}
 
 -- two states with the same problem, snapshot and entries
-pub held-same : (a b : Held) → a.problem ≡ b.problem → a.present ≡ b.present → a.entries ≡ b.entries → with_taken a [] ≡ with_taken b []
+pub held-same : (a b : Contents) → a.problem ≡ b.problem → a.present ≡ b.present → a.entries ≡ b.entries → with_taken a [] ≡ with_taken b []
 held-same a b problem present entries = rw (problem, present, entries) refl
 
-pub trail-same : (a b : Held) → a.present ≡ b.present → a.entries ≡ b.entries → trail a ≡ trail b
+pub trail-same : (a b : Contents) → a.present ≡ b.present → a.entries ≡ b.entries → trail a ≡ trail b
 trail-same a b present entries = rw (present, entries) refl
 
 -- the total with the change is at most the level, or it isn't
@@ -32,7 +32,7 @@ pub change-left : (p : Parts) (level : ℕ) (next : Snapshot) → nat_le (total_
 change-left p level next is = ap (λ (b : Bool). if b then Some next else None) is
 
 -- nothing is done
-pub round-left : (level : ℕ) (found : Option Snapshot) (old new : Held) → made_within old.problem level found ≡ None → new.present ≡ old.present → trail new ≡ trail old → IsClassRound level found old new false
+pub round-left : (level : ℕ) (found : Option Snapshot) (old new : Contents) → made_within old.problem level found ≡ None → new.present ≡ old.present → trail new ≡ trail old → IsClassRound level found old new false
 round-left level found old new change present same = record {
   round = record {
     change = change;
@@ -44,7 +44,7 @@ round-left level found old new change present same = record {
 }
 
 -- the change is made
-pub round-made : (level : ℕ) (next : Snapshot) (old new : Held) → nat_le (total_of old.problem next) level ≡ true → new.present ≡ next → BeginsWith (trail old) (trail new) → StandsAs old.problem old.present next → IsClassRound level (Some next) old new true
+pub round-made : (level : ℕ) (next : Snapshot) (old new : Contents) → nat_le (total_of old.problem next) level ≡ true → new.present ≡ next → BeginsWith (trail old) (trail new) → StandsAs old.problem old.present next → IsClassRound level (Some next) old new true
 round-made level next old new low present front stands = record {
   round = record {
     change = change-made old.problem level next low ∙ ap Some (sym present);

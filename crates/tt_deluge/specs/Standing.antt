@@ -1,7 +1,7 @@
 -- Proof. What a round stands on, and what it leaves.
 use Rattle.std.specs.Prelude.{◌≡◌, ℕ, ◌≤◌, Bool, false, cond, List, Option, Some, None, length, take}
 use Rattle.tt_problem.specs.declared.parts.Parts.{Parts}
-use Rattle.tt_state.specs.History.{Held, trail}
+use Rattle.tt_state.specs.History.{Contents, trail}
 use Rattle.tt_state.specs.Snapshots.{Snapshot, StaysLocked}
 use Rattle.tt_improve.specs.Classes.{totals_in}
 use Rattle.tt_deluge.specs.Deluged.{made_within, targets_at}
@@ -22,13 +22,13 @@ abbrev pub BeginsWith : List Snapshot → List Snapshot → Type 0
 BeginsWith front whole = take (length front) whole ≡ front
 
 -- what a round leaves that found this change: it is made where the total is then at most the level, and else nothing is
-pub record IsRound (level : ℕ) (found : Option Snapshot) (old new : Held) (made : Bool) : Type 0 where
+pub record IsRound (level : ℕ) (found : Option Snapshot) (old new : Contents) (made : Bool) : Type 0 where
   pub change : made_within old.problem level found ≡ cond made (Some new.present) None
   pub same : made ≡ false → new.present ≡ old.present
   pub front : BeginsWith (trail old) (trail new)
   pub stands : StandsAs old.problem old.present new.present
 
 -- the same, and where the change isn't made, nothing is added to the trail
-pub record IsClassRound (level : ℕ) (found : Option Snapshot) (old new : Held) (made : Bool) : Type 0 where
+pub record IsClassRound (level : ℕ) (found : Option Snapshot) (old new : Contents) (made : Bool) : Type 0 where
   pub round : IsRound level found old new made
   pub still : made ≡ false → trail new ≡ trail old

@@ -25,7 +25,7 @@ use Rattle.tt_published.specs.Published.{is_moved, moved_in}
 use Rattle.tt_published.proofs.MovedLemmas.{moved_few, moved_same}
 use Rattle.tt_state.specs.Snapshots.{Snapshot, classes_in_order, with_list}
 use Rattle.tt_state.specs.Values.{conflicts_of, obstacle_of}
-use Rattle.tt_state.specs.History.{Held, desk_of, stepped, with_taken}
+use Rattle.tt_state.specs.History.{Contents, desk_of, stepped, with_taken}
 use Rattle.tt_enrol.specs.Enrolled.{enrolled}
 use Rattle.tt_enrol.specs.Students.{classes_found}
 use Rattle.tt_state.specs.Forced.{forced}
@@ -166,7 +166,7 @@ moved_most p None plan belongs = omega arith
 moved_most p (Some t) plan belongs = omega (arith, moved_few p plan t, belongs.classes)
 
 -- so it is where the code forces a class, which looks for its conflict set before
-pub force_change : (old found new : Held) (published : Option Timetable) (class : ℕ) (v : Value) (count was is : ℕ) → IsValid new.problem → IfSome published (IsTimetableOf old.problem) → class < length old.problem.classes
+pub force_change : (old found new : Contents) (published : Option Timetable) (class : ℕ) (v : Value) (count was is : ℕ) → IsValid new.problem → IfSome published (IsTimetableOf old.problem) → class < length old.problem.classes
     → with_taken found [] ≡ with_taken old [] → desk_of new ≡ stepped (desk_of found) (forced found.problem found.present class v) → new.taken ≡ conflicts_of found.problem found.present class v → obstacle_of found.problem found.present class v ≡ None
     → (obstacle_of old.problem old.present class v ≡ None → was ≡ moved_among old.problem published old.present.plan (class ∷ conflicts_of old.problem old.present class v))
     → is ≡ moved_among new.problem published new.present.plan (class ∷ new.taken) → All (λ c. c < length new.problem.classes) new.taken

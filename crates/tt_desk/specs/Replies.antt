@@ -62,14 +62,14 @@ abbrev pub with_later : Step → List Step → List Step
 with_later step later = step ∷ (if is_end step.outcome then [] else later)
 
 -- what the lines do, one after another, up to `quit` or the last one
-abbrev pub steps_of : Session → List (List ℕ) → List Step
-steps_of s [] = []
-steps_of s (line ∷ lines) = with_later (line_step s line) (steps_of (line_step s line).session lines)
+abbrev pub script_steps : Session → List (List ℕ) → List Step
+script_steps s [] = []
+script_steps s (line ∷ lines) = with_later (line_step s line) (script_steps (line_step s line).session lines)
 
 -- a reply for each of these lines
 abbrev pub replies_to : Session → List (List ℕ) → List (List ℕ)
-replies_to s lines = map reply_of (steps_of s lines)
+replies_to s lines = map reply_of (script_steps s lines)
 
 -- whether one of these lines is refused
 abbrev pub refuses : Session → List (List ℕ) → Bool
-refuses s lines = list_any (λ step. is_refused step.outcome) (steps_of s lines)
+refuses s lines = list_any (λ step. is_refused step.outcome) (script_steps s lines)

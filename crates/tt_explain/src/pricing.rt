@@ -15,11 +15,11 @@ use tt_plan::{domain_size, value_at};
 use tt_state::State;
 use tt_text::Reply;
 
-/// What a class at a value would cost: how many classes it pushes out, what these weigh, and the total.
+/// What a class at a value would cost: how many classes it pushes out, their tolls, and the total.
 #[derive(Clone, Copy, Debug, PartialEq, Eq)]
 pub struct ValueCosts {
     pub out: u32,
-    pub weight: u128,
+    pub tolls: u128,
     pub total: u128,
 }
 
@@ -34,9 +34,9 @@ fn value_costs(state: &mut State, class: u32, value: Value) -> ValueCosts
 {
     state.problem().validity();
     let out = state.taken().len() as u32;
-    let weight = state.weight(class, value);
+    let tolls = state.tolls(class, value);
     let total = state.trial(class, value);
-    ValueCosts { out, weight, total }
+    ValueCosts { out, tolls, total }
 }
 
 // Appends what a class at a value would cost.
@@ -45,7 +45,7 @@ fn add_costs(out: &mut Reply, costs: ValueCosts) -> Result<(), AllocError>
     ensures { OnOk result (out.new ≡ out.old ++ costs_text costs) }
 {
     out.field("out ", u128::from(costs.out))?;
-    out.field(" weight ", costs.weight)?;
+    out.field(" weight ", costs.tolls)?;
     out.field(" trial ", costs.total)
 }
 

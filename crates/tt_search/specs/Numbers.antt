@@ -8,7 +8,7 @@ use Rattle.tt_search.specs.declared.price.Rank.{Rank}
 use Rattle.tt_search.specs.declared.turn.Turn.{Turn}
 use Rattle.tt_state.specs.Snapshots.{Snapshot}
 use Rattle.tt_state.specs.Values.{obstacle_of}
-use Rattle.tt_state.specs.Weights.{weight_of}
+use Rattle.tt_state.specs.Tolls.{tolls_of}
 use Rattle.tt_published.specs.Timetable.{Timetable}
 use Rattle.tt_search.specs.Turns.{forced_if, strays_in}
 
@@ -27,7 +27,7 @@ pub record IsAvailable (p : Parts) (s : Snapshot) (class : ℕ) (v : Value) : Ty
 
 -- the numbers of the price of a value: the weight, and whether it strays from what is published
 abbrev pub prices_of : Parts → Option Timetable → Snapshot → (class : ℕ) → Value → List ℕ
-prices_of p published s class v = weight_of p s class v ∷ strays_in p published class v ∷ []
+prices_of p published s class v = tolls_of p s class v ∷ strays_in p published class v ∷ []
 
 -- the least price so far weighs less than so many classes
 abbrev pub WeighsLess : Option Price → (count : ℕ) → Type 0

@@ -46,7 +46,7 @@ fn look_at(state: &mut State, aim: &Aim, class: u32, value: Value, least: &mut L
     if !may_be_offered(state, class, value, least.price()) {
         return;
     }
-    let weight = state.weight(class, value);
+    let weight = state.tolls(class, value);
     let strays = is_stray(state.problem(), aim, class, value);
     least.take(value, Price { weight, strays });
 }

@@ -12,7 +12,7 @@ use Rattle.tt_state.specs.Sound.{AreLocksOf, IsSound}
 use Rattle.tt_state.specs.History.{HasStep, unplaced_by}
 use Rattle.tt_state.specs.Kept.{LeadBack, counts_of}
 use Rattle.tt_state.specs.Past.{HasPastOf, LeadsTo, StandsOn}
-use Rattle.tt_state.specs.Turned.{all_turned, may_turn, turn_of}
+use Rattle.tt_state.specs.Turned.{all_turned, may_turn, lock_entry}
 use Rattle.tt_state.proofs.PastLemmas.{past_by}
 use Rattle.tt_state.proofs.StateLemmas.{placed, then}
 use Rattle.tt_state.proofs.ForceLemmas.{some_within}
@@ -57,16 +57,16 @@ locks_turned p s class lock may of = record {
 }
 
 -- what an entry of a lock stands on, and the past that it leaves
-stands_turned : (p : Parts) (t : Snapshot) (es : List Entry) (class : ℕ) (lock : Bool) → IsSound p t → class < length t.locks → LeadBack p (with_lock t class (not lock)) es → t.statistics ≡ counts_of es → HasStep es → StandsOn p t (turn_of lock class ∷ es)
+stands_turned : (p : Parts) (t : Snapshot) (es : List Entry) (class : ℕ) (lock : Bool) → IsSound p t → class < length t.locks → LeadBack p (with_lock t class (not lock)) es → t.statistics ≡ counts_of es → HasStep es → StandsOn p t (lock_entry lock class ∷ es)
 stands_turned p t es class true sound lt back counted step = record { sound = sound; back = (step, (lt, back)); counted = counted; step = step }
 stands_turned p t es class false sound lt back counted step = record { sound = sound; back = (step, (lt, back)); counted = counted; step = step }
 
-past_turned : (s t : Snapshot) (es : List Entry) (class : ℕ) (lock : Bool) → with_lock t class (not lock) ≡ s → HasPastOf s es t (turn_of lock class ∷ es)
+past_turned : (s t : Snapshot) (es : List Entry) (class : ℕ) (lock : Bool) → with_lock t class (not lock) ≡ s → HasPastOf s es t (lock_entry lock class ∷ es)
 past_turned s t es class true back = past_by s (with_lock t class false) t es (Locked class ∷ es) back refl refl refl refl refl
 past_turned s t es class false back = past_by s (with_lock t class true) t es (Unlocked class ∷ es) back refl refl refl refl refl
 
 -- a lock turned
-pub turned_one : (p : Parts) (s : Snapshot) (es : List Entry) (class : ℕ) (lock : Bool) → StandsOn p s es → may_turn lock s class ≡ true → LeadsTo p s es (with_lock s class lock) (turn_of lock class ∷ es)
+pub turned_one : (p : Parts) (s : Snapshot) (es : List Entry) (class : ℕ) (lock : Bool) → StandsOn p s es → may_turn lock s class ≡ true → LeadsTo p s es (with_lock s class lock) (lock_entry lock class ∷ es)
 turned_one p s es class lock on may =
     let now = turns s class lock (on.sound.plan.whole ∙ sym on.sound.locks.whole) may in
     let t = with_lock s class lock in

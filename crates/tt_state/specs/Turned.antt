@@ -11,9 +11,9 @@ may_turn true s class = may_lock s class
 may_turn false s class = is_locked_in s class
 
 -- the entry of a class that got a lock, or lost it
-abbrev pub turn_of : (lock : Bool) → (class : ℕ) → Entry
-turn_of true class = Locked class
-turn_of false class = Unlocked class
+abbrev pub lock_entry : (lock : Bool) → (class : ℕ) → Entry
+lock_entry true class = Locked class
+lock_entry false class = Unlocked class
 
 -- the classes that may get a lock, or have one: those of `lockable`, or of `locked_classes`
 abbrev pub turning : (lock : Bool) → Snapshot → List ℕ

@@ -7,7 +7,7 @@ ghost use Rattle.tt_state.specs.Faults.{lock_fault_of};
 ghost use Rattle.tt_state.specs.History.{noted_by};
 ghost use Rattle.tt_state.specs.Kept.{snapshot_of};
 ghost use Rattle.tt_state.specs.Past.{LeadsTo, StandsOn};
-ghost use Rattle.tt_state.specs.Turned.{all_turned, may_turn, turn_of, turning};
+ghost use Rattle.tt_state.specs.Turned.{all_turned, may_turn, lock_entry, turning};
 
 use crate::past::Past;
 use crate::present::Present;
@@ -55,7 +55,7 @@ pub fn turn(present: &mut Present, past: &mut Past, class: u32, lock: bool)
     requires spare { 1 ≤ past.old.spare }
     ensures score { present.new.score ≡ present.old.score }
     ensures now { snapshot_of present.new ≡ with_lock (snapshot_of present.old) class lock }
-    ensures entries { past.new.list ≡ turn_of lock class ∷ past.old.list }
+    ensures entries { past.new.list ≡ lock_entry lock class ∷ past.old.list }
     ensures spare { past.new.spare + 1 ≡ past.old.spare }
 {
     past.note(if lock {
@@ -91,7 +91,7 @@ pub fn turn_all(problem: &Problem, present: &mut Present, past: &mut Past, lock:
         (snapshot_of present.new) past.new.list }
     ensures now { snapshot_of present.new ≡ all_turned lock (snapshot_of present.old) }
     ensures entries { past.new.list
-        ≡ noted_by (turn_of lock) (turning lock (snapshot_of present.old)) past.old.list }
+        ≡ noted_by (lock_entry lock) (turning lock (snapshot_of present.old)) past.old.list }
 {
     for class in 0..problem.class_count() {
         if may_turn(present, class, lock) {

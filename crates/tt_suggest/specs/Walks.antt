@@ -6,7 +6,7 @@ use Rattle.tt_bits.specs.declared.times.Value.{Value}
 use Rattle.tt_problem.specs.declared.parts.Parts.{Parts}
 use Rattle.tt_published.specs.Published.{moved_in}
 use Rattle.tt_published.specs.Timetable.{Timetable}
-use Rattle.tt_state.specs.History.{Held, IsWithinStep, trail, with_taken}
+use Rattle.tt_state.specs.History.{Contents, IsWithinStep, trail, with_taken}
 use Rattle.tt_state.specs.Snapshots.{Snapshot}
 use Rattle.tt_suggest.specs.declared.branch.Branch.{Branch}
 use Rattle.tt_suggest.specs.declared.suggestion.Rank.{Rank}
@@ -44,13 +44,13 @@ pub record IsBranchOf (p : Parts) (published : Option Timetable) (s : Snapshot) 
   pub moved : b.moved ≡ moved_in p published s.plan
 
 -- the second state is the first with some moments more in its last step
-pub record HasGoneOn (old new : Held) : Type 0 where
+pub record HasGoneOn (old new : Contents) : Type 0 where
   pub step : IsWithinStep old new
   pub more : List Snapshot
   pub trail : trail new ≡ trail old ++ more
 
 -- the second state is at the moment of the first
-pub record IsBack (old new : Held) : Type 0 where
+pub record IsBack (old new : Contents) : Type 0 where
   pub step : IsWithinStep (with_taken old []) (with_taken new [])
   pub present : new.present ≡ old.present
   pub trail : trail new ≡ trail old
@@ -66,22 +66,22 @@ abbrev pub FindsAt : Parts → Option Timetable → (left : ℕ) → Node → (o
 FindsAt p aim left node old new = AreFoundIn (tries_of p left node) (map (suggestion_of p aim) (leaves_of p left node)) old new
 
 -- what is found below a branch at the snapshot of a state
-abbrev pub FindsBelow : Held → Option Timetable → Branch → (old new : Suggested) → Type 0
+abbrev pub FindsBelow : Contents → Option Timetable → Branch → (old new : Suggested) → Type 0
 FindsBelow state aim b old new = FindsAt state.problem aim (suc b.spare) (node_of state.present b) old new
 
 -- what is found below the child of a branch by its class at a value
-abbrev pub FindsAtChild : Held → Option Timetable → Branch → Value → (old new : Suggested) → Type 0
+abbrev pub FindsAtChild : Contents → Option Timetable → Branch → Value → (old new : Suggested) → Type 0
 FindsAtChild state aim b v old new = FindsAt state.problem aim b.spare (child_of state.problem state.present b v) old new
 
 -- what is found by a value of the class of a branch: that, if the value gives a child
-abbrev pub FindsBy : Held → Option Timetable → Branch → Value → (old new : Suggested) → Type 0
+abbrev pub FindsBy : Contents → Option Timetable → Branch → Value → (old new : Suggested) → Type 0
 FindsBy state aim b v old new =
     AreFoundIn (tries_by state.problem state.present b (v ∷ [])) (suggestions_by state.problem aim state.present b (v ∷ [])) old new
 
 -- how many values are tried below a branch
-abbrev pub tries_below : Held → Branch → ℕ
+abbrev pub tries_below : Contents → Branch → ℕ
 tries_below state b = tries_of state.problem (suc b.spare) (node_of state.present b)
 
 -- how many values are tried below its child by a value
-abbrev pub tries_at_child : Held → Branch → Value → ℕ
+abbrev pub tries_at_child : Contents → Branch → Value → ℕ
 tries_at_child state b v = tries_of state.problem b.spare (child_of state.problem state.present b v)

@@ -5,7 +5,7 @@ ghost use Rattle.tt_state.specs.Snapshots.{all_locked, is_locked_in, lockable, l
 ghost use Rattle.tt_state.specs.Faults.{lock_fault_of};
 ghost use Rattle.tt_state.specs.Past.{HasPastOf, MayBegin, begun};
 ghost use Rattle.tt_state.specs.History.{IsWithinStep, desk_of, earlier, moved_to, noted_by, point_count, stepped, trail};
-ghost use Rattle.tt_state.specs.Turned.{all_turned, may_turn, turn_of, turning};
+ghost use Rattle.tt_state.specs.Turned.{all_turned, may_turn, lock_entry, turning};
 
 use crate::locks::{LockFault, lock_fault, turn, turn_all, turn_count};
 use crate::past::Beginning;
@@ -29,7 +29,7 @@ impl State {
             ≡ record {
               problem = self.old.problem;
               present = with_lock self.old.present class lock;
-              entries = turn_of lock class ∷ begun beginning self.old.entries;
+              entries = lock_entry lock class ∷ begun beginning self.old.entries;
               taken = self.old.taken;
             }) }
         ensures past { OnOk result (HasPastOf self.old.present (begun beginning self.old.entries)
@@ -115,7 +115,7 @@ impl State {
             ≡ record {
               problem = self.old.problem;
               present = all_turned lock self.old.present;
-              entries = noted_by (turn_of lock) (turning lock self.old.present)
+              entries = noted_by (lock_entry lock) (turning lock self.old.present)
                   (begun Beginning.Step self.old.entries);
               taken = self.old.taken;
             }) }

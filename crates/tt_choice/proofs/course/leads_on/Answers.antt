@@ -9,9 +9,9 @@ returns-then-not-is_fewer c = λ e.
     many-vain s c.args.found c.args.front.now c.args.rest.now c.args.ahead 0 (c.args.pairs + c.args.ahead) c.requires.sure (across-zero s c.args.front.now c.args.rest.now)
     (omega (arith, c.requires.pairs)) (sym c.is_fewer.ensures ∙ c.if-not-is_fewer.true)
 
-pub returns-then-not-is_open : goal.returns-then-not-is_open
-returns-then-not-is_open c = λ e.
-    closed-vain (situation_in c.args.standing.now) c.args.found c.args.front.now c.args.rest.now (sym c.is_open.ensures ∙ c.if-not-is_open.true)
+pub returns-then-not-can_all_be_filled : goal.returns-then-not-can_all_be_filled
+returns-then-not-can_all_be_filled c = λ e.
+    closed-vain (situation_in c.args.standing.now) c.args.found c.args.front.now c.args.rest.now (sym c.can_all_be_filled.ensures ∙ c.if-not-can_all_be_filled.true)
 
 pub returns : goal.returns
 returns c = λ e.

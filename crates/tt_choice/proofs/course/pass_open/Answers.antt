@@ -4,6 +4,6 @@ use Rattle.tt_choice.specs.Found.{chosen}
 use Rattle.tt_choice.proofs.VainLemmas.{passed-closed}
 use Rattle.tt_choice.proofs.course.pass_open.Goals as goal
 
-pub returns-then-not-is_open-clause-best : goal.returns-then-not-is_open-clause-best
-returns-then-not-is_open-clause-best c =
-    sym (passed-closed (situation_in c.args.standing.now) (chosen c.args.buffers.now.best.items c.args.found) c.args.subparts.now (sym c.is_open.ensures ∙ c.if-not-is_open.true))
+pub returns-then-not-can_all_be_filled-clause-best : goal.returns-then-not-can_all_be_filled-clause-best
+returns-then-not-can_all_be_filled-clause-best c =
+    sym (passed-closed (situation_in c.args.standing.now) (chosen c.args.buffers.now.best.items c.args.found) c.args.subparts.now (sym c.can_all_be_filled.ensures ∙ c.if-not-can_all_be_filled.true))

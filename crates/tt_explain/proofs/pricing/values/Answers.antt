@@ -2,7 +2,7 @@ use Rattle.std.proofs.Common.{◌≡◌, ◌∙◌, ◌≤◌, ◌++◌, length,
 use Rattle.std.specs.Prelude.{slice_get, Some}
 use Rattle.tt_problem.specs.declared.parts.Parts.{Parts}
 use Rattle.tt_plan.specs.Domain.{domain_of}
-use Rattle.tt_state.specs.History.{Held}
+use Rattle.tt_state.specs.History.{Contents}
 use Rattle.tt_state.specs.Snapshots.{Snapshot}
 use Rattle.tt_explain.specs.Values.{priced_line, values_lines}
 use Rattle.tt_explain.proofs.LineLemmas.{all_written, next_written, priced_lines-more, priced_lines-none}
@@ -17,8 +17,8 @@ pub loop-k-preserved : goal.loop-k-preserved
 loop-k-preserved c =
     let s = c.args.state.now in
     let same = c.loop-k.invariant.same in
-    let problem : c.loop-k.state.problem ≡ s.problem = ap (λ (h : Held). h.problem) same in
-    let present : c.loop-k.state.present ≡ s.present = ap (λ (h : Held). h.present) same in
+    let problem : c.loop-k.state.problem ≡ s.problem = ap (λ (h : Contents). h.problem) same in
+    let present : c.loop-k.state.present ≡ s.present = ap (λ (h : Contents). h.present) same in
     let at : slice_get (domain_of s.problem c.args.class) c.loop-k.k ≡ Some c.value_at-value.result = rw (c.problem-in-loop-k.ensures, problem) at c.value_at-value.ensures.value in
     record {
       same = c.in_ok-add_priced_line.ensures.same ∙ same;

@@ -3,7 +3,7 @@ use Rattle.std.specs.List.{filter}
 use Rattle.tt_state.specs.Snapshots.{Snapshot, is_locked_in, with_lock, with_locks}
 use Rattle.tt_state.specs.History.{noted_by}
 use Rattle.tt_state.specs.Kept.{snapshot_of}
-use Rattle.tt_state.specs.Turned.{may_turn, turn_of}
+use Rattle.tt_state.specs.Turned.{may_turn, lock_entry}
 use Rattle.tt_state.proofs.LockLemmas.{from_on, lock_at, lock_stays, lock_turned, locks_at_end, passing_less, passing_more, turned_one, turns_alike, with_locks_to}
 use Rattle.tt_state.proofs.StateLemmas.{leads_by, then}
 use Rattle.tt_state.proofs.locks.turn_all.Goals.{then-may_turn, else-may_turn}
@@ -33,10 +33,10 @@ loop-class-preserved c =
           rw (w.present-is, w.past-is) (record {
             score = w.turn.ensures.score ∙ l.invariant.score;
             leads = then p s t (snapshot_of w.turn.new.present) c.args.past.now.list es w.turn.new.past.list l.invariant.leads
-                (leads_by p t (with_lock t i lock) (snapshot_of w.turn.new.present) es (turn_of lock i ∷ es) w.turn.new.past.list (turned_one p t es i lock l.invariant.leads.stands may) w.turn.ensures.now w.turn.ensures.entries);
+                (leads_by p t (with_lock t i lock) (snapshot_of w.turn.new.present) es (lock_entry lock i ∷ es) w.turn.new.past.list (turned_one p t es i lock l.invariant.leads.stands may) w.turn.ensures.now w.turn.ensures.entries);
             now = w.turn.ensures.now ∙ ap (λ x. with_lock x i lock) l.invariant.now ∙ ap (with_locks s) (lock_turned p s lock i sound in_locks (sym alike ∙ may));
             spare = omega (arith, ap (λ (x : List ℕ). length x) more, w.turn.ensures.spare, l.invariant.spare);
-            entries = ap (noted_by (turn_of lock) rest) w.turn.ensures.entries ∙ ap (λ (x : List ℕ). noted_by (turn_of lock) x es) (sym more) ∙ l.invariant.entries;
+            entries = ap (noted_by (lock_entry lock) rest) w.turn.ensures.entries ∙ ap (λ (x : List ℕ). noted_by (lock_entry lock) x es) (sym more) ∙ l.invariant.entries;
           })
       | else-may_turn w ↦
           let stays : may_turn lock t i ≡ false = sym c.may_turn.ensures ∙ w.if-may_turn.false in
@@ -46,7 +46,7 @@ loop-class-preserved c =
             leads = l.invariant.leads;
             now = l.invariant.now ∙ ap (with_locks s) (lock_stays p s lock i sound in_locks (sym alike ∙ stays));
             spare = omega (arith, ap (λ (x : List ℕ). length x) less, l.invariant.spare);
-            entries = ap (λ (x : List ℕ). noted_by (turn_of lock) x es) (sym less) ∙ l.invariant.entries;
+            entries = ap (λ (x : List ℕ). noted_by (lock_entry lock) x es) (sym less) ∙ l.invariant.entries;
           })
     ]
 

@@ -1,5 +1,5 @@
 use Rattle.std.proofs.Common.{◌≡◌, ◌∙◌, length, true, false, Err, ap, sym, refl, arith}
-use Rattle.tt_state.specs.History.{Held}
+use Rattle.tt_state.specs.History.{Contents}
 use Rattle.tt_state.specs.Values.{conflicts_of}
 use Rattle.tt_suggest.specs.declared.suggestion.SuggestEnd.TheVariants.{TooMany}
 use Rattle.tt_suggest.proofs.BackLemmas.{back_next, back_same}
@@ -19,8 +19,8 @@ try_value-returns-in_ok-offer-in-Some-clause-found t c =
     let start = c.args.state.now in
     let branch = c.args.branch.now in
     let some : gives start.problem start.present branch c.args.value ≡ true = sym c.gives_child.ensures.gives ∙ c.if-not-gives_child.false in
-    let problem : c.gives_child.new.state.problem ≡ start.problem = ap (λ (h : Held). h.problem) c.gives_child.ensures.same in
-    let present : c.gives_child.new.state.present ≡ start.present = ap (λ (h : Held). h.present) c.gives_child.ensures.same in
+    let problem : c.gives_child.new.state.problem ≡ start.problem = ap (λ (h : Contents). h.problem) c.gives_child.ensures.same in
+    let present : c.gives_child.new.state.present ≡ start.present = ap (λ (h : Contents). h.present) c.gives_child.ensures.same in
     let conflicts : c.taken.result.now ≡ conflicts_of start.problem start.present branch.class c.args.value = c.taken.ensures.classes ∙ c.gives_child.ensures.taken c.if-not-gives_child.false in
     let empty = both_empty branch.others.items c.taken.result.now (sym c.is_last.ensures ∙ c.if-is_last.true) in
     let ranked = rw (problem, present) at c.in-Some.ensures.rank in
@@ -31,8 +31,8 @@ try_value-returns-in-None-clause-found t c =
     let start = c.args.state.now in
     let branch = c.args.branch.now in
     let some : gives start.problem start.present branch c.args.value ≡ true = sym c.gives_child.ensures.gives ∙ c.if-not-gives_child.false in
-    let problem : c.gives_child.new.state.problem ≡ start.problem = ap (λ (h : Held). h.problem) c.gives_child.ensures.same in
-    let present : c.gives_child.new.state.present ≡ start.present = ap (λ (h : Held). h.present) c.gives_child.ensures.same in
+    let problem : c.gives_child.new.state.problem ≡ start.problem = ap (λ (h : Contents). h.problem) c.gives_child.ensures.same in
+    let present : c.gives_child.new.state.present ≡ start.present = ap (λ (h : Contents). h.present) c.gives_child.ensures.same in
     let conflicts : c.taken.result.now ≡ conflicts_of start.problem start.present branch.class c.args.value = c.taken.ensures.classes ∙ c.gives_child.ensures.taken c.if-not-gives_child.false in
     let empty = both_empty branch.others.items c.taken.result.now (sym c.is_last.ensures ∙ c.if-is_last.true) in
     leaf_above start.problem c.args.aim.now start.present branch c.args.value c.args.found.now some empty.0 (sym conflicts ∙ empty.1) c.requires.few (rw (problem, present) at c.in-None.ensures.above)
@@ -42,8 +42,8 @@ try_value-returns-clause-found t c =
     let start = c.args.state.now in
     let branch = c.args.branch.now in
     let some : gives start.problem start.present branch c.args.value ≡ true = sym c.gives_child.ensures.gives ∙ c.if-not-gives_child.false in
-    let problem : c.gives_child.new.state.problem ≡ start.problem = ap (λ (h : Held). h.problem) c.gives_child.ensures.same in
-    let present : c.gives_child.new.state.present ≡ start.present = ap (λ (h : Held). h.present) c.gives_child.ensures.same in
+    let problem : c.gives_child.new.state.problem ≡ start.problem = ap (λ (h : Contents). h.problem) c.gives_child.ensures.same in
+    let present : c.gives_child.new.state.present ≡ start.present = ap (λ (h : Contents). h.present) c.gives_child.ensures.same in
     on_ok c.descend.result (child_found start.problem c.args.aim.now start.present branch c.args.value c.args.found.now c.descend.new.found some) (rw (problem, present) at c.descend.ensures.found)
 
 pub try_value-returns-clause-too_many : goal.try_value-returns-clause-too_many
@@ -51,8 +51,8 @@ try_value-returns-clause-too_many t c =
     let start = c.args.state.now in
     let branch = c.args.branch.now in
     let some : gives start.problem start.present branch c.args.value ≡ true = sym c.gives_child.ensures.gives ∙ c.if-not-gives_child.false in
-    let problem : c.gives_child.new.state.problem ≡ start.problem = ap (λ (h : Held). h.problem) c.gives_child.ensures.same in
-    let present : c.gives_child.new.state.present ≡ start.present = ap (λ (h : Held). h.present) c.gives_child.ensures.same in
+    let problem : c.gives_child.new.state.problem ≡ start.problem = ap (λ (h : Contents). h.problem) c.gives_child.ensures.same in
+    let present : c.gives_child.new.state.present ≡ start.present = ap (λ (h : Contents). h.present) c.gives_child.ensures.same in
     λ many. child_too_many start.problem start.present branch c.args.value c.args.found.now.tried some (rw (problem, present) at (c.descend.ensures.too_many many))
 
 pub walk-returns-in_err-add_tries-clause-too_many : goal.walk-returns-in_err-add_tries-clause-too_many

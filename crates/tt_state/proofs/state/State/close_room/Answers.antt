@@ -4,7 +4,7 @@ use Rattle.tt_problem.specs.Valid.{IsTimeOf}
 use Rattle.tt_state.specs.declared.past.Beginning.TheVariants.{Step}
 use Rattle.tt_state.specs.declared.present.Present.{Present}
 use Rattle.tt_state.specs.Snapshots.{with_closed}
-use Rattle.tt_state.specs.History.{Held}
+use Rattle.tt_state.specs.History.{Contents}
 use Rattle.tt_state.specs.Kept.{snapshot_of}
 use Rattle.tt_state.specs.Past.{HasPastOf, LeadsTo, begun}
 use Rattle.tt_state.proofs.StateLemmas.{leads_by, on_beginning, same_snapshot, state_after}
@@ -22,9 +22,9 @@ leads c =
     let i = c.self.inside in
     let s = snapshot_of i.present in
     let es = begun Step i.past.list in
-    let within = subst (λ (h : Held). c.args.room < length h.problem.rooms) (sym c.self.view_is) c.requires.room in
-    let time = subst (λ (h : Held). IsTimeOf h.problem.nr_days h.problem.nr_weeks c.args.time) (sym c.self.view_is) c.requires.time in
-    let few = subst (λ (h : Held). length h.present.closures < 10000) (sym c.self.view_is) c.requires.few in
+    let within = subst (λ (h : Contents). c.args.room < length h.problem.rooms) (sym c.self.view_is) c.requires.room in
+    let time = subst (λ (h : Contents). IsTimeOf h.problem.nr_days h.problem.nr_weeks c.args.time) (sym c.self.view_is) c.requires.time in
+    let few = subst (λ (h : Contents). length h.present.closures < 10000) (sym c.self.view_is) c.requires.few in
     let noted = c.note.ensures.list ∙ ap (λ l. Closed ∷ l) (c.begin.ensures.entries ∙ ap (begun Step) c.reserve.ensures.list) in
     leads_by i.problem s (with_closed s c.args.room c.args.time) (snapshot_of (after c)) es (Closed ∷ es) c.note.new.self.list
     (closed_one i.problem s es c.args.room c.args.time (on_beginning Step i.problem i.present i.past.list c.self.invariant.0 tt) within time few)
@@ -36,4 +36,4 @@ invariant_of-self-2 c = (state_after c.self.inside.problem _ _ _ c.note.new.self
 pub returns-clause-past : goal.returns-clause-past
 returns-clause-past c =
     let now = snapshot_of (after c) in
-    subst (λ (h : Held). HasPastOf h.present (begun Step h.entries) now c.note.new.self.list) c.self.view_is (leads c).past
+    subst (λ (h : Contents). HasPastOf h.present (begun Step h.entries) now c.note.new.self.list) c.self.view_is (leads c).past

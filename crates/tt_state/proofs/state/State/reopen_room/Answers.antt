@@ -2,7 +2,7 @@ use Rattle.std.proofs.Common.{◌∙◌, ap, refl, subst}
 use Rattle.tt_state.specs.declared.past.Beginning.TheVariants.{Step}
 use Rattle.tt_state.specs.declared.present.Present.{Present}
 use Rattle.tt_state.specs.Snapshots.{with_reopened}
-use Rattle.tt_state.specs.History.{Held, lifted_by}
+use Rattle.tt_state.specs.History.{Contents, lifted_by}
 use Rattle.tt_state.specs.Kept.{snapshot_of}
 use Rattle.tt_state.specs.Past.{HasPastOf, LeadsTo, begun}
 use Rattle.tt_state.proofs.StateLemmas.{leads_by, on_beginning, same_snapshot, state_after}
@@ -30,4 +30,4 @@ invariant_of-self-2 c = (state_after c.self.inside.problem _ _ _ c.lift_all.new.
 pub returns-clause-past : goal.returns-clause-past
 returns-clause-past c =
     let now = snapshot_of (after c) in
-    subst (λ (h : Held). HasPastOf h.present (begun Step h.entries) now c.lift_all.new.past.list) c.self.view_is (leads c).past
+    subst (λ (h : Contents). HasPastOf h.present (begun Step h.entries) now c.lift_all.new.past.list) c.self.view_is (leads c).past

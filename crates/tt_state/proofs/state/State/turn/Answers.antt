@@ -1,17 +1,17 @@
 use Rattle.std.proofs.Common.{◌≡◌, ◌∙◌, ◌∷◌, ap, sym, subst, true}
 use Rattle.tt_score.specs.Fits.{Fits}
 use Rattle.tt_state.specs.Snapshots.{with_lock}
-use Rattle.tt_state.specs.History.{Held}
+use Rattle.tt_state.specs.History.{Contents}
 use Rattle.tt_state.specs.Kept.{snapshot_of}
 use Rattle.tt_state.specs.Past.{HasPastOf, LeadsTo, MayBegin, begun}
-use Rattle.tt_state.specs.Turned.{may_turn, turn_of}
+use Rattle.tt_state.specs.Turned.{may_turn, lock_entry}
 use Rattle.tt_state.proofs.LockLemmas.{turned_one, turns}
 use Rattle.tt_state.proofs.StateLemmas.{leads_by, on_beginning, state_after}
 use Rattle.tt_state.proofs.state.State.turn.Goals as goal
 
 pub turn-requires-clause-within : goal.turn-requires-clause-within
 turn-requires-clause-within c =
-    let may = subst (λ (h : Held). may_turn c.args.lock h.present c.args.class ≡ true) (sym c.self.view_is) c.requires.may in
+    let may = subst (λ (h : Contents). may_turn c.args.lock h.present c.args.class ≡ true) (sym c.self.view_is) c.requires.may in
     let sound = c.self.invariant.0.sound in
     (turns (snapshot_of c.self.inside.present) c.args.class c.args.lock (sound.plan.whole ∙ sym sound.locks.whole) may).within
 
@@ -21,9 +21,9 @@ leads c =
     let i = c.self.inside in
     let s = snapshot_of i.present in
     let es = begun c.args.beginning i.past.list in
-    let note = turn_of c.args.lock c.args.class in
-    let begins = subst (λ (h : Held). MayBegin c.args.beginning h.entries) (sym c.self.view_is) c.requires.begins in
-    let may = subst (λ (h : Held). may_turn c.args.lock h.present c.args.class ≡ true) (sym c.self.view_is) c.requires.may in
+    let note = lock_entry c.args.lock c.args.class in
+    let begins = subst (λ (h : Contents). MayBegin c.args.beginning h.entries) (sym c.self.view_is) c.requires.begins in
+    let may = subst (λ (h : Contents). may_turn c.args.lock h.present c.args.class ≡ true) (sym c.self.view_is) c.requires.may in
     let noted = c.turn.ensures.entries ∙ ap (λ l. note ∷ l) (c.begin.ensures.entries ∙ ap (begun c.args.beginning) c.reserve.ensures.list) in
     leads_by i.problem s (with_lock s c.args.class c.args.lock) (snapshot_of c.turn.new.present) es (note ∷ es) c.turn.new.past.list
     (turned_one i.problem s es c.args.class c.args.lock (on_beginning c.args.beginning i.problem i.present i.past.list c.self.invariant.0 begins) may) c.turn.ensures.now noted
@@ -37,4 +37,4 @@ invariant_of-self-2 c =
 pub returns-clause-past : goal.returns-clause-past
 returns-clause-past c =
     let after = snapshot_of c.turn.new.present in
-    subst (λ (h : Held). HasPastOf h.present (begun c.args.beginning h.entries) after c.turn.new.past.list) c.self.view_is (leads c).past
+    subst (λ (h : Contents). HasPastOf h.present (begun c.args.beginning h.entries) after c.turn.new.past.list) c.self.view_is (leads c).past

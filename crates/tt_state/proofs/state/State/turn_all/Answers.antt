@@ -1,7 +1,7 @@
 use Rattle.std.proofs.Common.{◌∙◌, ap, subst, sym}
 use Rattle.tt_score.specs.Fits.{Fits}
 use Rattle.tt_state.specs.declared.past.Beginning.TheVariants.{Step}
-use Rattle.tt_state.specs.History.{Held}
+use Rattle.tt_state.specs.History.{Contents}
 use Rattle.tt_state.specs.Kept.{snapshot_of}
 use Rattle.tt_state.specs.Past.{HasPastOf, LeadsTo, StandsOn, begun}
 use Rattle.tt_state.proofs.StateLemmas.{on_beginning, state_after}
@@ -29,4 +29,4 @@ invariant_of-self-2 c =
 pub returns-clause-past : goal.returns-clause-past
 returns-clause-past c =
     let after = snapshot_of c.turn_all.new.present in
-    subst (λ (h : Held). HasPastOf h.present (begun Step h.entries) after c.turn_all.new.past.list) c.self.view_is (leads c).past
+    subst (λ (h : Contents). HasPastOf h.present (begun Step h.entries) after c.turn_all.new.past.list) c.self.view_is (leads c).past

@@ -2,7 +2,7 @@
 
 ghost use Rattle.std.specs.Prelude.{◌≡◌, ◌≤◌, ◌^◌};
 ghost use Rattle.tt_state.specs.Values.{conflicts_of};
-ghost use Rattle.tt_state.specs.Weights.{toll_of, weight_of};
+ghost use Rattle.tt_state.specs.Tolls.{toll_of, tolls_of};
 
 use crate::state::State;
 use tt_bits::{Key, Value};
@@ -26,17 +26,17 @@ impl State {
     }
 
     /// The tolls of the whole conflict set of a class at a value, which was found last.
-    #[tactic(auto, unfolding(crate::specs::Weights::weight_of))]
-    pub fn weight(&self, class: u32, value: Value) -> u128
+    #[tactic(auto, unfolding(crate::specs::Tolls::tolls_of))]
+    pub fn tolls(&self, class: u32, value: Value) -> u128
         requires taken { self.now.taken
             ≡ conflicts_of self.now.problem self.now.present class value }
-        ensures weight { result ≡ weight_of self.now.problem self.now.present class value }
+        ensures tolls { result ≡ tolls_of self.now.problem self.now.present class value }
     {
         self.problem().validity();
-        let mut weight = 0;
+        let mut tolls = 0;
         for other in self.taken() {
-            weight += self.toll(class, value, *other);
+            tolls += self.toll(class, value, *other);
         }
-        weight
+        tolls
     }
 }

@@ -17,5 +17,5 @@ abbrev pub toll_of : Snapshot → (class : ℕ) → Value → (other : ℕ) → 
 toll_of s class v other = toll_by s class v other (value_in s other)
 
 -- the tolls of the whole conflict set
-unfoldable pub weight_of : Parts → Snapshot → (class : ℕ) → Value → ℕ
-weight_of p s class v = sum_by (toll_of s class v) (conflicts_of p s class v)
+unfoldable pub tolls_of : Parts → Snapshot → (class : ℕ) → Value → ℕ
+tolls_of p s class v = sum_by (toll_of s class v) (conflicts_of p s class v)
