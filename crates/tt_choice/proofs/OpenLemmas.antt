@@ -101,13 +101,13 @@ listed-among spans p (c ∷ choice) those h = step (nat_eq p c) refl h (λ e. li
     step false e ok more = more ok
 
 module _ (s : Situation) (front : List ℕ) (rest : List Span) (choice : List ℕ) (those : AreAmong rest choice) where
-  may_have : (parent : Option ℕ) → option_map_or (λ p. is_listed p (front ++ choice) || is_listed p s.taken) parent true ≡ true
-      → option_map_or (λ p. is_listed p front || is_listed p s.taken || list_any (is_in p) rest) parent true ≡ true
+  may_have : (parent : Option ℕ) → option_map_or (λ p. is_listed p (front ++ choice) || is_listed p s.already) parent true ≡ true
+      → option_map_or (λ p. is_listed p front || is_listed p s.already || list_any (is_in p) rest) parent true ≡ true
   may_have None h = refl
   may_have (Some p) h =
-      let split : ((is_listed p front || is_listed p choice) || is_listed p s.taken) ≡ true =
-      ap (λ (b : Bool). b || is_listed p s.taken) (sym (list_any-append (nat_eq p) front choice)) ∙ h in
-      join (is_listed p front) (is_listed p choice) (is_listed p s.taken) (list_any (is_in p) rest) (listed-among rest p choice those) split
+      let split : ((is_listed p front || is_listed p choice) || is_listed p s.already) ≡ true =
+      ap (λ (b : Bool). b || is_listed p s.already) (sym (list_any-append (nat_eq p) front choice)) ∙ h in
+      join (is_listed p front) (is_listed p choice) (is_listed p s.already) (list_any (is_in p) rest) (listed-among rest p choice those) split
     where
       join : (a b c d : Bool) → (b ≡ true → d ≡ true) → ((a || b) || c) ≡ true → ((a || c) || d) ≡ true
       join true b c d f e = refl

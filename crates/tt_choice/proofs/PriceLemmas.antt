@@ -11,7 +11,7 @@ use Rattle.tt_base.specs.Among.{pairs_among}
 use Rattle.tt_problem.specs.declared.parts.Span.{Span}
 use Rattle.tt_choice.specs.declared.course.Found.{Found}
 use Rattle.tt_choice.specs.Choices.{choices_of}
-use Rattle.tt_choice.specs.Least.{Situation, is_allowed, pairs_added, pairs_with_taken}
+use Rattle.tt_choice.specs.Least.{Situation, is_allowed, pairs_added, pairs_with_already}
 use Rattle.tt_choice.specs.Found.{has_fewer, IsInVain}
 use Rattle.tt_choice.specs.Ahead.{pairs_across}
 use Rattle.tt_choice.specs.Priced.{numbers_up_to, owed_of, price_of, AreGroups, IsLeastPriced, IsPriced}
@@ -73,14 +73,14 @@ priced-none s front price = record { each = ((λ h. omega arith), tt) }
 pub priced-cons : (s : Situation) (front : List ℕ) (price : ℕ → ℕ) (t : Span) (rest : List Span) (least sum : ℕ) → IsLeastPriced s front price t least → IsPriced s front price rest sum
     → IsPriced s front price (t ∷ rest) (least + sum)
 priced-cons s front price t rest least sum h all = record {
-  each = before-each (λ choice. list_all s.has_seat choice ≡ true → least + sum ≤ pairs_with_taken s choice + pairs_across s front choice + sum_by price choice)
-      (λ c choice. list_all s.has_seat choice ≡ true → sum ≤ pairs_with_taken s choice + pairs_across s front choice + sum_by price choice)
+  each = before-each (λ choice. list_all s.has_seat choice ≡ true → least + sum ≤ pairs_with_already s choice + pairs_across s front choice + sum_by price choice)
+      (λ c choice. list_all s.has_seat choice ≡ true → sum ≤ pairs_with_already s choice + pairs_across s front choice + sum_by price choice)
       (choices_of rest) t.first (t.after - t.first)
       (λ c le lt choice q e.
       let two = and_parts (s.has_seat c) (list_all s.has_seat choice) e in
       let one = h.each c le (omega arith) two.0 in
       let more = q two.1 in
-      omega (arith, one, more, sum_by-cons (λ (d : ℕ). count_by (s.conflicts d) s.taken) c choice, sum_by-cons (λ (d : ℕ). count_by (λ b. s.conflicts b d) front) c choice, sum_by-cons price c choice))
+      omega (arith, one, more, sum_by-cons (λ (d : ℕ). count_by (s.conflicts d) s.already) c choice, sum_by-cons (λ (d : ℕ). count_by (λ b. s.conflicts b d) front) c choice, sum_by-cons price c choice))
       (λ c le lt. all.each);
 }
 
@@ -88,11 +88,11 @@ priced-cons s front price t rest least sum h all = record {
 pub priced-vain : (s : Situation) (found : Option Found) (front : List ℕ) (rest : List Span) (group : ℕ → ℕ) (prices : List ℕ) (sum total : ℕ) → AreGroups s group (length prices)
     → IsPriced s front (price_of group prices) rest sum → total + owed_of prices ≤ pairs_added s front + sum → has_fewer found total ≡ false → IsInVain s found front rest
 priced-vain s found front rest group prices sum total groups priced le many = record {
-  each = all-weaken (λ choice. list_all s.has_seat choice ≡ true → sum ≤ pairs_with_taken s choice + pairs_across s front choice + sum_by (price_of group prices) choice)
+  each = all-weaken (λ choice. list_all s.has_seat choice ≡ true → sum ≤ pairs_with_already s choice + pairs_across s front choice + sum_by (price_of group prices) choice)
       (λ choice. is_allowed s (front ++ choice) ≡ true → has_fewer found (pairs_added s (front ++ choice)) ≡ false)
       (λ choice q ok.
       let seats = seats_of s found front rest choice ok in
-      let a : sum ≤ pairs_with_taken s choice + pairs_across s front choice + sum_by (price_of group prices) choice = q seats in
+      let a : sum ≤ pairs_with_already s choice + pairs_across s front choice + sum_by (price_of group prices) choice = q seats in
       let b : sum_by (price_of group prices) choice ≤ pairs_among s.conflicts choice + owed_of prices = prices-paid s.conflicts group (length prices) groups.each choice prices (omega arith) in
       let c = pairs_added-join s front choice in
       no_fewer found total (pairs_added s (front ++ choice)) (omega arith) many)

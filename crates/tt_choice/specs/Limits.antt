@@ -2,8 +2,8 @@
 use Rattle.std.specs.Prelude.{ℕ}
 
 -- the most classes that a student has already taken, those of 40 courses
-abbrev pub most_taken : ℕ
-most_taken = 800000
+abbrev pub most_already : ℕ
+most_already = 800000
 
 -- the most pairs that a choice adds: each of its classes with each that is taken or chosen
 abbrev pub most_added : ℕ

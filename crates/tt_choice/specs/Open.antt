@@ -10,7 +10,7 @@ use Rattle.tt_choice.specs.Least.{Situation}
 
 -- the class has no parent, or its parent is in the front, already taken, or a class of the subparts still to come
 abbrev pub may_have_parent : Situation → (front : List ℕ) → (rest : List Span) → ℕ → Bool
-may_have_parent s front rest c = option_map_or (λ p. is_listed p front || is_listed p s.taken || list_any (is_in p) rest) (s.parent_of c) true
+may_have_parent s front rest c = option_map_or (λ p. is_listed p front || is_listed p s.already || list_any (is_in p) rest) (s.parent_of c) true
 
 -- the class has a seat, and its parent may come too
 abbrev pub may_come : Situation → (front : List ℕ) → (rest : List Span) → ℕ → Bool

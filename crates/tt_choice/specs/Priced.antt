@@ -3,12 +3,12 @@ use Rattle.std.specs.Prelude.{◌≡◌, ℕ, suc, zero, ◌+◌, ◌<◌, ◌�
 use Rattle.std.specs.List.{list_all, AllByRecursion}
 use Rattle.tt_problem.specs.declared.parts.Span.{Span}
 use Rattle.tt_choice.specs.Choices.{choices_of}
-use Rattle.tt_choice.specs.Least.{Situation, pairs_with_taken}
+use Rattle.tt_choice.specs.Least.{Situation, pairs_with_already}
 use Rattle.tt_choice.specs.Ahead.{pairs_across}
 
 -- how many pairs a class has with those already taken and with those of the front
 abbrev pub pairs_met : Situation → (front : List ℕ) → ℕ → ℕ
-pairs_met s front c = count_by (s.conflicts c) s.taken + count_by (λ d. s.conflicts d c) front
+pairs_met s front c = count_by (s.conflicts c) s.already + count_by (λ d. s.conflicts d c) front
 
 -- the sum of the numbers up to this one
 abbrev pub numbers_up_to : ℕ → ℕ
@@ -33,4 +33,4 @@ pub record IsLeastPriced (s : Situation) (front : List ℕ) (price : ℕ → ℕ
 
 -- each choice of the subparts whose classes have seats has so many such pairs, the prices of its classes added, or more
 pub record IsPriced (s : Situation) (front : List ℕ) (price : ℕ → ℕ) (subparts : List Span) (sum : ℕ) : Type 0 where
-  pub each : AllByRecursion (λ choice. list_all s.has_seat choice ≡ true → sum ≤ pairs_with_taken s choice + pairs_across s front choice + sum_by price choice) (choices_of subparts)
+  pub each : AllByRecursion (λ choice. list_all s.has_seat choice ≡ true → sum ≤ pairs_with_already s choice + pairs_across s front choice + sum_by price choice) (choices_of subparts)

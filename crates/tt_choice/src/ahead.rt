@@ -34,7 +34,7 @@ fn may_have_parent(standing: &Standing, front: &[u32], rest: &[Span], class: u32
     match standing.parent_of(class) {
         None => true,
         Some(parent) => {
-            front.contains(&parent) || standing.taken.contains(&parent) || is_among(rest, parent)
+            front.contains(&parent) || standing.already.contains(&parent) || is_among(rest, parent)
         }
     }
 }
@@ -114,7 +114,7 @@ fn lessened(standing: &Standing, class: u32, rest: &[Span], least: u64) -> u64
     }
     let front = [class];
     let across = sure_across(standing, &front, rest);
-    least.min(standing.pairs_with_taken(class) as u64 + across)
+    least.min(standing.pairs_with_already(class) as u64 + across)
 }
 
 // The fewest pairs that a class of a span with a seat is sure to have with those already taken and
@@ -122,9 +122,9 @@ fn lessened(standing: &Standing, class: u32, rest: &[Span], least: u64) -> u64
 fn least_pairs(standing: &Standing, span: Span, rest: &[Span]) -> u64
     requires few_rest { length rest.now ≤ most_classes }
     ensures least { IsLeastOf (situation_in standing.now) span rest.now result }
-    ensures few { result ≤ length standing.now.taken.now + length rest.now }
+    ensures few { result ≤ length standing.now.already.now + length rest.now }
 {
-    let mut least = (standing.taken.len() + rest.len()) as u64;
+    let mut least = (standing.already.len() + rest.len()) as u64;
     for class in span.first..span.after {
         least = lessened(standing, class, rest, least);
         if least == 0 {

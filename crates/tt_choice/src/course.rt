@@ -2,7 +2,7 @@
 
 ghost use Rattle.std.specs.Prelude.{◌≡◌, ℕ, ◌+◌, ◌-◌, ◌<◌, ◌≤◌, ◌++◌, ◌∷◌, [], None, false, length, take, IfNone, IfSome, All};
 ghost use Rattle.tt_base.specs.Limits.{most_classes};
-ghost use Rattle.tt_choice.specs.Limits.{most_added, most_added_with, most_taken};
+ghost use Rattle.tt_choice.specs.Limits.{most_added, most_added_with, most_already};
 ghost use Rattle.tt_choice.specs.Least.{pairs_added, least_choice};
 ghost use Rattle.tt_choice.specs.Passed.{better, passed};
 ghost use Rattle.tt_choice.specs.Ahead.{AreSure, IsSure};
@@ -44,7 +44,7 @@ fn pairs_with(standing: &Standing, front: &[u32], pairs: u64, class: u32) -> u64
     ensures pairs { result ≡ pairs_added (situation_in standing.now) (front.now ++ class ∷ []) }
     ensures few { result ≤ most_added_with }
 {
-    pairs + standing.pairs_with_taken(class) as u64 + standing.pairs_with(front, class) as u64
+    pairs + standing.pairs_with_already(class) as u64 + standing.pairs_with(front, class) as u64
 }
 
 // Whether a choice that goes on from a front with a class of each later subpart may be taken for the
@@ -236,7 +236,7 @@ fn pairs_before(standing: &Standing, front: &[u32], pairs: u64, class: u32) -> u
     requires pairs { pairs ≡ pairs_added (situation_in standing.now) (front.now ++ class ∷ []) }
     ensures { result ≡ pairs_added (situation_in standing.now) front.now }
 {
-    pairs - standing.pairs_with_taken(class) as u64 - standing.pairs_with(front, class) as u64
+    pairs - standing.pairs_with_already(class) as u64 - standing.pairs_with(front, class) as u64
 }
 
 // The least allowed choice of a course: how many classes it has, which then stand at the front of
@@ -291,17 +291,17 @@ pub fn least_of_course(
     student: u32,
     course: u32,
     wanting: &[u32],
-    taken: &[u32],
+    already: &[u32],
     buffers: &mut ChoiceBuffers,
 ) -> Option<usize>
     requires student { student < length state.now.problem.students }
     requires course { course < length state.now.problem.courses }
-    requires few_taken { length taken.now ≤ most_taken }
+    requires few_already { length already.now ≤ most_already }
     requires room { HasRoom state.now.problem buffers.old }
     ensures room { HasRoom state.now.problem buffers.new }
     ensures choice { chosen_by buffers.new.best.items result
         ≡ least_choice
-        (situation_of state.now.problem state.now.present student wanting.now taken.now)
+        (situation_of state.now.problem state.now.present student wanting.now already.now)
         (choices_at state.now.problem course) }
     ensures within { IfSome result (λ count. count ≤ length buffers.new.best.items) }
     ensures few { IfSome result (λ count. count ≤ length state.now.problem.subparts) }
@@ -309,7 +309,7 @@ pub fn least_of_course(
     let problem = state.problem();
     problem.validity();
     let parts = problem.parts();
-    let standing = Standing::new(state, student, wanting, taken);
+    let standing = Standing::new(state, student, wanting, already);
     least_choice(
         &standing,
         parts.configs.as_slice(),
@@ -321,14 +321,14 @@ pub fn least_of_course(
 
 /// How many conflicting pairs a choice adds to classes that a student has taken, pairs inside it
 /// among them.
-pub fn pairs_of(state: &State, student: u32, taken: &[u32], choice: &[u32]) -> u64
+pub fn pairs_of(state: &State, student: u32, already: &[u32], choice: &[u32]) -> u64
     requires student { student < length state.now.problem.students }
-    requires few_taken { length taken.now ≤ most_taken }
+    requires few_already { length already.now ≤ most_already }
     requires few { length choice.now ≤ most_classes }
     ensures { result
-        ≡ pairs_added (situation_of state.now.problem state.now.present student [] taken.now)
+        ≡ pairs_added (situation_of state.now.problem state.now.present student [] already.now)
         choice.now }
 {
-    let standing = Standing::new(state, student, &[], taken);
+    let standing = Standing::new(state, student, &[], already);
     pairs_in(&standing, choice)
 }

@@ -4,7 +4,7 @@ ghost use Rattle.std.specs.Prelude.{◌≡◌, ℕ, ◌<◌, ◌≤◌, Some, le
 ghost use Rattle.tt_bits.specs.Spots.{spot_at};
 ghost use Rattle.tt_bits.specs.declared.times.Spot.{Spot};
 ghost use Rattle.tt_score.specs.Fits.{occupancy_of, student_lists};
-ghost use Rattle.tt_choice.specs.Limits.{most_taken};
+ghost use Rattle.tt_choice.specs.Limits.{most_already};
 
 use tt_bits::Spot;
 use tt_problem::Problem;
@@ -20,10 +20,10 @@ pub(crate) struct Standing<'a> {
     score: &'a Score,
     student: u32,
     wanting: &'a [u32],
-    pub taken: &'a [u32],
+    pub already: &'a [u32],
     ghost rooms: { (class : ℕ) (spot : Spot) (room : ℕ) → spot_at (occupancy_of score.now).spots class ≡ Some spot → spot.room ≡ Some room → room < problem.now.travel.rooms },
     ghost student_within: { student < length (student_lists score.now) },
-    ghost few_taken: { length taken.now ≤ most_taken },
+    ghost few_already: { length already.now ≤ most_already },
 }
 
 impl<'a> Standing<'a> {
@@ -36,12 +36,12 @@ impl<'a> Standing<'a> {
 
     /// How a student who has taken these classes beforehand stands in the present snapshot. `wanting`
     /// has those of them whose parent may be missing yet.
-    pub fn new(state: &'a State, student: u32, wanting: &'a [u32], taken: &'a [u32]) -> Standing<'a>
+    pub fn new(state: &'a State, student: u32, wanting: &'a [u32], already: &'a [u32]) -> Standing<'a>
         requires student { student < length state.now.problem.students }
-        requires few_taken { length taken.now ≤ most_taken }
+        requires few_already { length already.now ≤ most_already }
         ensures problem { result.problem.now ≡ state.now.problem }
         ensures situation { situation_in result
-            ≡ situation_of state.now.problem state.now.present student wanting.now taken.now }
+            ≡ situation_of state.now.problem state.now.present student wanting.now already.now }
     {
         state.soundness();
         let problem = state.problem();
@@ -51,7 +51,7 @@ impl<'a> Standing<'a> {
             score,
             student,
             wanting,
-            taken,
+            already,
         }
     }
 
@@ -111,10 +111,10 @@ impl<'a> Standing<'a> {
     }
 
     /// How many classes already taken conflict with a class.
-    pub fn pairs_with_taken(&self, class: u32) -> usize
-        ensures { result ≡ count_by ((situation_in self.now).conflicts class) self.now.taken.now }
+    pub fn pairs_with_already(&self, class: u32) -> usize
+        ensures { result ≡ count_by ((situation_in self.now).conflicts class) self.now.already.now }
     {
-        self.taken
+        self.already
             .iter()
             .filter(|other| self.conflicts(class, **other))
             .count()
@@ -138,7 +138,7 @@ impl<'a> Standing<'a> {
     {
         match self.parent_of(class) {
             None => true,
-            Some(parent) => choice.contains(&parent) || self.taken.contains(&parent),
+            Some(parent) => choice.contains(&parent) || self.already.contains(&parent),
         }
     }
 

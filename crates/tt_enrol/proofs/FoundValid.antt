@@ -51,38 +51,38 @@ are_new done (k ∷ rest) h d = (h.0, are_new (done ++ k ∷ []) rest (new_more 
 
 -- one course more
 module _ (p : Parts) (valid : IsValid p) (at : List ℕ → Situation) (has : ℕ → Bool)
-    (judged : (taken choice : List ℕ) → is_allowed (at taken) choice ≡ list_all (λ c. has c && has_parent_in p taken choice c) choice) where
-  taken_more : (done taken choice : List ℕ) (place : ℕ) → place < length p.courses → AllByRecursion (λ k. k < length p.courses) done → is_listed place done ≡ false
-      → IsTaken p has done taken → IsAllowed (IsChoice p place) (at taken) choice → IsTaken p has (done ++ place ∷ []) (taken ++ choice)
-  taken_more done taken choice place within before new h one =
-      let tests : list_all (λ c. has c && has_parent_in p taken choice c) choice ≡ true = sym (judged taken choice) ∙ one.allowed in
+    (judged : (already choice : List ℕ) → is_allowed (at already) choice ≡ list_all (λ c. has c && has_parent_in p already choice c) choice) where
+  taken_more : (done already choice : List ℕ) (place : ℕ) → place < length p.courses → AllByRecursion (λ k. k < length p.courses) done → is_listed place done ≡ false
+      → IsTaken p has done already → IsAllowed (IsChoice p place) (at already) choice → IsTaken p has (done ++ place ∷ []) (already ++ choice)
+  taken_more done already choice place within before new h one =
+      let tests : list_all (λ c. has c && has_parent_in p already choice c) choice ≡ true = sym (judged already choice) ∙ one.allowed in
       let is = one.is in
-      let here = takes_at p (taken ++ choice) place within in
-      let sum : (t : Span) → count_in (taken ++ choice) t ≡ count_in choice t + count_in taken t = λ t. omega (arith, count_of-append taken choice t) in
-      let own = same_takes p valid (taken ++ choice) choice taken place within sum (listed_of p done taken place h.of new) in
-      let last : takes p (taken ++ choice) place ≡ true = here ∙ own ∙ is.takes in
+      let here = takes_at p (already ++ choice) place within in
+      let sum : (t : Span) → count_in (already ++ choice) t ≡ count_in choice t + count_in already t = λ t. omega (arith, count_of-append already choice t) in
+      let own = same_takes p valid (already ++ choice) choice already place within sum (listed_of p done already place h.of new) in
+      let last : takes p (already ++ choice) place ≡ true = here ∙ own ∙ is.takes in
       record {
-        below = all-append (λ c. c < length p.classes) taken choice h.below is.below;
-        of = all-append (λ c. option_map_or (λ course. is_listed course (done ++ place ∷ [])) (course_of p c) false ≡ true) taken choice (of_more p done place taken h.of) (of_last p done place choice is.of);
-        takes = list_all-append (takes p (taken ++ choice)) done (place ∷ []) ∙ both (list_all (takes p (taken ++ choice)) done) (takes p (taken ++ choice) place && true)
-            (takes_more p valid taken choice place is.of done before new h.takes) (both (takes p (taken ++ choice) place) true last refl);
-        once = once_more p done place taken choice h.of new is.of h.once is.once;
-        parents = list_all-append (has_parent p (taken ++ choice)) taken choice ∙ both (list_all (has_parent p (taken ++ choice)) taken) (list_all (has_parent p (taken ++ choice)) choice)
-            (parents_kept p taken choice taken h.parents) (allowed_parents p has taken choice choice is.below tests);
-        seats = list_all-append has taken choice ∙ both (list_all has taken) (list_all has choice) h.seats (allowed_seats p has taken choice choice tests);
+        below = all-append (λ c. c < length p.classes) already choice h.below is.below;
+        of = all-append (λ c. option_map_or (λ course. is_listed course (done ++ place ∷ [])) (course_of p c) false ≡ true) already choice (of_more p done place already h.of) (of_last p done place choice is.of);
+        takes = list_all-append (takes p (already ++ choice)) done (place ∷ []) ∙ both (list_all (takes p (already ++ choice)) done) (takes p (already ++ choice) place && true)
+            (takes_more p valid already choice place is.of done before new h.takes) (both (takes p (already ++ choice) place) true last refl);
+        once = once_more p done place already choice h.of new is.of h.once is.once;
+        parents = list_all-append (has_parent p (already ++ choice)) already choice ∙ both (list_all (has_parent p (already ++ choice)) already) (list_all (has_parent p (already ++ choice)) choice)
+            (parents_kept p already choice already h.parents) (allowed_parents p has already choice choice is.below tests);
+        seats = list_all-append has already choice ∙ both (list_all has already) (list_all has choice) h.seats (allowed_seats p has already choice choice tests);
       }
 
-  taken_all : (done rest taken list : List ℕ) → AllByRecursion (λ k. k < length p.courses) done → AllByRecursion (λ k. k < length p.courses) rest → AreNew done rest → IsTaken p has done taken
-      → Some list ≡ fold (with_course at) (Some taken) (map (choices_at p) rest) → IsTaken p has (done ++ rest) list
-  taken_all done [] taken list before within new h e = let same : list ≡ taken = cc e in rw (same, append-nil done) h
-  taken_all done (k ∷ rest) taken list before within new h e =
-      step (least_choice (at taken) (choices_at p k)) refl (least_is (IsChoice p k) (at taken) (choices_at p k) (are_choices p k valid within.0))
-      (λ choice one more. rw (append_assoc done (k ∷ []) rest) at (taken_all (done ++ k ∷ []) rest (taken ++ choice) list (all-append (λ j. j < length p.courses) done (k ∷ []) before (within.0, tt)) within.1 new.1 (taken_more done taken choice k within.0 before new.0 h one) more))
+  taken_all : (done rest already list : List ℕ) → AllByRecursion (λ k. k < length p.courses) done → AllByRecursion (λ k. k < length p.courses) rest → AreNew done rest → IsTaken p has done already
+      → Some list ≡ fold (with_course at) (Some already) (map (choices_at p) rest) → IsTaken p has (done ++ rest) list
+  taken_all done [] already list before within new h e = let same : list ≡ already = cc e in rw (same, append-nil done) h
+  taken_all done (k ∷ rest) already list before within new h e =
+      step (least_choice (at already) (choices_at p k)) refl (least_is (IsChoice p k) (at already) (choices_at p k) (are_choices p k valid within.0))
+      (λ choice one more. rw (append_assoc done (k ∷ []) rest) at (taken_all (done ++ k ∷ []) rest (already ++ choice) list (all-append (λ j. j < length p.courses) done (k ∷ []) before (within.0, tt)) within.1 new.1 (taken_more done already choice k within.0 before new.0 h one) more))
       e
     where
-      step : (o : Option (List ℕ)) → least_choice (at taken) (choices_at p k) ≡ o → IfSome o (IsAllowed (IsChoice p k) (at taken))
-          → ((choice : List ℕ) → IsAllowed (IsChoice p k) (at taken) choice → Some list ≡ fold (with_course at) (Some (taken ++ choice)) (map (choices_at p) rest) → IsTaken p has (done ++ k ∷ rest) list)
-          → Some list ≡ fold (with_course at) (option_map (λ choice. taken ++ choice) o) (map (choices_at p) rest) → IsTaken p has (done ++ k ∷ rest) list
+      step : (o : Option (List ℕ)) → least_choice (at already) (choices_at p k) ≡ o → IfSome o (IsAllowed (IsChoice p k) (at already))
+          → ((choice : List ℕ) → IsAllowed (IsChoice p k) (at already) choice → Some list ≡ fold (with_course at) (Some (already ++ choice)) (map (choices_at p) rest) → IsTaken p has (done ++ k ∷ rest) list)
+          → Some list ≡ fold (with_course at) (option_map (λ choice. already ++ choice) o) (map (choices_at p) rest) → IsTaken p has (done ++ k ∷ rest) list
       step None is one go e = absurd (none-some list (sym (e ∙ none_stays at (map (choices_at p) rest))))
       step (Some choice) is one go e = go choice one e
 
@@ -112,7 +112,7 @@ found_valid p s student part list valid is student_valid e =
     let courses : Some list ≡ fold (with_course at) (Some []) (map (choices_at p) part.courses) = sym e ∙ ap (λ (o : Option StudentPart). taken_in at (map (choices_at p) (option_map_or (λ x. x.courses) o []))) is in
     let within = recursion_from_All (λ place. place < length p.courses) part.courses student_valid.courses in
     let none : IsTaken p has [] [] = record { below = tt; of = tt; takes = refl; once = refl; parents = refl; seats = refl } in
-    let all = taken_all p valid at has (λ taken choice. and_yes (list_all (λ c. has c && has_parent_in p taken choice c) choice)) [] part.courses [] list tt within (are_new [] part.courses (all_new part.courses) student_valid.distinct) none courses in
+    let all = taken_all p valid at has (λ already choice. and_yes (list_all (λ c. has c && has_parent_in p already choice c) choice)) [] part.courses [] list tt within (are_new [] part.courses (all_new part.courses) student_valid.distinct) none courses in
     record {
       below = All-from_recursion (λ c. c < length p.classes) list all.below;
       enrolment = ap (λ (o : Option StudentPart). option_map_or (λ x. is_enrolment_of p x list) o false) is ∙ is_enrolment_is p part has list all;

@@ -40,7 +40,7 @@ fn enrol_one(state: &mut State, buffers: &mut Buffers, student: u32) -> Result<b
     match find(state, student, buffers) {
         None => Ok(false),
         Some(count) => {
-            let classes = &buffers.taken.as_slice()[..count];
+            let classes = &buffers.already.as_slice()[..count];
             seat(state, student, classes)?;
             Ok(true)
         }

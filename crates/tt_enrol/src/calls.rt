@@ -26,9 +26,9 @@ fn classes_found(alloc: Global, state: &State, student: u32) -> Result<Option<Ve
     match find(state, student, &mut buffers) {
         None => Ok(None),
         Some(count) => {
-            let Buffers { mut taken, .. } = buffers;
-            taken.truncate(count);
-            Ok(Some(taken))
+            let Buffers { mut already, .. } = buffers;
+            already.truncate(count);
+            Ok(Some(already))
         }
     }
 }

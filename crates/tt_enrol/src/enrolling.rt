@@ -15,7 +15,7 @@ use tt_state::State;
 #[derive(Drop)]
 pub struct Buffers {
     pub choices: ChoiceBuffers,
-    pub taken: Vec<u32>,
+    pub already: Vec<u32>,
 }
 
 impl Buffers {
@@ -28,26 +28,26 @@ impl Buffers {
         let subparts = problem.parts().subparts.len();
         Ok(Buffers {
             choices: ChoiceBuffers::new(alloc, problem)?,
-            taken: vec![in alloc; 0; 40 * subparts]?,
+            already: vec![in alloc; 0; 40 * subparts]?,
         })
     }
 }
 
-/// The classes found for a student: how many they are, and they stand at the front of `taken` then;
+/// The classes found for a student: how many they are, and they stand at the front of `already` then;
 /// `None` where some course has no allowed choice.
 #[tactic(auto, unfolding(crate::specs::Students::classes_found))]
 pub fn find(state: &State, student: u32, buffers: &mut Buffers) -> Option<usize>
     requires student { student < length state.now.problem.students }
     requires room { HasRoom state.now.problem buffers.old }
-    ensures found { chosen_by buffers.new.taken.items result
+    ensures found { chosen_by buffers.new.already.items result
         ≡ classes_found state.now.problem state.now.present student }
-    ensures within { IfSome result (λ count. count ≤ length buffers.new.taken.items) }
+    ensures within { IfSome result (λ count. count ≤ length buffers.new.already.items) }
     ensures room { HasRoom state.now.problem buffers.new }
 {
     take_courses(
         state,
         student,
         &mut buffers.choices,
-        buffers.taken.as_mut_slice(),
+        buffers.already.as_mut_slice(),
     )
 }

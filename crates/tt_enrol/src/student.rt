@@ -11,40 +11,40 @@ use tt_choice::{ChoiceBuffers, least_of_course};
 use tt_state::State;
 
 // Writes the front of one buffer after that of another.
-fn append(taken: &mut [u32], count: usize, best: &[u32], size: usize)
-    requires room { count + size ≤ length taken.old }
+fn append(already: &mut [u32], count: usize, best: &[u32], size: usize)
+    requires room { count + size ≤ length already.old }
     requires within { size ≤ length best.now }
-    ensures { take (count + size) taken.new ≡ take count taken.old ++ take size best.now }
+    ensures { take (count + size) already.new ≡ take count already.old ++ take size best.now }
 {
-    taken[count..count + size].copy_from_slice(&best[..size]);
+    already[count..count + size].copy_from_slice(&best[..size]);
 }
 
 /// The classes found for a student, course after course: how many they are, and they stand at the
-/// front of `taken` then; `None` where some course has no allowed choice.
+/// front of `already` then; `None` where some course has no allowed choice.
 #[tactic(auto, using(tt_problem::proofs::SpanLemmas::few_subparts))]
 pub fn take_courses(
     state: &State,
     student: u32,
     choices: &mut ChoiceBuffers,
-    taken: &mut [u32],
+    already: &mut [u32],
 ) -> Option<usize>
     requires student { student < length state.now.problem.students }
     requires room { HasRoom state.now.problem choices.old }
-    requires taken { 40 * length state.now.problem.subparts ≤ length taken.old }
-    ensures found { chosen_by taken.new result
+    requires already { 40 * length state.now.problem.subparts ≤ length already.old }
+    ensures found { chosen_by already.new result
         ≡ taken_in (situation_of state.now.problem state.now.present student [])
         (map (choices_at state.now.problem) (courses_of state.now.problem student)) }
-    ensures within { IfSome result (λ count. count ≤ length taken.new) }
+    ensures within { IfSome result (λ count. count ≤ length already.new) }
     ensures room { HasRoom state.now.problem choices.new }
 {
     let problem = state.problem();
     problem.validity();
     let mut count = 0;
     for course in problem.student(student).courses.as_slice() {
-        match least_of_course(state, student, *course, &[], &taken[..count], choices) {
+        match least_of_course(state, student, *course, &[], &already[..count], choices) {
             None => return None,
             Some(size) => {
-                append(taken, count, choices.best.as_slice(), size);
+                append(already, count, choices.best.as_slice(), size);
                 count += size;
             }
         }

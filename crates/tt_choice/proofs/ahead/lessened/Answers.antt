@@ -10,5 +10,5 @@ returns-then-not-has_seat-clause-sure c =
 pub returns-clause-sure : goal.returns-clause-sure
 returns-clause-sure c =
     let s = situation_in c.args.standing.now in
-    fewer_sure s c.args.class c.args.rest.now (count_by (s.conflicts c.args.class) s.taken + c.sure_across-across.result) c.min.result
-    (omega (arith, c.min.ensures, c.pairs_with_taken.ensures)) (sure_of s c.args.class c.args.rest.now c.sure_across-across.result c.sure_across-across.ensures.across)
+    fewer_sure s c.args.class c.args.rest.now (count_by (s.conflicts c.args.class) s.already + c.sure_across-across.result) c.min.result
+    (omega (arith, c.min.ensures, c.pairs_with_already.ensures)) (sure_of s c.args.class c.args.rest.now c.sure_across-across.result c.sure_across-across.ensures.across)

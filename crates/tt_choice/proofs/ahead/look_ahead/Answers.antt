@@ -23,7 +23,7 @@ loop-place-preserved c =
     let whole : take (n - place) (drop place c.args.subparts.now) ≡ drop place c.args.subparts.now = slice_rest c.args.subparts.now place in
     let least : IsLeastOf s (get_or c.args.subparts.now (place - 1) none) (drop (place - 1 + 1) c.args.subparts.now) c.least_pairs.result = rw e (rw whole at c.least_pairs.ensures.least) in
     let long : length (take (n - place) (drop place c.args.subparts.now)) ≤ 20000 = omega (arith, ap length whole, length-drop place c.args.subparts.now, c.requires.few) in
-    let few : value ≤ (n - (place - 1)) * 820000 = omega (arith, before.few place (omega arith) before.within, c.least_pairs.ensures.few, c.args.standing.now.few_taken, before.within, long) in
+    let few : value ≤ (n - (place - 1)) * 820000 = omega (arith, before.few place (omega arith) before.within, c.least_pairs.ensures.few, c.args.standing.now.few_already, before.within, long) in
     record {
       long = rw length-set before.long;
       within = omega (arith, before.within);

@@ -18,7 +18,7 @@ returns-clause-choice c =
     (c.as_slice.ensures ∙ ap (λ (q : Parts). q.configs) tables) (c.as_slice-2.ensures ∙ ap (λ (q : Parts). q.subparts) tables) in
     c.least_choice.ensures.choice
     ∙ ap (λ (s : Situation). least_choice s (choices_of_course c.as_slice.result.now c.as_slice-2.result.now c.course.result.now.configs)) c.new-standing.ensures.situation
-    ∙ ap (least_choice (situation_of h.problem h.present c.args.student c.args.wanting.now c.args.taken.now)) choices
+    ∙ ap (least_choice (situation_of h.problem h.present c.args.student c.args.wanting.now c.args.already.now)) choices
 
 pub returns-clause-few : goal.returns-clause-few
 returns-clause-few c =

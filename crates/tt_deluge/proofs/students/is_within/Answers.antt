@@ -14,15 +14,15 @@ use Rattle.tt_deluge.proofs.students.is_within.Goals as goal
 weighed : (w v n k : ℕ) → w ≡ v → n ≡ k → w * n ≡ v * k
 weighed w v n k weights are = ap (λ (x : ℕ). x * n) weights ∙ ap (λ (m : ℕ). v * m) are
 
-pub pairs_of-requires-clause-few_taken : goal.pairs_of-requires-clause-few_taken
-pairs_of-requires-clause-few_taken c =
+pub pairs_of-requires-clause-few_already : goal.pairs_of-requires-clause-few_already
+pairs_of-requires-clause-few_already c =
     let h = c.args.state.now in
     let valid = subst IsValid c.problem.ensures c.validity.ensures in
     let few = few_in h.problem h.present c.args.student (λ (class : ℕ). not (is_of_course h.problem c.args.course class)) c.as_slice-rest.result.now valid c.soundness.ensures.present c.requires.target.within (c.as_slice-rest.ensures.value ∙ c.requires.rest) in
     omega (arith, few)
 
-pub pairs_of-requires-2-clause-few_taken : goal.pairs_of-requires-2-clause-few_taken
-pairs_of-requires-2-clause-few_taken c =
+pub pairs_of-requires-2-clause-few_already : goal.pairs_of-requires-2-clause-few_already
+pairs_of-requires-2-clause-few_already c =
     let h = c.args.state.now in
     let valid = subst IsValid c.problem.ensures c.validity.ensures in
     let few = few_in h.problem h.present c.args.student (λ (class : ℕ). not (is_of_course h.problem c.args.course class)) c.as_slice-rest.result.now valid c.soundness.ensures.present c.requires.target.within (c.as_slice-rest.ensures.value ∙ c.requires.rest) in

@@ -7,5 +7,5 @@ use Rattle.tt_enrol.proofs.enrolling.find.Goals as goal
 pub returns-clause-found : goal.returns-clause-found
 unfolding classes_found
 returns-clause-found c =
-    ap (λ (list : List ℕ). chosen_by list c.take_courses.result) (with_items_is c.args.buffers.now.taken c.take_courses.new.taken (c.take_courses.auto.taken ∙ c.as_mut_slice.ensures.len))
+    ap (λ (list : List ℕ). chosen_by list c.take_courses.result) (with_items_is c.args.buffers.now.already c.take_courses.new.already (c.take_courses.auto.already ∙ c.as_mut_slice.ensures.len))
     ∙ c.take_courses.ensures.found

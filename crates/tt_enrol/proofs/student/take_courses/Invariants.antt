@@ -9,7 +9,7 @@ use Rattle.tt_enrol.proofs.student.take_courses.Given as goal
 abbrev pub invariant-loop-course : goal.invariant-loop-course
 invariant-loop-course l = record {
   -- the classes taken are those of the courses passed
-  same : Some (take l.count l.taken) ≡ fold (with_course (situation_of l.state.problem l.state.present l.student [])) (Some []) (map (choices_at l.state.problem) (take l.course-index l.course-items));
+  same : Some (take l.count l.already) ≡ fold (with_course (situation_of l.state.problem l.state.present l.student [])) (Some []) (map (choices_at l.state.problem) (take l.course-index l.course-items));
   few : l.count ≤ l.course-index * length l.state.problem.subparts;
   room : HasRoom l.state.problem l.choices;
 }

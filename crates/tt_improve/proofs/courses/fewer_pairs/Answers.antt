@@ -7,8 +7,8 @@ use Rattle.tt_improve.specs.Courses.{beside, is_of_course}
 use Rattle.tt_improve.proofs.StudentLemmas.{few_in, found_less, found_more, may_get_at, no_replacement, no_worse_at, replaces, within_courses}
 use Rattle.tt_improve.proofs.courses.fewer_pairs.Goals as goal
 
-pub pairs_of-had-requires-clause-few_taken : goal.pairs_of-had-requires-clause-few_taken
-pairs_of-had-requires-clause-few_taken c =
+pub pairs_of-had-requires-clause-few_already : goal.pairs_of-had-requires-clause-few_already
+pairs_of-had-requires-clause-few_already c =
     let h = c.args.state.now in
     let valid = subst IsValid c.problem.ensures c.validity.ensures in
     let few = few_in h.problem h.present c.args.student (λ (class : ℕ). not (is_of_course h.problem c.args.course class)) c.args.rest.now valid c.soundness.ensures.present c.requires.target.within c.requires.rest in
@@ -26,8 +26,8 @@ least_of_course-requires-clause-course c =
     let valid = subst IsValid c.problem.ensures c.validity.ensures in
     within_courses h.problem h.present c.args.student c.args.course valid c.soundness.ensures.present c.requires.target
 
-pub least_of_course-requires-clause-few_taken : goal.least_of_course-requires-clause-few_taken
-least_of_course-requires-clause-few_taken c =
+pub least_of_course-requires-clause-few_already : goal.least_of_course-requires-clause-few_already
+least_of_course-requires-clause-few_already c =
     let h = c.args.state.now in
     let valid = subst IsValid c.problem.ensures c.validity.ensures in
     let few = few_in h.problem h.present c.args.student (λ (class : ℕ). not (is_of_course h.problem c.args.course class)) c.args.rest.now valid c.soundness.ensures.present c.requires.target.within c.requires.rest in
@@ -40,8 +40,8 @@ returns-in_default-clause-choice c =
     no_replacement h.problem h.present c.args.student c.args.course c.args.rest.now c.args.own.now
     (replaces h.problem h.present c.args.student c.args.course valid c.soundness.ensures.present c.requires.target c.args.rest.now c.args.own.now c.requires.rest c.requires.own None (sym c.in_default.ensures.choice))
 
-pub pairs_of-requires-clause-few_taken : goal.pairs_of-requires-clause-few_taken
-pairs_of-requires-clause-few_taken c =
+pub pairs_of-requires-clause-few_already : goal.pairs_of-requires-clause-few_already
+pairs_of-requires-clause-few_already c =
     let h = c.args.state.now in
     let valid = subst IsValid c.problem.ensures c.validity.ensures in
     let few = few_in h.problem h.present c.args.student (λ (class : ℕ). not (is_of_course h.problem c.args.course class)) c.args.rest.now valid c.soundness.ensures.present c.requires.target.within c.requires.rest in
