@@ -44,8 +44,8 @@ pub record IsServed (limit : ℕ) (d : Session) (script : List ℕ) (before : Op
   pub refused_is : (refused || refuses d' (lines_of rest)) ≡ refuses d (lines_of script)
   pub at_line : reader.ended ≡ false → AtLine d script before d' now rest
   pub met : reader.ended ≡ true → IsAtEnd left
-  pub counts : Counts 0 reader.taken 0 (Some script) left
-  pub most : reader.taken ≤ limit
+  pub counts : Counts 0 reader.bytes_read 0 (Some script) left
+  pub most : reader.bytes_read ≤ limit
 
 -- nothing is served yet
 pub served_none : (limit : ℕ) (d : Session) (script : List ℕ) (before left : Option (List ℕ)) (reader : Reader) → reader ≡ new_reader → left ≡ Some script → IsServed limit d script before d false before reader left
@@ -94,8 +94,8 @@ pub record Moves (limit past : ℕ) (reader reader' : Reader) (left left' : Opti
   pub ended : reader'.ended ≡ true → (reader.ended ≡ true) ⊎ IsAtEnd left'
   pub stays : reader.ended ≡ true → reader'.ended ≡ true
   pub same : reader.ended ≡ true → left' ≡ left
-  pub taken : Counts reader.taken reader'.taken past left left'
-  pub most : reader'.taken ≤ limit
+  pub bytes_read : Counts reader.bytes_read reader'.bytes_read past left left'
+  pub most : reader'.bytes_read ≤ limit
 
 module _ (limit : ℕ) (d : Session) (script : List ℕ) (before : Option (List ℕ)) (mid_d : Session) (refused : Bool) (mid : Option (List ℕ)) (reader : Reader) (left : Option (List ℕ)) (served : IsServed limit d script before mid_d refused mid reader left) where
   -- a line that doesn't end the script
@@ -113,7 +113,7 @@ module _ (limit : ℕ) (d : Session) (script : List ℕ) (before : Option (List 
           refused_is = refused_more refused (is_refused outcome) _ _ _ served.refused_is (refuses-next mid_d d' (lines_of served.rest) line (lines_of (after_line served.rest)) outcome cut a.answered.session a.answered.outcome_is goes);
           at_line = λ on. line_served d script before mid_d mid served.rest d' now outcome (served.at_line (was_going reader.ended reader'.ended moves.stays on)) (a.taken.last on) a.answered goes;
           met = met_then reader.ended reader'.ended left left' served.met moves.same moves.ended;
-          counts = counts_then script reader.taken reader'.taken 0 left left' served.counts moves.taken;
+          counts = counts_then script reader.bytes_read reader'.bytes_read 0 left left' served.counts moves.bytes_read;
           most = moves.most;
         }
   ]
@@ -133,10 +133,10 @@ ended_here : (limit : ℕ) (d : Session) (script : List ℕ) (before : Option (L
     → Serves limit before now d script left' (Ok (refused || is_refused outcome))
 ended_here limit d script before mid_d refused mid reader left served d' now reader' left' outcome e moves =
     let met = met_then reader.ended reader'.ended left left' served.met moves.same moves.ended e.met in
-    let counts = counts_then script reader.taken reader'.taken 0 left left' served.counts moves.taken in
+    let counts = counts_then script reader.bytes_read reader'.bytes_read 0 left left' served.counts moves.bytes_read in
     let refused_is = rw e.none at served.refused_is in
     let sent = rw e.none at (left_sent d (lines_of script) before mid_d mid (lines_of served.rest) served.so_far) in
-    (short_script limit script reader'.taken left' counts met moves.most, rw e.outcome_is refused_is, HasSent-all before now _ (HasSent-same before mid now _ _ sent e.written))
+    (short_script limit script reader'.bytes_read left' counts met moves.most, rw e.outcome_is refused_is, HasSent-all before now _ (HasSent-same before mid now _ _ sent e.written))
 
 -- the lines within the limit are those of a front, and those of what follows it
 lines_within : (limit : ℕ) (script done rest : List ℕ) → script ≡ done ++ rest → IsWhole done → length done ≤ limit → lines_of (whole_lines (take limit script)) ≡ lines_of done ++ lines_of (whole_lines (take (limit - length done) rest))
@@ -182,7 +182,7 @@ quit_here : (limit : ℕ) (d : Session) (script : List ℕ) (before : Option (Li
 quit_here limit d script before mid_d refused mid reader left served d' now reader' left' outcome a moves ends =
     let line = leading_line served.rest in
     let cut = first_of_lines served.rest a.taken.some in
-    let counts = counts_then script reader.taken reader'.taken 0 left left' served.counts moves.taken in (
+    let counts = counts_then script reader.bytes_read reader'.bytes_read 0 left left' served.counts moves.bytes_read in (
       by reader'.ended refl,
       refused_is refused (is_refused outcome) _ _ (only_end outcome ends) (refuses-last mid_d (lines_of served.rest) line _ outcome cut a.answered.outcome_is ends) served.refused_is,
       HasSent-all before now _ (HasSent-more before mid now _ _ (reply_of (line_step mid_d line)) _ (left_sent d (lines_of script) before mid_d mid (lines_of served.rest) served.so_far) a.answered.written (replies-last mid_d d' (lines_of served.rest) line _ outcome cut a.answered.session a.answered.outcome_is ends)),
@@ -193,7 +193,7 @@ quit_here limit d script before mid_d refused mid reader left served d' now read
     refused_is so_far false later all goes is sum = ap (λ t. so_far || t) (sym is) ∙ sum
 
     by : (on : Bool) → reader'.ended ≡ on → is_long_script limit script ≡ false
-    by true is = short_script limit script reader'.taken left' (counts_then script reader.taken reader'.taken 0 left left' served.counts moves.taken) (met_then reader.ended reader'.ended left left' served.met moves.same moves.ended is) moves.most
+    by true is = short_script limit script reader'.bytes_read left' (counts_then script reader.bytes_read reader'.bytes_read 0 left left' served.counts moves.bytes_read) (met_then reader.ended reader'.ended left left' served.met moves.same moves.ended is) moves.most
     by false is =
         let at = served.at_line (was_going reader.ended reader'.ended moves.stays is) in
         let line = leading_line served.rest in
@@ -203,7 +203,7 @@ quit_here limit d script before mid_d refused mid reader left served d' now read
         let last : list_any (λ l. ends_script (line_of l)) (lines_of done) ≡ true =
         ap (list_any (λ l. ends_script (line_of l))) (lines_more at.done line at.whole one) ∙ list_any-append (λ l. ends_script (line_of l)) (lines_of at.done) (line ∷ []) ∙ rw (at.answered.no_quit, ← quit_ends mid_d line, a.answered.outcome_is, ends) refl in
         quits_within limit script done (after_line served.rest) parts (whole_more at.done line at.whole one)
-        (lengths limit reader'.taken done (after_line served.rest) reader'.hand script left' reader' is refl parts a.taken.later (counts_then script reader.taken reader'.taken 0 left left' served.counts moves.taken) moves.most)
+        (lengths limit reader'.bytes_read done (after_line served.rest) reader'.hand script left' reader' is refl parts a.taken.later (counts_then script reader.bytes_read reader'.bytes_read 0 left left' served.counts moves.bytes_read) moves.most)
         last
 
 module _ (limit : ℕ) (d : Session) (script : List ℕ) (before : Option (List ℕ)) (mid_d : Session) (refused : Bool) (mid : Option (List ℕ)) (reader : Reader) (left : Option (List ℕ)) (served : IsServed limit d script before mid_d refused mid reader left) where
@@ -217,7 +217,7 @@ module _ (limit : ℕ) (d : Session) (script : List ℕ) (before : Option (List 
 
   -- the whole lines so far are within the limit
   few_done : (at : AtLine d script before mid_d mid served.rest) → reader.ended ≡ false → length at.done ≤ limit
-  few_done at on = lengths limit reader.taken at.done served.rest reader.hand script left reader on refl at.parts served.later served.counts served.most
+  few_done at on = lengths limit reader.bytes_read at.done served.rest reader.hand script left reader on refl at.parts served.later served.counts served.most
 
   -- the replies so far are the first of those within the limit
   sent_within : AtLine d script before mid_d mid served.rest → reader.ended ≡ false → WritesFirst before mid (replies_within limit d script)
@@ -235,11 +235,11 @@ module _ (limit : ℕ) (d : Session) (script : List ℕ) (before : Option (List 
   next_within : (reader' : Reader) (left' : Option (List ℕ)) → TakesLine served.rest reader' left' → Moves limit 0 reader reader' left left' → (later : List (List ℕ)) × HasLeft d (lines_of (answered_part limit script)) before mid_d mid (leading_line served.rest ∷ later)
   next_within reader' left' takes moves = by (is_long_script limit script) refl
     where
-      counts : Counts 0 reader'.taken 0 (Some script) left'
-      counts = counts_then script reader.taken reader'.taken 0 left left' served.counts moves.taken
+      counts : Counts 0 reader'.bytes_read 0 (Some script) left'
+      counts = counts_then script reader.bytes_read reader'.bytes_read 0 left left' served.counts moves.bytes_read
 
       going : is_long_script limit script ≡ true → (ended : Bool) → reader'.ended ≡ ended → reader'.ended ≡ false
-      going long true is = absurd (cc (sym long ∙ short_script limit script reader'.taken left' counts (met_then reader.ended reader'.ended left left' served.met moves.same moves.ended is) moves.most))
+      going long true is = absurd (cc (sym long ∙ short_script limit script reader'.bytes_read left' counts (met_then reader.ended reader'.ended left left' served.met moves.same moves.ended is) moves.most))
       going long false is = is
 
       by : (long : Bool) → is_long_script limit script ≡ long → (later : List (List ℕ)) × HasLeft d (lines_of (answered_part limit script)) before mid_d mid (leading_line served.rest ∷ later)
@@ -252,7 +252,7 @@ module _ (limit : ℕ) (d : Session) (script : List ℕ) (before : Option (List 
           let line = leading_line served.rest in
           let done = at.done ++ (line ++ 10 ∷ []) in
           let parts : script ≡ done ++ after_line served.rest = at.parts ∙ ap (λ t. at.done ++ t) (cut_at_end served.rest (takes.last on) ∙ sym (append_assoc line (10 ∷ []) (after_line served.rest))) ∙ sym (append_assoc at.done (line ++ 10 ∷ []) (after_line served.rest)) in
-          let few : length done ≤ limit = lengths limit reader'.taken done (after_line served.rest) reader'.hand script left' reader' on refl parts takes.later counts moves.most in
+          let few : length done ≤ limit = lengths limit reader'.bytes_read done (after_line served.rest) reader'.hand script left' reader' on refl parts takes.later counts moves.most in
           let later = lines_of (whole_lines (take (limit - length done) (after_line served.rest))) in
           let lines_are : lines_of (whole_lines (take limit script)) ≡ lines_of at.done ++ (line ∷ later) =
           lines_within limit script done (after_line served.rest) parts (whole_more at.done line at.whole (leading_one served.rest)) few
@@ -268,11 +268,11 @@ module _ (limit : ℕ) (d : Session) (script : List ℕ) (before : Option (List 
       (rw same (sent_within at on), rw (whole, same) at.answered.written, ap (λ t. list_any (λ l. ends_script (line_of l)) (lines_of t)) whole ∙ at.answered.no_quit)
 
   -- what was answered of a script that goes on beyond the limit
-  too_long_here : (now : Option (List ℕ)) (reader' : Reader) (left' : Option (List ℕ)) (b : ℕ) → now ≡ mid → AtLine d script before mid_d mid served.rest → StopsIn served.rest (b ∷ []) left' → Moves limit 1 reader reader' left left' → limit ≤ reader'.taken
+  too_long_here : (now : Option (List ℕ)) (reader' : Reader) (left' : Option (List ℕ)) (b : ℕ) → now ≡ mid → AtLine d script before mid_d mid served.rest → StopsIn served.rest (b ∷ []) left' → Moves limit 1 reader reader' left left' → limit ≤ reader'.bytes_read
       → Serves limit before now d script left' (Err TooLong)
   too_long_here now reader' left' b same at stops moves least =
       let parts : script ≡ (at.done ++ stops.part) ++ (b ∷ stops.rest) = at.parts ∙ ap (λ t. at.done ++ t) stops.parts ∙ sym (append_assoc at.done stops.part (b ∷ stops.rest)) in
-      let counts : Counts 0 reader'.taken 1 (Some script) (Some stops.rest) = subst (λ (t : Option (List ℕ)). Counts 0 reader'.taken 1 (Some script) t) stops.left_is (counts_then script reader.taken reader'.taken 1 left left' served.counts moves.taken) in
+      let counts : Counts 0 reader'.bytes_read 1 (Some script) (Some stops.rest) = subst (λ (t : Option (List ℕ)). Counts 0 reader'.bytes_read 1 (Some script) t) stops.left_is (counts_then script reader.bytes_read reader'.bytes_read 1 left left' served.counts moves.bytes_read) in
       let count : length (at.done ++ stops.part) ≡ limit = omega (arith, ap length parts, length-append (at.done ++ stops.part) (b ∷ stops.rest), counts, moves.most, least) in
       let front : take limit script ≡ at.done ++ stops.part = ap (take limit) parts ∙ limit_front limit (at.done ++ stops.part) (b ∷ stops.rest) count in
       let whole : whole_lines (take limit script) ≡ at.done = ap whole_lines front ∙ whole_is at.done stops.part at.whole stops.no_end in
@@ -283,7 +283,7 @@ module _ (limit : ℕ) (d : Session) (script : List ℕ) (before : Option (List 
 
   -- a script that is not served to its end
   pub served_err : (d' : Session) (now : Option (List ℕ)) (reader' : Reader) (left' : Option (List ℕ)) (e : End)
-      → ServesNext served.rest mid now mid_d d' reader' left' (Err e) → Moves limit (past_limit {T = Outcome} (Err e)) reader reader' left left' → ((e ≡ Files) ⊎ (e ≡ TooLong) → reader.ended ≡ false) → (e ≡ TooLong → limit ≤ reader'.taken)
+      → ServesNext served.rest mid now mid_d d' reader' left' (Err e) → Moves limit (past_limit {T = Outcome} (Err e)) reader reader' left left' → ((e ≡ Files) ⊎ (e ≡ TooLong) → reader.ended ≡ false) → (e ≡ TooLong → limit ≤ reader'.bytes_read)
       → Serves limit before now d script left' (Err e)
   served_err d' now reader' left' Files next moves on long = failed_here now left' next.0 (served.at_line (on (inl refl))) (on (inl refl)) next.1
   served_err d' now reader' left' Sink next moves on long =

@@ -30,4 +30,4 @@ returns-clause-reads g c =
     within_read c.args.limit holds _ c.args.name.now (held_told c.args.limit holds c.args.name.now _ c.in_ok-bytes.ensures.bytes)
 
 pub returns-in_err-bytes-clause-reads : goal.returns-in_err-bytes-clause-reads
-returns-in_err-bytes-clause-reads g c = read_told (c.args.limit + most_read) (g.F.Files.holds c.args.files.now) c.args.name.now _ _ c.in_err-bytes.ensures.taken
+returns-in_err-bytes-clause-reads g c = read_told (c.args.limit + most_read) (g.F.Files.holds c.args.files.now) c.args.name.now _ _ c.in_err-bytes.ensures.reads
