@@ -12,7 +12,7 @@ use Rattle.tt_occupancy.specs.Clashes.{clash}
 use Rattle.tt_journal.specs.declared.Entry.{Entry}
 use Rattle.tt_journal.specs.declared.Entry.TheVariants.{Mark, Placed, Bumped, Left, Seated}
 use Rattle.tt_state.specs.Snapshots.{Snapshot, opening_snapshot, with_value}
-use Rattle.tt_state.specs.Values.{conflicts_of}
+use Rattle.tt_state.specs.Values.{conflict_set_of}
 use Rattle.tt_state.specs.Forced.{key_of, forced, forced_by}
 use Rattle.tt_state.specs.History.{before_step, come_to, earlier_by, gone_from, left_by, point_count, seated_by}
 use Rattle.tt_state.specs.Kept.{counts_of}
@@ -65,7 +65,7 @@ after_forcing : List Entry
 after_forcing = Placed 1 None ∷ Bumped (key_of 1 first 0 first) ∷ Placed 0 (Some first) ∷ Mark 0 ∷ after_placing
 
 forced_example : forced_by two_classes placed 1 first (Mark (point_count after_placing) ∷ after_placing) ≡ after_forcing
-unfolding time in_the_room two_classes first placed after_placing after_forcing forced_by conflicts_of spot_at_value clash share has places
+unfolding time in_the_room two_classes first placed after_placing after_forcing forced_by conflict_set_of spot_at_value clash share has places
 forced_example = refl
 
 -- going back by a step leaves the entries of the first
@@ -75,7 +75,7 @@ undone_example = refl
 
 -- and leads to the earlier plans
 plans_example : map (λ s. s.plan) (earlier_by (forced two_classes placed 1 first) after_forcing) ≡ (Some first ∷ None ∷ []) ∷ (None ∷ None ∷ []) ∷ []
-unfolding time in_the_room two_classes first placed after_forcing after_placing forced conflicts_of spot_at_value clash share has places
+unfolding time in_the_room two_classes first placed after_forcing after_placing forced conflict_set_of spot_at_value clash share has places
 plans_example = refl
 
 -- where nothing is counted

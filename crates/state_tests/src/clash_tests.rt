@@ -122,7 +122,7 @@ fn count_within(
     if blocked(problem, score.closures(), 3, spot(problem, 3, value)).is_some() {
         return None;
     }
-    if score.conflicts_within(problem, 3, value, most, listing) {
+    if score.conflict_set_within(problem, 3, value, most, listing) {
         Some(listing.len())
     } else {
         None

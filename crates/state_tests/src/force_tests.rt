@@ -76,7 +76,7 @@ fn pushes_out_at_most(state: &mut State, most: u32) -> bool {
     if blocked(state.problem(), state.score().closures(), 1, spot).is_some() {
         return false;
     }
-    state.find_conflicts_within(1, value, most)
+    state.find_conflict_set_within(1, value, most)
 }
 
 // Whether a student gets a list in a step, and loses it by an empty one.

@@ -36,7 +36,12 @@ impl<'a> Standing<'a> {
 
     /// How a student who has taken these classes beforehand stands in the present snapshot. `wanting`
     /// has those of them whose parent may be missing yet.
-    pub fn new(state: &'a State, student: u32, wanting: &'a [u32], already: &'a [u32]) -> Standing<'a>
+    pub fn new(
+        state: &'a State,
+        student: u32,
+        wanting: &'a [u32],
+        already: &'a [u32],
+    ) -> Standing<'a>
         requires student { student < length state.now.problem.students }
         requires few_already { length already.now ≤ most_already }
         ensures problem { result.problem.now ≡ state.now.problem }

@@ -17,7 +17,7 @@ use Rattle.tt_clash.specs.ConflictSet.{conflict_set}
 use Rattle.tt_score.specs.Forcing.{among}
 use Rattle.tt_score.specs.Placed.{unplaced_count}
 use Rattle.tt_state.specs.Snapshots.{Snapshot, StaysLocked, is_locked_in, may_lock, value_in, with_value}
-use Rattle.tt_state.specs.Values.{blocked_of, conflicts_of}
+use Rattle.tt_state.specs.Values.{blocked_of, conflict_set_of}
 use Rattle.tt_improve.specs.Classes.{is_free}
 use Rattle.tt_improve.specs.Targets.{movable_classes, seated_courses}
 use Rattle.tt_improve.specs.Standing.{IsMovable}
@@ -116,15 +116,15 @@ pub record IsOpenSpot (p : Parts) (s : Snapshot) (class : ℕ) (v : Value) (x : 
   pub alone : conflict_set (rule_amounts p) (among p s.plan class x) ≡ []
 
 pub open_spot : (p : Parts) (s : Snapshot) (class : ℕ) (v : Value) → IsOfDomain p class v → is_free p s class v ≡ true → (x : Spot) × IsOpenSpot p s class v x
-unfolding blocked_of conflicts_of
+unfolding blocked_of conflict_set_of
 open_spot p s class v domain free =
     let spot = spot_of_value p class v domain in
-    let parts = and_parts (is_none (blocked_of p s.closures class v)) (length (conflicts_of p s class v) == 0) free in (
+    let parts = and_parts (is_none (blocked_of p s.closures class v)) (length (conflict_set_of p s class v) == 0) free in (
       spot.0,
       record {
         spot = spot.1;
         open_one = rw spot.1 at (none_is (blocked_of p s.closures class v) parts.0);
-        alone = rw spot.1 at (empty_is (conflicts_of p s class v) (eqb-true (length (conflicts_of p s class v)) 0 parts.1));
+        alone = rw spot.1 at (empty_is (conflict_set_of p s class v) (eqb-true (length (conflict_set_of p s class v)) 0 parts.1));
       },
     )
 

@@ -7,10 +7,10 @@ use Rattle.tt_problem.specs.declared.parts.Parts.{Parts}
 use Rattle.tt_plan.specs.Domain.{domain_of}
 use Rattle.tt_state.specs.History.{Contents, trail, with_taken}
 use Rattle.tt_state.specs.Snapshots.{Snapshot, is_locked_in, with_value}
-use Rattle.tt_state.specs.Values.{blocked_of, conflicts_of, total_with}
+use Rattle.tt_state.specs.Values.{blocked_of, conflict_set_of, total_with}
 use Rattle.tt_score.specs.Below.{below}
 use Rattle.tt_improve.specs.Classes.{is_free, total_of}
-use Rattle.tt_deluge.specs.ClassRounds.{moved_by_conflicts, class_change, exchange_value, exchanged, half_exchanged, has_value, moved_to_next, moved_to_value}
+use Rattle.tt_deluge.specs.ClassRounds.{moved_by_conflict_set, class_change, exchange_value, exchanged, half_exchanged, has_value, moved_to_next, moved_to_value}
 use Rattle.tt_deluge.specs.Deluged.{made_within}
 use Rattle.tt_deluge.specs.Standing.{BeginsWith, IsClassRound, StandsAs}
 use Rattle.tt_deluge.proofs.ChangeLemmas.{stands-same}
@@ -75,7 +75,7 @@ tried-low p s class v level o is some = not_not (nat_le (total_of p (with_value 
 -- an exchange with a class that isn't locked
 pub exchange-found : (p : Parts) (s : Snapshot) (class : ℕ) (v : Value) (other : ℕ) (to : Value) (b : Bool) → is_locked_in s other ≡ false → exchange_value p s class other ≡ Some to → has_value s other to ≡ false
     → b ≡ (is_free p (with_value s other None) class v && is_free p (half_exchanged s class v other) other to)
-    → moved_by_conflicts p s class v (other ∷ []) ≡ (if b then Some (with_value (half_exchanged s class v other) other (Some to)) else None)
+    → moved_by_conflict_set p s class v (other ∷ []) ≡ (if b then Some (with_value (half_exchanged s class v other) other (Some to)) else None)
 exchange-found p s class v other to b open_one is apart free =
     let end : Option Snapshot = Some (with_value (half_exchanged s class v other) other (Some to)) in
     let one : Bool = is_free p (with_value s other None) class v in
@@ -96,13 +96,13 @@ some-tried (Some n) e = refl
 -- a value that the class has, or that is blocked, and one that is neither
 pub moved-none : (p : Parts) (s : Snapshot) (class : ℕ) (v : Value) → (has_value s class v || is_some (blocked_of p s.closures class v)) ≡ true → moved_to_value p s class v ≡ None
 unfolding moved_to_value
-moved-none p s class v is = ap (λ (b : Bool). if b then None else moved_by_conflicts p s class v (conflicts_of p s class v)) is
+moved-none p s class v is = ap (λ (b : Bool). if b then None else moved_by_conflict_set p s class v (conflict_set_of p s class v)) is
 
-pub moved-among : (p : Parts) (s : Snapshot) (class : ℕ) (v : Value) (conflicts : List ℕ) → (has_value s class v || is_some (blocked_of p s.closures class v)) ≡ false → conflicts_of p s class v ≡ conflicts → moved_to_value p s class v ≡ moved_by_conflicts p s class v conflicts
+pub moved-among : (p : Parts) (s : Snapshot) (class : ℕ) (v : Value) (conflicts : List ℕ) → (has_value s class v || is_some (blocked_of p s.closures class v)) ≡ false → conflict_set_of p s class v ≡ conflicts → moved_to_value p s class v ≡ moved_by_conflict_set p s class v conflicts
 unfolding moved_to_value
-moved-among p s class v conflicts is same = ap (λ (b : Bool). if b then None else moved_by_conflicts p s class v (conflicts_of p s class v)) is ∙ ap (moved_by_conflicts p s class v) same
+moved-among p s class v conflicts is same = ap (λ (b : Bool). if b then None else moved_by_conflict_set p s class v (conflict_set_of p s class v)) is ∙ ap (moved_by_conflict_set p s class v) same
 
-pub among-many : (p : Parts) (s : Snapshot) (class : ℕ) (v : Value) (conflicts : List ℕ) → nat_le (length conflicts) 1 ≡ false → moved_by_conflicts p s class v conflicts ≡ None
+pub among-many : (p : Parts) (s : Snapshot) (class : ℕ) (v : Value) (conflicts : List ℕ) → nat_le (length conflicts) 1 ≡ false → moved_by_conflict_set p s class v conflicts ≡ None
 among-many p s class v [] many = absurd (omega (arith, leb-false 0 1 many))
 among-many p s class v (one ∷ []) many = absurd (omega (arith, leb-false (length (one ∷ [])) 1 many))
 among-many p s class v (one ∷ more ∷ others) many = refl

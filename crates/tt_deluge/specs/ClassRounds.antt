@@ -10,7 +10,7 @@ use Rattle.tt_bits.specs.Sets.{day_set, week_set}
 use Rattle.tt_problem.specs.declared.parts.Parts.{Parts}
 use Rattle.tt_plan.specs.Domain.{domain_of, spot_at_value}
 use Rattle.tt_state.specs.Snapshots.{Snapshot, is_locked_in, value_in, with_value}
-use Rattle.tt_state.specs.Values.{blocked_of, conflicts_of, is_value}
+use Rattle.tt_state.specs.Values.{blocked_of, conflict_set_of, is_value}
 use Rattle.tt_improve.specs.Classes.{is_free}
 use Rattle.tt_deluge.specs.Draws.{by_draw, draw_next}
 
@@ -71,16 +71,16 @@ exchanged p s class v other to =
     if may_exchange p s class v other to then Some (with_value (half_exchanged s class v other) other (Some to)) else None
 
 -- the snapshot with a class at a value that isn't blocked, by the conflict set: where it is empty, or one class that isn't locked, in an exchange with it
-abbrev pub moved_by_conflicts : Parts → Snapshot → (class : ℕ) → Value → (conflicts : List ℕ) → Option Snapshot
-moved_by_conflicts p s class v [] = Some (with_value s class (Some v))
-moved_by_conflicts p s class v (other ∷ []) =
+abbrev pub moved_by_conflict_set : Parts → Snapshot → (class : ℕ) → Value → (conflicts : List ℕ) → Option Snapshot
+moved_by_conflict_set p s class v [] = Some (with_value s class (Some v))
+moved_by_conflict_set p s class v (other ∷ []) =
     if is_locked_in s other then None else option_and_then (exchanged p s class v other) (exchange_value p s class other)
-moved_by_conflicts p s class v (other ∷ more ∷ others) = None
+moved_by_conflict_set p s class v (other ∷ more ∷ others) = None
 
 -- the snapshot with a class at a value or in an exchange, none where it has the value, or where the value is blocked
 unfoldable pub moved_to_value : Parts → Snapshot → (class : ℕ) → Value → Option Snapshot
 moved_to_value p s class v =
-    if has_value s class v || is_some (blocked_of p s.closures class v) then None else moved_by_conflicts p s class v (conflicts_of p s class v)
+    if has_value s class v || is_some (blocked_of p s.closures class v) then None else moved_by_conflict_set p s class v (conflict_set_of p s class v)
 
 -- the snapshot with a class at the next free value, none where it has none
 abbrev pub moved_to_next : Parts → Snapshot → (class place : ℕ) → Option Snapshot

@@ -130,7 +130,7 @@ fn move_to_value(
     if has_value(state, class, value) || state.blocked(class, value).is_some() {
         return Ok(false);
     }
-    if !state.find_conflicts_within(class, value, 1) {
+    if !state.find_conflict_set_within(class, value, 1) {
         return Ok(false);
     }
     match only_taken(state) {

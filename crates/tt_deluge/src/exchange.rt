@@ -6,7 +6,7 @@ ghost use Rattle.tt_state.specs.History.{IsWithinStep, earlier, trail, with_take
 ghost use Rattle.tt_state.specs.Snapshots.{is_locked_in, with_value};
 ghost use Rattle.tt_improve.specs.Classes.{is_free};
 ghost use Rattle.tt_improve.specs.Standing.{IsMovable};
-ghost use Rattle.tt_deluge.specs.ClassRounds.{moved_by_conflicts, begin_alike, exchange_value, half_exchanged, spot_in, value_at_time};
+ghost use Rattle.tt_deluge.specs.ClassRounds.{moved_by_conflict_set, begin_alike, exchange_value, half_exchanged, spot_in, value_at_time};
 ghost use Rattle.tt_deluge.specs.Places.{place_of_room, place_of_time};
 ghost use Rattle.tt_deluge.specs.Standing.{BeginsWith, IsClassRound};
 
@@ -144,7 +144,7 @@ pub(crate) fn exchange(
     requires step { 0 < length (earlier state.old) }
     ensures step { IsWithinStep (with_taken state.old []) (with_taken state.new []) }
     ensures round { IfOk result (IsClassRound level
-        (moved_by_conflicts state.old.problem state.old.present class value (other ∷ []))
+        (moved_by_conflict_set state.old.problem state.old.present class value (other ∷ []))
         (with_taken state.old []) (with_taken state.new [])) }
 {
     state.problem().validity();

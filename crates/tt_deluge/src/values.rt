@@ -27,5 +27,5 @@ pub(crate) fn is_free(state: &mut State, class: u32, value: Value) -> bool
     ensures present { state.new.present ≡ state.old.present }
     ensures entries { state.new.entries ≡ state.old.entries }
 {
-    state.blocked(class, value).is_none() && state.find_conflicts_within(class, value, 0)
+    state.blocked(class, value).is_none() && state.find_conflict_set_within(class, value, 0)
 }

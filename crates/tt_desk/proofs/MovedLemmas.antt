@@ -24,7 +24,7 @@ use Rattle.tt_published.specs.Timetable.{Timetable, IsTimetableOf}
 use Rattle.tt_published.specs.Published.{is_moved, moved_in}
 use Rattle.tt_published.proofs.MovedLemmas.{moved_few, moved_same}
 use Rattle.tt_state.specs.Snapshots.{Snapshot, classes_in_order, with_list}
-use Rattle.tt_state.specs.Values.{conflicts_of, obstacle_of}
+use Rattle.tt_state.specs.Values.{conflict_set_of, obstacle_of}
 use Rattle.tt_state.specs.History.{Contents, desk_of, stepped, with_taken}
 use Rattle.tt_enrol.specs.Enrolled.{enrolled}
 use Rattle.tt_enrol.specs.Students.{classes_found}
@@ -144,15 +144,15 @@ forced_distinct_at p plan class (Some x) valid =
     IsDistinct-cons nat_eq class set (recursion_from_All (λ d. nat_eq class d ≡ false) set (All-weaker (λ d. IsOther s d) (λ d. nat_eq class d ≡ false) (λ d other. ne_eqb class d (λ e. eqb-false d class other.other (sym e))) set others))
     (conflict_set-distinct (rule_amounts p) s (differ-valid p valid))
 
-forced_distinct : (p : Parts) (s : Snapshot) (class : ℕ) (v : Value) → IsValid p → IsDistinct nat_eq (class ∷ conflicts_of p s class v)
-unfolding conflicts_of
+forced_distinct : (p : Parts) (s : Snapshot) (class : ℕ) (v : Value) → IsValid p → IsDistinct nat_eq (class ∷ conflict_set_of p s class v)
+unfolding conflict_set_of
 forced_distinct p s class v valid = forced_distinct_at p s.plan class (spot_at_value p class v) valid
 
 -- a class is forced to a value
-pub moved_forced : (p : Parts) (published : Option Timetable) (s : Snapshot) (class : ℕ) (v : Value) → IsValid p → IfSome published (IsTimetableOf p) → class < length p.classes → All (λ c. c < length p.classes) (conflicts_of p s class v)
-    → moved_in p published (forced p s class v).plan + moved_among p published s.plan (class ∷ conflicts_of p s class v) ≡ moved_in p published s.plan + moved_among p published (forced p s class v).plan (class ∷ conflicts_of p s class v)
+pub moved_forced : (p : Parts) (published : Option Timetable) (s : Snapshot) (class : ℕ) (v : Value) → IsValid p → IfSome published (IsTimetableOf p) → class < length p.classes → All (λ c. c < length p.classes) (conflict_set_of p s class v)
+    → moved_in p published (forced p s class v).plan + moved_among p published s.plan (class ∷ conflict_set_of p s class v) ≡ moved_in p published s.plan + moved_among p published (forced p s class v).plan (class ∷ conflict_set_of p s class v)
 moved_forced p published s class v valid belongs within all =
-    moved_over p published s.plan (forced p s class v).plan (class ∷ conflicts_of p s class v) belongs (forced_distinct p s class v valid) (All-cons (λ c. c < length p.classes) class (conflicts_of p s class v) within all)
+    moved_over p published s.plan (forced p s class v).plan (class ∷ conflict_set_of p s class v) belongs (forced_distinct p s class v valid) (All-cons (λ c. c < length p.classes) class (conflict_set_of p s class v) within all)
     (forced_others p s class v).values
 
 -- some classes and one before them
@@ -167,8 +167,8 @@ moved_most p (Some t) plan belongs = omega (arith, moved_few p plan t, belongs.c
 
 -- so it is where the code forces a class, which looks for its conflict set before
 pub force_change : (old found new : Contents) (published : Option Timetable) (class : ℕ) (v : Value) (count was is : ℕ) → IsValid new.problem → IfSome published (IsTimetableOf old.problem) → class < length old.problem.classes
-    → with_taken found [] ≡ with_taken old [] → desk_of new ≡ stepped (desk_of found) (forced found.problem found.present class v) → new.taken ≡ conflicts_of found.problem found.present class v → obstacle_of found.problem found.present class v ≡ None
-    → (obstacle_of old.problem old.present class v ≡ None → was ≡ moved_among old.problem published old.present.plan (class ∷ conflicts_of old.problem old.present class v))
+    → with_taken found [] ≡ with_taken old [] → desk_of new ≡ stepped (desk_of found) (forced found.problem found.present class v) → new.taken ≡ conflict_set_of found.problem found.present class v → obstacle_of found.problem found.present class v ≡ None
+    → (obstacle_of old.problem old.present class v ≡ None → was ≡ moved_among old.problem published old.present.plan (class ∷ conflict_set_of old.problem old.present class v))
     → is ≡ moved_among new.problem published new.present.plan (class ∷ new.taken) → All (λ c. c < length new.problem.classes) new.taken
     → count ≡ moved_in old.problem published old.present.plan → moved_in new.problem published new.present.plan + was ≡ count + is
 force_change old found new published class v count was is valid belongs within same desk taken clear was_is is_is all count_is =
@@ -176,11 +176,11 @@ force_change old found new published class v count was is valid belongs within s
     let s : found.present ≡ old.present = ap (λ h. h.present) same in
     let q : new.problem ≡ old.problem = ap (λ d. d.problem) desk ∙ p in
     let now : new.present ≡ forced old.problem old.present class v = rw (← p, ← s) (ap (λ d. d.present) desk) in
-    let out : new.taken ≡ conflicts_of old.problem old.present class v = rw (← p, ← s) taken in
+    let out : new.taken ≡ conflict_set_of old.problem old.present class v = rw (← p, ← s) taken in
     let open_one : obstacle_of old.problem old.present class v ≡ None = rw (← p, ← s) clear in
-    let each : All (λ c. c < length old.problem.classes) (conflicts_of old.problem old.present class v) = rw (← out, ← q) all in
+    let each : All (λ c. c < length old.problem.classes) (conflict_set_of old.problem old.present class v) = rw (← out, ← q) all in
     let sound : IsValid old.problem = rw (← q) valid in
-    let is_now : is ≡ moved_among old.problem published (forced old.problem old.present class v).plan (class ∷ conflicts_of old.problem old.present class v) = rw (← out, ← now, ← q) is_is in
+    let is_now : is ≡ moved_among old.problem published (forced old.problem old.present class v).plan (class ∷ conflict_set_of old.problem old.present class v) = rw (← out, ← now, ← q) is_is in
     rw (q, now, was_is open_one, count_is, is_now) (moved_forced old.problem published old.present class v sound belongs within each)
 
 -- a student who is enrolled moves no class

@@ -6,7 +6,7 @@ use Rattle.std.specs.Option.{option_and_then}
 use Rattle.tt_base.specs.Lists.{first_least}
 use Rattle.tt_bits.specs.declared.times.Value.{Value}
 use Rattle.tt_clash.specs.declared.Block.{Block}
-use Rattle.tt_deluge.specs.ClassRounds.{moved_by_conflicts, exchanged, exchange_value}
+use Rattle.tt_deluge.specs.ClassRounds.{moved_by_conflict_set, exchanged, exchange_value}
 use Rattle.tt_desk.specs.Unlocked.{IsWithoutLocks, moment_of}
 use Rattle.tt_improve.specs.Targets.{movable_classes}
 use Rattle.tt_plan.specs.Domain.{domain_of}
@@ -18,7 +18,7 @@ use Rattle.tt_published.specs.Published.{published_value}
 use Rattle.tt_published.specs.Timetable.{Timetable}
 use Rattle.tt_state.specs.declared.obstacle.Obstacle.TheVariants.{Blocked, Held}
 use Rattle.tt_state.specs.Snapshots.{Snapshot, is_locked_in, may_lock, value_in, with_unplaced, with_value}
-use Rattle.tt_state.specs.Values.{blocked_of, conflicts_of, holder_of, obstacle_by, obstacle_of}
+use Rattle.tt_state.specs.Values.{blocked_of, conflict_set_of, holder_of, obstacle_by, obstacle_of}
 
 none_found : (test : ℕ → Bool) (xs : List ℕ) → ((x : ℕ) → test x ≡ false) → find test xs ≡ None
 none_found test [] none = refl
@@ -49,7 +49,7 @@ module _ (p : Parts) (s : Snapshot) (free : (class : ℕ) → is_locked_in s cla
     where
       by : (o : Option Block) → obstacle_by p s class v o ≡ option_map (λ (b : Block). Blocked b) o
       by (Some block) = refl
-      by None = ap (option_map (λ other. Held other)) (none_found (is_locked_in s) (conflicts_of p s class v) free)
+      by None = ap (option_map (λ other. Held other)) (none_found (is_locked_in s) (conflict_set_of p s class v) free)
 
   available : (class : ℕ) (v : Value) → is_available p s class v ≡ is_open p s.closures class v
   available class v = ap is_none (obstacles class v) ∙ by (blocked_of p s.closures class v)
@@ -66,7 +66,7 @@ module _ (p : Parts) (s : Snapshot) (free : (class : ℕ) → is_locked_in s cla
   unfolding least_values
   placings outs class = ap (all_least (burden_of p (moment_of s outs) class)) (alike (is_available p s class) (is_open p s.closures class) (available class) (domain_of p class))
 
-  exchanges : (class : ℕ) (v : Value) (other : ℕ) → moved_by_conflicts p s class v (other ∷ []) ≡ option_and_then (exchanged p s class v other) (exchange_value p s class other)
+  exchanges : (class : ℕ) (v : Value) (other : ℕ) → moved_by_conflict_set p s class v (other ∷ []) ≡ option_and_then (exchanged p s class v other) (exchange_value p s class other)
   exchanges class v other = rw (free other) refl
 
   objects : movable_classes p s ≡ filter (λ class. is_some (value_in s class)) (range_with_len 0 (length p.classes))

@@ -19,7 +19,7 @@ use Rattle.tt_score.specs.declared.totals.Totals as totals
 use Rattle.tt_score.specs.Totals.{totals_of}
 use Rattle.tt_state.specs.Snapshots.{Snapshot, opening_snapshot, value_in, with_value, list_in, with_list, classes_in_order, is_open_in, with_closed, with_reopened, is_locked_in, with_lock, with_unplaced, lockable, all_locked, locked_classes, none_locked}
 use Rattle.tt_state.specs.Seats.{first_without_seat}
-use Rattle.tt_state.specs.Values.{conflicts_of, obstacle_of}
+use Rattle.tt_state.specs.Values.{conflict_set_of, obstacle_of}
 use Rattle.tt_state.specs.Faults.{lock_fault_of}
 use Rattle.tt_state.specs.declared.obstacle.Obstacle.{Obstacle}
 use Rattle.tt_state.specs.declared.obstacle.Obstacle.TheVariants as obstacle
@@ -281,7 +281,7 @@ carried_out s (Force class time room) = do
   c ← known_class s.desk.problem class
   v ← known_value s.desk.problem c time room
   free ← none_or (obstacle_refusal s.desk.problem) (obstacle_of s.desk.problem s.desk.present c v)
-  Ok (with_step s (forced s.desk.problem s.desk.present c v) (taken_lines s.desk.problem (conflicts_of s.desk.problem s.desk.present c v)))
+  Ok (with_step s (forced s.desk.problem s.desk.present c v) (taken_lines s.desk.problem (conflict_set_of s.desk.problem s.desk.present c v)))
 carried_out s (Section student classes) = do
   list ← known_classes s.desk.problem classes
   i ← known_student s.desk.problem student

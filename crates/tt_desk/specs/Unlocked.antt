@@ -5,7 +5,7 @@ use Rattle.std.specs.Option.{option_and_then}
 use Rattle.tt_base.specs.Lists.{first_least}
 use Rattle.tt_bits.specs.declared.times.Value.{Value}
 use Rattle.tt_clash.specs.declared.Block.{Block}
-use Rattle.tt_deluge.specs.ClassRounds.{moved_by_conflicts, exchanged, exchange_value}
+use Rattle.tt_deluge.specs.ClassRounds.{moved_by_conflict_set, exchanged, exchange_value}
 use Rattle.tt_improve.specs.Targets.{movable_classes}
 use Rattle.tt_plan.specs.Domain.{domain_of}
 use Rattle.tt_problem.specs.declared.parts.Parts.{Parts}
@@ -21,7 +21,7 @@ use Rattle.tt_state.specs.Values.{blocked_of, obstacle_of}
 abbrev pub moment_of : Snapshot → (outs : List ℕ) → PlaceMoment
 moment_of s outs = record { snapshot = s; outs = outs }
 
--- what stands in the way of a value is what blocks it; a turn, of `place` too, chooses moved_by_conflicts all values that aren't blocked; each
+-- what stands in the way of a value is what blocks it; a turn, of `place` too, chooses among all values that aren't blocked; each
 -- placed class is an object of a descent and of a deluge, and each may be exchanged; unplacing a class takes its value alone; and a
 -- return locks none
 pub record IsWithoutLocks (p : Parts) (s : Snapshot) : Type 0 where
@@ -29,6 +29,6 @@ pub record IsWithoutLocks (p : Parts) (s : Snapshot) : Type 0 where
   pub choices : (published : Option Timetable) (class : ℕ) → chosen_value p published s class ≡ first_least (price_of p published s class) (filter (is_open p s.closures class) (domain_of p class))
   pub placings : (outs : List ℕ) (class : ℕ) → least_values p (moment_of s outs) class ≡ all_least (burden_of p (moment_of s outs) class) (filter (is_open p s.closures class) (domain_of p class))
   pub objects : movable_classes p s ≡ filter (λ class. is_some (value_in s class)) (range_with_len 0 (length p.classes))
-  pub exchanges : (class : ℕ) (v : Value) (other : ℕ) → moved_by_conflicts p s class v (other ∷ []) ≡ option_and_then (exchanged p s class v other) (exchange_value p s class other)
+  pub exchanges : (class : ℕ) (v : Value) (other : ℕ) → moved_by_conflict_set p s class v (other ∷ []) ≡ option_and_then (exchanged p s class v other) (exchange_value p s class other)
   pub unplaced : (class : ℕ) → with_unplaced s class ≡ with_value s class None
   pub recalled : (t : Timetable) (class : ℕ) → slice_index_or (recalled_locks p t s) class false ≡ false

@@ -8,7 +8,7 @@ ghost use Rattle.tt_published.specs.Published.{is_moved, moved_in};
 ghost use Rattle.tt_published.specs.Timetable.{IsTimetableOf, Timetable};
 ghost use Rattle.tt_state.specs.History.{earlier, with_taken};
 ghost use Rattle.tt_state.specs.Snapshots.{Snapshot};
-ghost use Rattle.tt_state.specs.Values.{conflicts_of, obstacle_of};
+ghost use Rattle.tt_state.specs.Values.{conflict_set_of, obstacle_of};
 ghost use Rattle.tt_desk.specs.MovedNow.{AreMovedIn, moved_among};
 
 use std::alloc::Global;
@@ -111,7 +111,7 @@ pub(crate) fn count_with_conflicts(
     ensures count { obstacle_of state.old.problem state.old.present class value ≡ None
         → result
         ≡ moved_among state.old.problem published.now state.old.present.plan
-        (class ∷ conflicts_of state.old.problem state.old.present class value) }
+        (class ∷ conflict_set_of state.old.problem state.old.present class value) }
     ensures same { with_taken state.new [] ≡ with_taken state.old [] }
 {
     if published.is_none() || state.find_obstacle(class, value).is_some() {

@@ -15,7 +15,7 @@ use Rattle.tt_score.specs.Forcing.{among}
 use Rattle.tt_score.proofs.PlanLemmas.{spot_in}
 use Rattle.tt_state.specs.declared.obstacle.Obstacle.{Obstacle}
 use Rattle.tt_state.specs.Snapshots.{Snapshot, value_in}
-use Rattle.tt_state.specs.Values.{conflicts_of, obstacle_of}
+use Rattle.tt_state.specs.Values.{conflict_set_of, obstacle_of}
 use Rattle.tt_explain.specs.Values.{IsToldByWhy, price_by, value_costs}
 use Rattle.tt_explain.specs.Why.{blocked_line, lines_by, lost_among, lost_of, out_lines, trial_line, why_lines}
 
@@ -40,8 +40,8 @@ placed_has_value p s class placed = by (value_in s class) (sym (ap is_some (spot
     by (Some v) some = refl
 
 -- each class of the conflict set has a value
-all_placed : (p : Parts) (s : Snapshot) (class : ℕ) (v : Value) → All (λ other. is_some (value_in s other) ≡ true) (conflicts_of p s class v)
-unfolding conflicts_of
+all_placed : (p : Parts) (s : Snapshot) (class : ℕ) (v : Value) → All (λ other. is_some (value_in s other) ≡ true) (conflict_set_of p s class v)
+unfolding conflict_set_of
 all_placed p s class v = by (spot_at_value p class v)
   where
     by : (o : Option Spot) → All (λ other. is_some (value_in s other) ≡ true) (option_map_or (λ x. conflict_set (rule_amounts p) (among p s.plan class x)) o [])
@@ -65,7 +65,7 @@ module _ (p : Parts) (s : Snapshot) (class : ℕ) (v : Value) where
   -- each class of the conflict set loses its value
   all_lost : (value_costs p s class v).out ≡ length (lost_of p s class v)
   unfolding value_costs lost_of
-  all_lost = sym (lost-all s (conflicts_of p s class v) (all_placed p s class v))
+  all_lost = sym (lost-all s (conflict_set_of p s class v) (all_placed p s class v))
 
   pub told_by_why : IsToldByWhy p s class v
   unfolding why_lines

@@ -6,7 +6,7 @@ use Rattle.tt_problem.specs.declared.parts.Parts.{Parts}
 use Rattle.tt_plan.specs.Domain.{domain_of}
 use Rattle.tt_state.specs.declared.obstacle.Obstacle.{Obstacle}
 use Rattle.tt_state.specs.Snapshots.{Snapshot}
-use Rattle.tt_state.specs.Values.{conflicts_of, obstacle_of, total_with}
+use Rattle.tt_state.specs.Values.{conflict_set_of, obstacle_of, total_with}
 use Rattle.tt_state.specs.Tolls.{tolls_of}
 use Rattle.tt_text.specs.Fields.{field}
 use Rattle.tt_explain.specs.declared.pricing.ValueCosts.{ValueCosts}
@@ -16,7 +16,7 @@ use Rattle.tt_explain.specs.Why.{lost_of, obstacle_text, out_lines, trial_line, 
 -- what a class at a value would cost: how many classes it pushes out, what these weigh, and the total with it there and all
 -- else as it is
 unfoldable pub value_costs : Parts → Snapshot → (class : ℕ) → Value → ValueCosts
-value_costs p s class v = record { out = length (conflicts_of p s class v); tolls = tolls_of p s class v; total = total_with p s class v }
+value_costs p s class v = record { out = length (conflict_set_of p s class v); tolls = tolls_of p s class v; total = total_with p s class v }
 
 -- `out N weight W trial E`
 unfoldable pub costs_text : ValueCosts → List ℕ

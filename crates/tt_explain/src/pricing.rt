@@ -4,7 +4,7 @@ ghost use Rattle.std.specs.Prelude.{◌≡◌, ◌++◌, ◌<◌, [], OnOk, leng
 ghost use Rattle.tt_bits.specs.declared.times.Value.{Value};
 ghost use Rattle.tt_plan.specs.Domain.{IsOfDomain};
 ghost use Rattle.tt_state.specs.History.{with_taken};
-ghost use Rattle.tt_state.specs.Values.{conflicts_of};
+ghost use Rattle.tt_state.specs.Values.{conflict_set_of};
 ghost use Rattle.tt_explain.specs.Values.{IsToldByWhy, costs_text, price_text, priced_line, value_costs, values_lines};
 
 use crate::names::add_value;
@@ -28,7 +28,7 @@ pub struct ValueCosts {
 fn value_costs(state: &mut State, class: u32, value: Value) -> ValueCosts
     requires value { IsOfDomain state.old.problem class value }
     requires taken { state.old.taken
-        ≡ conflicts_of state.old.problem state.old.present class value }
+        ≡ conflict_set_of state.old.problem state.old.present class value }
     ensures costs { result ≡ value_costs state.old.problem state.old.present class value }
     ensures same { state.new ≡ state.old }
 {

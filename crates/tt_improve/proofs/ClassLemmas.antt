@@ -19,7 +19,7 @@ use Rattle.tt_clash.specs.ConflictSet.{conflict_set}
 use Rattle.tt_score.specs.Forcing.{among}
 use Rattle.tt_score.specs.Totals.{totals_of}
 use Rattle.tt_state.specs.Snapshots.{Snapshot, StaysLocked, is_locked_in, may_lock, value_in, with_value}
-use Rattle.tt_state.specs.Values.{blocked_of, conflicts_of, total_with}
+use Rattle.tt_state.specs.Values.{blocked_of, conflict_set_of, total_with}
 use Rattle.tt_improve.specs.declared.classes.Best.{Best}
 use Rattle.tt_improve.specs.Below.{better, passed, nothing_below}
 use Rattle.tt_improve.specs.Classes.{is_free, total_of, least_value, at_lower, moved_class}
@@ -108,12 +108,12 @@ others_stay s class v free d locked = (get_or-set_other s.plan class d (Some v) 
 
 -- a lower value makes the snapshot no worse
 pub lower_no_worse : (p : Parts) (s : Snapshot) (class : ℕ) (v : Value) → IsValid p → length s.plan ≡ length p.classes → IsMovable p s class → IsLower p s class v → IsNoWorse p s (with_value s class (Some v))
-unfolding blocked_of conflicts_of total_with
+unfolding blocked_of conflict_set_of total_with
 lower_no_worse p s class v valid whole target lower =
     let spot = spot_of_value p class v lower.domain in
-    let free = and_parts (is_none (blocked_of p s.closures class v)) (length (conflicts_of p s class v) == 0) lower.free in
+    let free = and_parts (is_none (blocked_of p s.closures class v)) (length (conflict_set_of p s class v) == 0) lower.free in
     let open_value : blocked_by p s.closures class spot.0 ≡ None = rw spot.1 at (none_is (blocked_of p s.closures class v) free.0) in
-    let empty : conflict_set (rule_amounts p) (among p s.plan class spot.0) ≡ [] = rw spot.1 at (empty_is (conflicts_of p s class v) (eqb-true (length (conflicts_of p s class v)) 0 free.1)) in
+    let empty : conflict_set (rule_amounts p) (among p s.plan class spot.0) ≡ [] = rw spot.1 at (empty_is (conflict_set_of p s class v) (eqb-true (length (conflict_set_of p s class v)) 0 free.1)) in
     record {
       total = omega (arith, lower.lower);
       hard = hard-falls p s.closures s.plan s.lists class v spot.0 valid (omega (arith, whole, target.within)) spot.1 open_value empty;

@@ -22,7 +22,7 @@ use Rattle.tt_struct.specs.Enrolments.{is_enrolment}
 use Rattle.tt_state.specs.Seats.{has_seat, limit_of, others_with}
 use Rattle.tt_state.specs.Snapshots.{Snapshot, classes_in_order, list_in, with_list, with_value}
 use Rattle.tt_state.specs.Sound.{IsSound}
-use Rattle.tt_state.specs.Values.{conflicts_of, total_with}
+use Rattle.tt_state.specs.Values.{conflict_set_of, total_with}
 use Rattle.tt_state.proofs.SeatLemmas.{has-ordered}
 use Rattle.tt_choice.specs.Choices.{choices_at}
 use Rattle.tt_choice.specs.Least.{pairs_added}
@@ -277,7 +277,7 @@ module _ (p : Parts) (s : Snapshot) (student course : ℕ) (choice : List ℕ) (
         omega (arith, weighed p.weights.student (student_conflicts p.travel spots (slice_set s.lists student new)) (student_conflicts p.travel spots s.lists) (conflicts_in p.travel h (list_in s student)) (conflicts_in p.travel h new) all)
 
     free_same : (v : Value) → is_free p after c v ≡ is_free p s c v
-    unfolding conflicts_of
+    unfolding conflict_set_of
     free_same v = refl
 
     no_lower : (v : Value) → IsNoLower p s c v → IsNoLower p after c v

@@ -9,11 +9,11 @@ use Rattle.tt_plan.specs.Domain.{domain_of}
 use Rattle.tt_score.specs.declared.totals.Totals.{Totals}
 use Rattle.tt_score.specs.Totals.{totals_of}
 use Rattle.tt_state.specs.Snapshots.{Snapshot, with_value}
-use Rattle.tt_state.specs.Values.{blocked_of, conflicts_of, total_with}
+use Rattle.tt_state.specs.Values.{blocked_of, conflict_set_of, total_with}
 
 -- the value of a class isn't blocked, and its conflict set is empty
 abbrev pub is_free : Parts → Snapshot → (class : ℕ) → Value → Bool
-is_free p s class v = is_none (blocked_of p s.closures class v) && (length (conflicts_of p s class v) == 0)
+is_free p s class v = is_none (blocked_of p s.closures class v) && (length (conflict_set_of p s class v) == 0)
 
 -- the free values of a class, in the order of its domain
 abbrev pub free_values : Parts → Snapshot → (class : ℕ) → List Value

@@ -54,7 +54,7 @@ fn look_at(state: &mut State, class: u32, value: Value, without: Without, best: 
     if state.blocked(class, value).is_some() {
         return best;
     }
-    if state.find_conflicts_within(class, value, 0) {
+    if state.find_conflict_set_within(class, value, 0) {
         Best {
             total,
             value: Some(value),

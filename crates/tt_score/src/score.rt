@@ -8,12 +8,14 @@ use crate::group::Group;
 use crate::joint::JointRoster;
 use crate::making::new_groups;
 use crate::rules::{RuleSums, cost_of, set_in_rules};
-use crate::students::{conflicts_with, conflicts_without, students_with_courses, unsectioned_at};
+use crate::students::{
+    student_conflicts_with, student_conflicts_without, students_with_courses, unsectioned_at,
+};
 use crate::totals::{Penalties, Totals, Without};
 use crate::trial::{costs_with, costs_without};
 use std::alloc::{AllocError, Global};
 use tt_bits::{Spot, Time, Value};
-use tt_clash::{Closures, Listing, Placing, conflicts, conflicts_within};
+use tt_clash::{Closures, Listing, Placing, conflict_set_within, conflicts};
 use tt_measure::Measure;
 use tt_occupancy::Occupancy;
 use tt_problem::{Problem, Weights};
@@ -363,7 +365,7 @@ impl Score {
         let spot = tt_plan::spot(problem, class, value);
         let distribution = self.costs_at(problem, class, spot);
         let has = self.spot(class);
-        let student = conflicts_with(problem, &mut self.roster, class, has, spot);
+        let student = student_conflicts_with(problem, &mut self.roster, class, has, spot);
         paid.total(self.weights, distribution, student)
     }
 
@@ -376,7 +378,7 @@ impl Score {
         ensures same { self.new ≡ self.old }
     {
         let has = self.spot(class);
-        let student = conflicts_without(problem, &mut self.roster, class, has);
+        let student = student_conflicts_without(problem, &mut self.roster, class, has);
         let distribution = self.costs_without(problem, class);
         Without {
             student,
@@ -492,7 +494,7 @@ impl Score {
 
     /// The same as `conflicts`, where no more than `most` classes have to go; else nothing is listed.
     /// It gives up as soon as it knows.
-    pub fn conflicts_within(
+    pub fn conflict_set_within(
         &mut self,
         problem: &Problem,
         class: u32,
@@ -523,7 +525,7 @@ impl Score {
             class,
             spot: tt_plan::spot(problem, class, value),
         };
-        conflicts_within(&placing, self.groups.as_mut_slice(), most, listing)
+        conflict_set_within(&placing, self.groups.as_mut_slice(), most, listing)
     }
 
     /// The value of a class, if it has one.

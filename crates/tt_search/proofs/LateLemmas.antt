@@ -8,7 +8,7 @@ use Rattle.std.proofs.lemmas.List.{get_or-set_same, get_or-set_other}
 use Rattle.tt_bits.specs.declared.times.Value.{Value}
 use Rattle.tt_problem.specs.declared.parts.Parts.{Parts}
 use Rattle.tt_state.specs.Snapshots.{Snapshot, value_in}
-use Rattle.tt_state.specs.Values.{conflicts_of}
+use Rattle.tt_state.specs.Values.{conflict_set_of}
 use Rattle.tt_state.specs.Forced.{all_out, forced, out_of, taken_out}
 use Rattle.tt_state.proofs.FitsLemmas.{forced_closures}
 use Rattle.tt_search.specs.Late.{AreRightBut, KeepsOthers}
@@ -32,14 +32,14 @@ all_out_keeps class v s (other ∷ others) c none =
     ∙ out_keeps class v s other (value_in s other) c (other_than c other both.0)
 
 -- a class that isn't forced or taken out keeps its value
-forced_keeps : (p : Parts) (s : Snapshot) (class : ℕ) (v : Value) (c : ℕ) → list_any (nat_eq c) (class ∷ conflicts_of p s class v) ≡ false → value_in (forced p s class v) c ≡ value_in s c
+forced_keeps : (p : Parts) (s : Snapshot) (class : ℕ) (v : Value) (c : ℕ) → list_any (nat_eq c) (class ∷ conflict_set_of p s class v) ≡ false → value_in (forced p s class v) c ≡ value_in s c
 unfolding forced
 forced_keeps p s class v c none =
-    let both = not_either (nat_eq c class) (list_any (nat_eq c) (conflicts_of p s class v)) none in
-    get_or-set_other (all_out class v s (conflicts_of p s class v)).plan class c (Some v) None (other_than c class both.0)
-    ∙ all_out_keeps class v s (conflicts_of p s class v) c both.1
+    let both = not_either (nat_eq c class) (list_any (nat_eq c) (conflict_set_of p s class v)) none in
+    get_or-set_other (all_out class v s (conflict_set_of p s class v)).plan class c (Some v) None (other_than c class both.0)
+    ∙ all_out_keeps class v s (conflict_set_of p s class v) c both.1
 
-pub forced_others : (p : Parts) (s : Snapshot) (class : ℕ) (v : Value) → KeepsOthers s (forced p s class v) (class ∷ conflicts_of p s class v)
+pub forced_others : (p : Parts) (s : Snapshot) (class : ℕ) (v : Value) → KeepsOthers s (forced p s class v) (class ∷ conflict_set_of p s class v)
 forced_others p s class v = record { closures = forced_closures p s class v; values = forced_keeps p s class v }
 
 -- where nothing changes, all keep theirs

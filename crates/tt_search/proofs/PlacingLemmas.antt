@@ -16,7 +16,7 @@ use Rattle.tt_draw.specs.Words.{drawn, random_words}
 use Rattle.tt_bits.specs.declared.times.Value.{Value}
 use Rattle.tt_problem.specs.declared.parts.Parts.{Parts}
 use Rattle.tt_state.specs.Snapshots.{Snapshot}
-use Rattle.tt_state.specs.Values.{conflicts_of, total_with}
+use Rattle.tt_state.specs.Values.{conflict_set_of, total_with}
 use Rattle.tt_search.specs.declared.turn.Turn.{Turn}
 use Rattle.tt_search.specs.declared.way.Best.{Best}
 use Rattle.tt_search.specs.declared.weights.ClassWeights.{ClassWeights}
@@ -62,7 +62,7 @@ same_burden : (p : Parts) (s : Snapshot) (outs : List ℕ) (w : ClassWeights) (c
 unfolding burden_of
 same_burden p s outs w class x y counts =
     let weights : weight_by w.outs.items ≡ class_weight outs = λ j other. ap (λ k. 1 + k) (counts.counts other) j in
-    let burden : (ℕ → ℕ) → Value → List ℕ = λ weight v. sum_by weight (conflicts_of p s class v) ∷ 0 ∷ total_with p s class v ∷ [] in
+    let burden : (ℕ → ℕ) → Value → List ℕ = λ weight v. sum_by weight (conflict_set_of p s class v) ∷ 0 ∷ total_with p s class v ∷ [] in
     ap (λ (weight : ℕ → ℕ). is_less (burden weight) x y) weights ∙ by (nat_cmp (set_weight p m class x) (set_weight p m class y))
   where
     m : PlaceMoment
@@ -103,10 +103,10 @@ unfolding place_turn
 one_class p words m class value is chosen = rw is (rw chosen refl)
 
 -- what a turn leaves behind
-pub after_same : (p : Parts) (s t : Snapshot) (outs taken : List ℕ) (m : Turn) → t ≡ after_making p s m → IfSome m.value (λ v. taken ≡ conflicts_of p s m.class v) → moment_after p s outs m ≡ record { snapshot = t; outs = taken_by m taken ++ outs }
+pub after_same : (p : Parts) (s t : Snapshot) (outs taken : List ℕ) (m : Turn) → t ≡ after_making p s m → IfSome m.value (λ v. taken ≡ conflict_set_of p s m.class v) → moment_after p s outs m ≡ record { snapshot = t; outs = taken_by m taken ++ outs }
 after_same p s t outs taken m is found = by m.value is found
   where
-    by : (o : Option Value) → t ≡ forced_if p s m.class o → IfSome o (λ v. taken ≡ conflicts_of p s m.class v)
+    by : (o : Option Value) → t ≡ forced_if p s m.class o → IfSome o (λ v. taken ≡ conflict_set_of p s m.class v)
         → after_forcing p (record { snapshot = s; outs = outs }) m.class o ≡ record { snapshot = t; outs = option_map_or (λ v. taken) o [] ++ outs }
     by None is found = rw is refl
     by (Some v) is found = rw (is, found) refl
@@ -140,7 +140,7 @@ starts_placing p turns seed s words trail w best counts seeded is ranked first =
 pub next_placing : (p : Parts) (turns seed : ℕ) (start : Snapshot) (made : ℕ) (words left : Stream) (pair : TurnWords) (now next : Snapshot) (before after : List Snapshot) (w v : ClassWeights) (old new : Best) (m : Turn) (taken : List ℕ)
     → IsPlacing p turns seed start made words now before w old → made < turns → (pair, left) ≡ two_words words
     → ((outs : List ℕ) → CountsOuts p outs w → place_turn p pair (record { snapshot = now; outs = outs }) ≡ Some (moment_after p now outs m))
-    → next ≡ after_making p now m → IfSome m.value (λ v. taken ≡ conflicts_of p now m.class v) → LeadsOn (rank_of p None) before after next old new
+    → next ≡ after_making p now m → IfSome m.value (λ v. taken ≡ conflict_set_of p now m.class v) → LeadsOn (rank_of p None) before after next old new
     → length v.outs.items ≡ length w.outs.items → ((class : ℕ) → slice_index_or v.outs.items class 0 ≡ slice_index_or w.outs.items class 0 + count_by (nat_eq class) (taken_by m taken)) → length (taken_by m taken) ≤ 20000
     → IsPlacing p turns seed start (made + 1) left next after v new
 next_placing p turns seed start made words left pair now next before after w v old new m taken on below is turn moved found leads whole more few =

@@ -6,7 +6,7 @@ use Rattle.rand_core.specs.Stream.{Stream, next_u32}
 use Rattle.tt_bits.specs.declared.times.Value.{Value}
 use Rattle.tt_problem.specs.declared.parts.Parts.{Parts}
 use Rattle.tt_state.specs.Snapshots.{Snapshot}
-use Rattle.tt_state.specs.Values.{conflicts_of, total_with}
+use Rattle.tt_state.specs.Values.{conflict_set_of, total_with}
 use Rattle.tt_state.specs.Forced.{forced}
 use Rattle.tt_base.specs.Lists.{is_less}
 use Rattle.tt_draw.specs.Words.{drawn, random_words}
@@ -24,7 +24,7 @@ class_weight outs class = 1 + count_by (nat_eq class) outs
 
 -- what the conflict set of a value weighs
 abbrev pub set_weight : Parts → PlaceMoment → (class : ℕ) → Value → ℕ
-set_weight p m class v = sum_by (class_weight m.outs) (conflicts_of p m.snapshot class v)
+set_weight p m class v = sum_by (class_weight m.outs) (conflict_set_of p m.snapshot class v)
 
 -- the numbers by which a value is chosen: what its conflict set weighs, and the total with the class there
 unfoldable pub burden_of : Parts → PlaceMoment → (class : ℕ) → Value → List ℕ
@@ -41,7 +41,7 @@ least_values p m class = all_least (burden_of p m class) (available_values p m.s
 -- the moment after a class is forced to a value, if there is one: its conflict set is taken out
 abbrev pub after_forcing : Parts → PlaceMoment → (class : ℕ) → Option Value → PlaceMoment
 after_forcing p m class None = m
-after_forcing p m class (Some v) = record { snapshot = forced p m.snapshot class v; outs = conflicts_of p m.snapshot class v ++ m.outs }
+after_forcing p m class (Some v) = record { snapshot = forced p m.snapshot class v; outs = conflict_set_of p m.snapshot class v ++ m.outs }
 
 -- the two random words of a turn: one for the class, one for the value
 pub record TurnWords : Type 0 where

@@ -5,7 +5,7 @@ use Rattle.std.specs.Option.{option_map_or}
 use Rattle.tt_bits.specs.declared.times.Value.{Value}
 use Rattle.tt_problem.specs.declared.parts.Parts.{Parts}
 use Rattle.tt_state.specs.Snapshots.{Snapshot}
-use Rattle.tt_state.specs.Values.{conflicts_of}
+use Rattle.tt_state.specs.Values.{conflict_set_of}
 use Rattle.tt_search.specs.declared.turn.Turn.{Turn}
 use Rattle.tt_search.specs.declared.weights.ClassWeights.{ClassWeights}
 use Rattle.tt_search.specs.LeastNow.{then_by, total_numbers}
@@ -17,7 +17,7 @@ weight_by outs class = 1 + slice_index_or outs class 0
 
 -- the numbers of the price of a value, by how often each class was taken out; as in a search none strays
 abbrev pub prices_by : Parts → Snapshot → (outs : List ℕ) → (class : ℕ) → Value → List ℕ
-prices_by p s outs class v = sum_by (weight_by outs) (conflicts_of p s class v) ∷ 0 ∷ []
+prices_by p s outs class v = sum_by (weight_by outs) (conflict_set_of p s class v) ∷ 0 ∷ []
 
 -- the same, and behind them the total
 abbrev pub burden_by : Parts → Snapshot → (outs : List ℕ) → (class : ℕ) → Value → List ℕ

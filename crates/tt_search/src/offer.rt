@@ -3,7 +3,7 @@
 ghost use Rattle.std.specs.Prelude.{◌≡◌, ◌⊎◌, None, IsTrue, true, false, length};
 ghost use Rattle.tt_plan.specs.Domain.{IsOfDomain};
 ghost use Rattle.tt_state.specs.History.{with_taken};
-ghost use Rattle.tt_state.specs.Values.{blocked_of, conflicts_of};
+ghost use Rattle.tt_state.specs.Values.{blocked_of, conflict_set_of};
 ghost use Rattle.tt_search.specs.Turns.{is_available};
 ghost use Rattle.tt_search.specs.Numbers.{WeighsLess};
 
@@ -19,9 +19,10 @@ fn find_lighter(state: &mut State, class: u32, value: Value, least: Option<Price
     requires open { blocked_of state.old.problem state.old.present.closures class value ≡ None }
     ensures found { IsTrue result
         → state.new
-        ≡ with_taken state.old (conflicts_of state.old.problem state.old.present class value) }
+        ≡ with_taken state.old (conflict_set_of state.old.problem state.old.present class value) }
     ensures heavier { result ≡ false
-        → WeighsLess least (length (conflicts_of state.old.problem state.old.present class value)) }
+        → WeighsLess least
+            (length (conflict_set_of state.old.problem state.old.present class value)) }
     ensures problem { state.new.problem ≡ state.old.problem }
     ensures present { state.new.present ≡ state.old.present }
     ensures entries { state.new.entries ≡ state.old.entries }
@@ -31,7 +32,7 @@ fn find_lighter(state: &mut State, class: u32, value: Value, least: Option<Price
         return true;
     };
     match u32::try_from(price.weight) {
-        Ok(most) => state.find_conflicts_within(class, value, most),
+        Ok(most) => state.find_conflict_set_within(class, value, most),
         Err(_) => {
             state.find_conflicts(class, value);
             true
@@ -50,13 +51,13 @@ pub(crate) fn may_be_offered(
     requires { IsOfDomain state.old.problem class value }
     ensures found { IsTrue result
         → state.new
-        ≡ with_taken state.old (conflicts_of state.old.problem state.old.present class value) }
+        ≡ with_taken state.old (conflict_set_of state.old.problem state.old.present class value) }
     ensures available { IsTrue result
         → is_available state.old.problem state.old.present class value ≡ true }
     ensures passed { result ≡ false
         → (is_available state.old.problem state.old.present class value ≡ false)
         ⊎ WeighsLess least
-        (length (conflicts_of state.old.problem state.old.present class value)) }
+        (length (conflict_set_of state.old.problem state.old.present class value)) }
     ensures problem { state.new.problem ≡ state.old.problem }
     ensures present { state.new.present ≡ state.old.present }
     ensures entries { state.new.entries ≡ state.old.entries }

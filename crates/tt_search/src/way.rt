@@ -5,7 +5,7 @@ ghost use Rattle.tt_published.specs.Published.{moved_in};
 ghost use Rattle.tt_published.specs.Aim.{IsAimOf};
 ghost use Rattle.tt_published.specs.Timetable.{Timetable};
 ghost use Rattle.tt_state.specs.History.{IsWithinStep, before_step, desk_of, earlier, moved_to, trail, with_taken};
-ghost use Rattle.tt_state.specs.Values.{conflicts_of};
+ghost use Rattle.tt_state.specs.Values.{conflict_set_of};
 ghost use Rattle.tt_base.specs.Lists.{comes_before};
 ghost use Rattle.tt_search.specs.Searched.{rank_of};
 ghost use Rattle.tt_search.specs.Late.{KeepsOthers};
@@ -74,7 +74,7 @@ fn make(state: &mut State, next: Turn) -> Result<(), AllocError>
         ≡ moved_to (desk_of state.old) (after_making state.old.problem state.old.present next)) }
     ensures trail { OnOk result (trail state.new ≡ trail state.old ++ state.new.present ∷ []) }
     ensures taken { OnOk result (IfSome next.value
-        (λ v. state.new.taken ≡ conflicts_of state.old.problem state.old.present next.class v)) }
+        (λ v. state.new.taken ≡ conflict_set_of state.old.problem state.old.present next.class v)) }
     ensures others { OnOk result
         (KeepsOthers state.old.present state.new.present (next.class ∷ state.new.taken)) }
     ensures step { IsWithinStep (with_taken state.old []) (with_taken state.new []) }
@@ -114,7 +114,7 @@ impl Way {
         ensures present { OnOk result
             (state.new.present ≡ after_making state.old.problem state.old.present next) }
         ensures taken { OnOk result (IfSome next.value (λ v.
-            state.new.taken ≡ conflicts_of state.old.problem state.old.present next.class v)) }
+            state.new.taken ≡ conflict_set_of state.old.problem state.old.present next.class v)) }
         ensures best { OnOk result (LeadsOn (rank_of state.old.problem aim.now) (trail state.old)
             (trail state.new) state.new.present self.old.best self.new.best) }
         ensures step { IsWithinStep (with_taken state.old []) (with_taken state.new []) }

@@ -10,7 +10,7 @@ use Rattle.tt_problem.specs.declared.parts.Parts.{Parts}
 use Rattle.tt_clash.specs.declared.Block.{Block}
 use Rattle.tt_state.specs.declared.obstacle.Obstacle.TheVariants.{Blocked, Held}
 use Rattle.tt_state.specs.Snapshots.{Snapshot, is_locked_in}
-use Rattle.tt_state.specs.Values.{blocked_of, conflicts_of, holder_of, obstacle_by, obstacle_of}
+use Rattle.tt_state.specs.Values.{blocked_of, conflict_set_of, holder_of, obstacle_by, obstacle_of}
 
 -- none of the list passes where none is found
 pub none_passes : (test : ℕ → Bool) (xs : List ℕ) → find test xs ≡ None → All (λ x. test x ≡ false) xs
@@ -55,14 +55,14 @@ clear_by p s class v none = by_block (blocked_of p s.closures class v) none refl
 pub not_blocked : (p : Parts) (s : Snapshot) (class : ℕ) (v : Value) → obstacle_of p s class v ≡ None → blocked_of p s.closures class v ≡ None
 not_blocked p s class v none = (clear_by p s class v none).open_one
 
-pub none_held : (p : Parts) (s : Snapshot) (class : ℕ) (v : Value) → obstacle_of p s class v ≡ None → All (λ other. is_locked_in s other ≡ false) (conflicts_of p s class v)
+pub none_held : (p : Parts) (s : Snapshot) (class : ℕ) (v : Value) → obstacle_of p s class v ≡ None → All (λ other. is_locked_in s other ≡ false) (conflict_set_of p s class v)
 unfolding holder_of
-none_held p s class v none = none_passes (is_locked_in s) (conflicts_of p s class v) (clear_by p s class v none).free
+none_held p s class v none = none_passes (is_locked_in s) (conflict_set_of p s class v) (clear_by p s class v none).free
 
 -- a class that is locked is none of the conflict set then
-pub locked_not_listed : (p : Parts) (s : Snapshot) (class d : ℕ) (v : Value) → obstacle_of p s class v ≡ None → is_locked_in s d ≡ true → is_listed d (conflicts_of p s class v) ≡ false
+pub locked_not_listed : (p : Parts) (s : Snapshot) (class d : ℕ) (v : Value) → obstacle_of p s class v ≡ None → is_locked_in s d ≡ true → is_listed d (conflict_set_of p s class v) ≡ false
 unfolding holder_of
-locked_not_listed p s class d v none locked = not_listed (is_locked_in s) (conflicts_of p s class v) d (clear_by p s class v none).free locked
+locked_not_listed p s class d v none locked = not_listed (is_locked_in s) (conflict_set_of p s class v) d (clear_by p s class v none).free locked
 
 -- a block stands in the way of a value that is blocked
 pub obstacle_blocked : (p : Parts) (s : Snapshot) (class : ℕ) (v : Value) (block : Block) → blocked_of p s.closures class v ≡ Some block → obstacle_of p s class v ≡ Some (Blocked block)
@@ -70,15 +70,15 @@ unfolding obstacle_of
 obstacle_blocked p s class v block is = ap (obstacle_by p s class v) is
 
 -- what stands in the way of a value that isn't blocked is the class that holds it
-pub obstacle_open : (p : Parts) (s : Snapshot) (class : ℕ) (v : Value) → blocked_of p s.closures class v ≡ None → obstacle_of p s class v ≡ option_map (λ other. Held other) (find (is_locked_in s) (conflicts_of p s class v))
+pub obstacle_open : (p : Parts) (s : Snapshot) (class : ℕ) (v : Value) → blocked_of p s.closures class v ≡ None → obstacle_of p s class v ≡ option_map (λ other. Held other) (find (is_locked_in s) (conflict_set_of p s class v))
 unfolding obstacle_of holder_of
 obstacle_open p s class v is = ap (obstacle_by p s class v) is
 
 -- so nothing stands in its way exactly where no class of the conflict set is locked
-pub clear_exactly : (p : Parts) (s : Snapshot) (class : ℕ) (v : Value) (taken : List ℕ) (locked : Option ℕ) → blocked_of p s.closures class v ≡ None → taken ≡ conflicts_of p s class v → locked ≡ find (is_locked_in s) taken
+pub clear_exactly : (p : Parts) (s : Snapshot) (class : ℕ) (v : Value) (taken : List ℕ) (locked : Option ℕ) → blocked_of p s.closures class v ≡ None → taken ≡ conflict_set_of p s class v → locked ≡ find (is_locked_in s) taken
     → is_none (obstacle_of p s class v) ≡ is_none locked
 clear_exactly p s class v taken locked open_one found is =
-    ap is_none (obstacle_open p s class v open_one) ∙ none_of (find (is_locked_in s) (conflicts_of p s class v)) ∙ ap is_none (sym (is ∙ ap (find (is_locked_in s)) found))
+    ap is_none (obstacle_open p s class v open_one) ∙ none_of (find (is_locked_in s) (conflict_set_of p s class v)) ∙ ap is_none (sym (is ∙ ap (find (is_locked_in s)) found))
   where
     none_of : (o : Option ℕ) → is_none (option_map (λ other. Held other) o) ≡ is_none o
     none_of None = refl

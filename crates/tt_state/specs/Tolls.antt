@@ -4,7 +4,7 @@ use Rattle.std.specs.List.{sum_by}
 use Rattle.tt_bits.specs.declared.times.Value.{Value}
 use Rattle.tt_problem.specs.declared.parts.Parts.{Parts}
 use Rattle.tt_state.specs.Snapshots.{Snapshot, counter_of, value_in}
-use Rattle.tt_state.specs.Values.{conflicts_of}
+use Rattle.tt_state.specs.Values.{conflict_set_of}
 use Rattle.tt_state.specs.Forced.{key_of}
 
 -- 1, and how often the class at v has pushed out the other from the value that it has
@@ -18,4 +18,4 @@ toll_of s class v other = toll_by s class v other (value_in s other)
 
 -- the tolls of the whole conflict set
 unfoldable pub tolls_of : Parts → Snapshot → (class : ℕ) → Value → ℕ
-tolls_of p s class v = sum_by (toll_of s class v) (conflicts_of p s class v)
+tolls_of p s class v = sum_by (toll_of s class v) (conflict_set_of p s class v)

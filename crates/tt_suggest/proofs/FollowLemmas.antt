@@ -9,7 +9,7 @@ use Rattle.tt_bits.specs.declared.times.Value.{Value}
 use Rattle.tt_problem.specs.declared.parts.Parts.{Parts}
 use Rattle.tt_clash.specs.declared.Block.{Block}
 use Rattle.tt_state.specs.Snapshots.{is_locked_in}
-use Rattle.tt_state.specs.Values.{blocked_of, conflicts_of, obstacle_of}
+use Rattle.tt_state.specs.Values.{blocked_of, conflict_set_of, obstacle_of}
 use Rattle.tt_state.proofs.ObstacleLemmas.{clear_exactly}
 use Rattle.tt_suggest.specs.declared.suggestion.Move.{Move}
 use Rattle.tt_suggest.specs.Tree.{Node, gives_child, is_on, may_follow, stays_at_root}
@@ -39,16 +39,16 @@ last_fails true false c fails = refl
 last_fails false b c fails = refl
 
 -- where no placement may follow there is no child
-pub barren : (p : Parts) (spare : ℕ) (node : Node) (class : ℕ) (others : List ℕ) (v : Value) → may_follow spare node.path others (conflicts_of p node.snapshot class v) ≡ false
+pub barren : (p : Parts) (spare : ℕ) (node : Node) (class : ℕ) (others : List ℕ) (v : Value) → may_follow spare node.path others (conflict_set_of p node.snapshot class v) ≡ false
     → false ≡ gives_child p spare node class others v
 unfolding gives_child
 barren p spare node class others v none =
-    sym (last_fails (is_none (obstacle_of p node.snapshot class v)) (not (stays_at_root node.snapshot node.path class v)) (may_follow spare node.path others (conflicts_of p node.snapshot class v)) none)
+    sym (last_fails (is_none (obstacle_of p node.snapshot class v)) (not (stays_at_root node.snapshot node.path class v)) (may_follow spare node.path others (conflict_set_of p node.snapshot class v)) none)
 
 -- and else there is one unless a class that would be pushed out is locked
 pub gives_unless_held : (p : Parts) (spare : ℕ) (node : Node) (class : ℕ) (others : List ℕ) (v : Value) (taken : List ℕ) (locked : Option ℕ) → blocked_of p node.snapshot.closures class v ≡ None
-    → stays_at_root node.snapshot node.path class v ≡ false → may_follow spare node.path others (conflicts_of p node.snapshot class v) ≡ true
-    → taken ≡ conflicts_of p node.snapshot class v → locked ≡ find (is_locked_in node.snapshot) taken → is_none locked ≡ gives_child p spare node class others v
+    → stays_at_root node.snapshot node.path class v ≡ false → may_follow spare node.path others (conflict_set_of p node.snapshot class v) ≡ true
+    → taken ≡ conflict_set_of p node.snapshot class v → locked ≡ find (is_locked_in node.snapshot) taken → is_none locked ≡ gives_child p spare node class others v
 unfolding gives_child
 gives_unless_held p spare node class others v taken locked open_one moves follows found is =
     rw (moves, follows) (by (is_none locked) ∙ ap (λ (b : Bool). b && true && true) (sym (clear_exactly p node.snapshot class v taken locked open_one found is)))
@@ -67,7 +67,7 @@ none_by (Some other) false is = refl
 -- the same, by what was asked
 pub gives_asked : (p : Parts) (spare : ℕ) (node : Node) (class : ℕ) (others : List ℕ) (v : Value) (reason : Option Block) (taken : List ℕ) (locked : Option ℕ) (answer : Bool)
     → reason ≡ blocked_of p node.snapshot.closures class v → is_some reason ≡ false → stays_at_root node.snapshot node.path class v ≡ false
-    → may_follow spare node.path others (conflicts_of p node.snapshot class v) ≡ true → taken ≡ conflicts_of p node.snapshot class v → locked ≡ find (is_locked_in node.snapshot) taken
+    → may_follow spare node.path others (conflict_set_of p node.snapshot class v) ≡ true → taken ≡ conflict_set_of p node.snapshot class v → locked ≡ find (is_locked_in node.snapshot) taken
     → is_some locked ≡ not answer → answer ≡ gives_child p spare node class others v
 gives_asked p spare node class others v None taken locked answer is open_one moves follows found first told =
     none_by locked answer told ∙ gives_unless_held p spare node class others v taken locked (sym is) moves follows found first

@@ -13,7 +13,7 @@ use Rattle.tt_published.specs.Published.{moved_in}
 use Rattle.tt_published.specs.Timetable.{Timetable}
 use Rattle.tt_state.specs.declared.obstacle.Obstacle.{Obstacle}
 use Rattle.tt_state.specs.Snapshots.{Snapshot, is_locked_in, with_value}
-use Rattle.tt_state.specs.Values.{conflicts_of, obstacle_of, total_with}
+use Rattle.tt_state.specs.Values.{conflict_set_of, obstacle_of, total_with}
 use Rattle.tt_state.proofs.ObstacleLemmas.{none_held}
 use Rattle.tt_suggest.specs.declared.branch.Branch.{Branch}
 use Rattle.tt_suggest.specs.declared.suggestion.Rank.{Rank}
@@ -53,7 +53,7 @@ pub child_too_many : (p : Parts) (s : Snapshot) (b : Branch) (v : Value) (n : �
 child_too_many p s b v n some above = omega (arith, above, child_tries p s b v some)
 
 -- the suggestion of a child where no class waits
-leaf_is : (p : Parts) (published : Option Timetable) (s : Snapshot) (b : Branch) (v : Value) (rank : Rank) → conflicts_of p s b.class v ≡ []
+leaf_is : (p : Parts) (published : Option Timetable) (s : Snapshot) (b : Branch) (v : Value) (rank : Rank) → conflict_set_of p s b.class v ≡ []
     → rank_numbers rank ≡ total_with p s b.class v ∷ moved_in p published (with_value s b.class (Some v)).plan ∷ []
     → leaf_of b v rank ≡ suggestion_of p published (child_of p s b v)
 unfolding total_with
@@ -67,16 +67,16 @@ leaf_is p published s b v rank none ranked =
     alone_at p s b v others = record {
       snapshot = with_value (emptied s others) b.class (Some v);
       path = b.path.items ++ record { class = b.class; value = v } ∷ [];
-      waiting = b.others.items ++ conflicts_of p s b.class v;
+      waiting = b.others.items ++ conflict_set_of p s b.class v;
     }
 
 -- what is found where the child is a suggestion
-pub leaf_found : (p : Parts) (published : Option Timetable) (s : Snapshot) (b : Branch) (v : Value) (rank : Rank) (old new : Suggested) → gives p s b v ≡ true → b.others.items ≡ [] → conflicts_of p s b.class v ≡ []
+pub leaf_found : (p : Parts) (published : Option Timetable) (s : Snapshot) (b : Branch) (v : Value) (rank : Rank) (old new : Suggested) → gives p s b v ≡ true → b.others.items ≡ [] → conflict_set_of p s b.class v ≡ []
     → rank_numbers rank ≡ total_with p s b.class v ∷ moved_in p published (with_value s b.class (Some v)).plan ∷ []
     → new.tried ≡ old.tried → old.tried ≤ 1000000 → new.best ≡ least_after suggestion_rank old.best (leaf_of b v rank ∷ [])
     → AreFoundIn (tries_by p s b (v ∷ [])) (suggestions_by p published s b (v ∷ [])) old new
 leaf_found p published s b v rank old new some alone none ranked tried few best =
-    let waiting : (child_of p s b v).waiting ≡ [] = ap (λ xs. xs ++ conflicts_of p s b.class v) alone ∙ none in
+    let waiting : (child_of p s b v).waiting ≡ [] = ap (λ xs. xs ++ conflict_set_of p s b.class v) alone ∙ none in
     let leaves : suggestions_by p published s b (v ∷ []) ≡ leaf_of b v rank ∷ [] =
     child_suggestions p published s b v some
     ∙ ap (map (suggestion_of p published)) (leaf_leaves p b.spare (child_of p s b v) waiting)
@@ -95,7 +95,7 @@ found_stays (Some best) later above =
     rw behind refl
 
 -- the same where the child is a suggestion that has a higher total than what was found
-pub leaf_above : (p : Parts) (published : Option Timetable) (s : Snapshot) (b : Branch) (v : Value) (now : Suggested) → gives p s b v ≡ true → b.others.items ≡ [] → conflicts_of p s b.class v ≡ [] → now.tried ≤ 1000000
+pub leaf_above : (p : Parts) (published : Option Timetable) (s : Snapshot) (b : Branch) (v : Value) (now : Suggested) → gives p s b v ≡ true → b.others.items ≡ [] → conflict_set_of p s b.class v ≡ [] → now.tried ≤ 1000000
     → IsSomeAnd now.best (λ best. best.total < total_with p s b.class v)
     → AreFoundIn (tries_by p s b (v ∷ [])) (suggestions_by p published s b (v ∷ [])) now now
 leaf_above p published s b v now some alone none few above =
@@ -110,22 +110,22 @@ first_and_third false b c d is = absurd (cc)
 
 -- what is known of a value that gives a child
 gives_both : (p : Parts) (s : Snapshot) (b : Branch) (v : Value) → gives p s b v ≡ true
-    → (is_none (obstacle_of p s b.class v) ≡ true) × (nat_le (length b.others.items + length (conflicts_of p s b.class v)) b.spare ≡ true)
+    → (is_none (obstacle_of p s b.class v) ≡ true) × (nat_le (length b.others.items + length (conflict_set_of p s b.class v)) b.spare ≡ true)
 unfolding gives_child
 gives_both p s b v some =
     first_and_third
     (is_none (obstacle_of p s b.class v))
     (not (stays_at_root s b.path.items b.class v))
-    (nat_le (length b.others.items + length (conflicts_of p s b.class v)) b.spare)
-    (not (list_any (is_on b.path.items) (conflicts_of p s b.class v)))
+    (nat_le (length b.others.items + length (conflict_set_of p s b.class v)) b.spare)
+    (not (list_any (is_on b.path.items) (conflict_set_of p s b.class v)))
     some
 
 -- no more classes wait at a child than may be placed
-pub child_spare : (p : Parts) (s : Snapshot) (b : Branch) (v : Value) → gives p s b v ≡ true → length b.others.items + length (conflicts_of p s b.class v) ≤ b.spare
+pub child_spare : (p : Parts) (s : Snapshot) (b : Branch) (v : Value) → gives p s b v ≡ true → length b.others.items + length (conflict_set_of p s b.class v) ≤ b.spare
 child_spare p s b v some = leb-true _ _ (gives_both p s b v some).1
 
 -- and none of the classes that are pushed out is locked
-pub child_free : (p : Parts) (s : Snapshot) (b : Branch) (v : Value) → gives p s b v ≡ true → All (λ other. is_locked_in s other ≡ false) (conflicts_of p s b.class v)
+pub child_free : (p : Parts) (s : Snapshot) (b : Branch) (v : Value) → gives p s b v ≡ true → All (λ other. is_locked_in s other ≡ false) (conflict_set_of p s b.class v)
 child_free p s b v some = none_held p s b.class v (none_is (obstacle_of p s b.class v) (gives_both p s b v some).0)
   where
     none_is : (o : Option Obstacle) → is_none o ≡ true → o ≡ None

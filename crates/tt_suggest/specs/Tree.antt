@@ -5,7 +5,7 @@ use Rattle.tt_bits.specs.declared.times.Value.{Value}
 use Rattle.tt_problem.specs.declared.parts.Parts.{Parts}
 use Rattle.tt_plan.specs.Domain.{domain_of}
 use Rattle.tt_state.specs.Snapshots.{Snapshot, value_in, with_value}
-use Rattle.tt_state.specs.Values.{conflicts_of, is_value, obstacle_of}
+use Rattle.tt_state.specs.Values.{conflict_set_of, is_value, obstacle_of}
 use Rattle.tt_suggest.specs.declared.suggestion.Move.{Move}
 
 -- the most values that are tried
@@ -28,7 +28,7 @@ emptied s classes = fold (λ now class. with_value now class None) s classes
 
 -- a snapshot with a class at a value, without the classes that it pushes out
 abbrev pub placed_without : Parts → Snapshot → (class : ℕ) → Value → Snapshot
-placed_without p s class v = with_value (emptied s (conflicts_of p s class v)) class (Some v)
+placed_without p s class v = with_value (emptied s (conflict_set_of p s class v)) class (Some v)
 
 -- the class was placed on the way
 abbrev pub is_on : List Move → (class : ℕ) → Bool
@@ -48,14 +48,14 @@ unfoldable pub gives_child : Parts → (spare : ℕ) → Node → (class : ℕ) 
 gives_child p spare node class others v =
     is_none (obstacle_of p node.snapshot class v)
     && not (stays_at_root node.snapshot node.path class v)
-    && may_follow spare node.path others (conflicts_of p node.snapshot class v)
+    && may_follow spare node.path others (conflict_set_of p node.snapshot class v)
 
 -- the child of a node by a class at a value
 abbrev pub child_by : Parts → Node → (class : ℕ) → (others : List ℕ) → Value → Node
 child_by p node class others v = record {
   snapshot = placed_without p node.snapshot class v;
   path = node.path ++ record { class = class; value = v } ∷ [];
-  waiting = others ++ conflicts_of p node.snapshot class v;
+  waiting = others ++ conflict_set_of p node.snapshot class v;
 }
 
 -- the children of a node by a class at some values

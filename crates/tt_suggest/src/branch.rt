@@ -4,7 +4,7 @@ ghost use Rattle.std.specs.Prelude.{◌≡◌, ◌+◌, ◌==◌, ◌∷◌, ◌
 ghost use Rattle.std.specs.List.{list_any};
 ghost use Rattle.tt_plan.specs.Domain.{IsOfDomain};
 ghost use Rattle.tt_state.specs.History.{with_taken};
-ghost use Rattle.tt_state.specs.Values.{blocked_of, conflicts_of, is_value};
+ghost use Rattle.tt_state.specs.Values.{blocked_of, conflict_set_of, is_value};
 ghost use Rattle.tt_suggest.specs.Tree.{gives_child, is_on, may_follow, stays_at_root};
 ghost use Rattle.tt_suggest.specs.Walks.{node_of};
 
@@ -63,7 +63,7 @@ impl Branch {
     }
 
     // How many classes the class at a value may push out, so that no more wait than may be placed.
-    fn most_conflicts(&self) -> Option<u32>
+    fn most_in_set(&self) -> Option<u32>
         ensures none { (result ≡ None) ↔ (self.now.spare < length self.now.others.items) }
         ensures value { IfSome result
             (λ most. most + length self.now.others.items ≡ self.now.spare) }
@@ -82,16 +82,16 @@ impl Branch {
             ≡ None }
         ensures follows { result
             ≡ may_follow self.now.spare self.now.path.items self.now.others.items
-            (conflicts_of state.old.problem state.old.present self.now.class value) }
+            (conflict_set_of state.old.problem state.old.present self.now.class value) }
         ensures same { with_taken state.new [] ≡ with_taken state.old [] }
         ensures taken { IsTrue result
             → state.new.taken
-            ≡ conflicts_of state.old.problem state.old.present self.now.class value }
+            ≡ conflict_set_of state.old.problem state.old.present self.now.class value }
     {
-        let Some(most) = self.most_conflicts() else {
+        let Some(most) = self.most_in_set() else {
             return false;
         };
-        state.find_conflicts_within(self.class, value, most)
+        state.find_conflict_set_within(self.class, value, most)
             && !is_any_on(self.path.as_slice(), state.taken())
     }
 
@@ -112,7 +112,7 @@ impl Branch {
         ensures same { with_taken state.new [] ≡ with_taken state.old [] }
         ensures taken { IsTrue result
             → state.new.taken
-            ≡ conflicts_of state.old.problem state.old.present self.now.class value }
+            ≡ conflict_set_of state.old.problem state.old.present self.now.class value }
     {
         if state.blocked(self.class, value).is_some() {
             return false;

@@ -6,7 +6,7 @@ ghost use Rattle.tt_published.specs.Published.{moved_in};
 ghost use Rattle.tt_published.specs.Aim.{IsAimOf};
 ghost use Rattle.tt_state.specs.History.{earlier};
 ghost use Rattle.tt_state.specs.Snapshots.{is_locked_in, with_value};
-ghost use Rattle.tt_state.specs.Values.{MayHave, conflicts_of};
+ghost use Rattle.tt_state.specs.Values.{MayHave, conflict_set_of};
 ghost use Rattle.tt_suggest.specs.Tree.{child_by, emptied, placed_without};
 ghost use Rattle.tt_suggest.specs.Walks.{node_of, IsBranchOf, HasGoneOn};
 
@@ -74,7 +74,7 @@ fn exchange(
     requires belongs { IsAimOf state.old.problem aim.now }
     requires value { IsOfDomain state.old.problem class value }
     requires conflicts { conflicts.now
-        ≡ conflicts_of state.old.problem state.old.present class value }
+        ≡ conflict_set_of state.old.problem state.old.present class value }
     requires classes { All (λ class. class < length state.old.problem.classes) conflicts.now }
     requires free { All (λ class. is_locked_in state.old.present class ≡ false) conflicts.now }
     requires moved { moved ≡ moved_in state.old.problem aim.now state.old.present.plan }
@@ -101,7 +101,7 @@ pub(crate) fn go_on(
     requires value { IsOfDomain state.old.problem branch.now.class value }
     requires branch { IsBranchOf state.old.problem aim.now state.old.present branch.now }
     requires taken { state.old.taken
-        ≡ conflicts_of state.old.problem state.old.present branch.now.class value }
+        ≡ conflict_set_of state.old.problem state.old.present branch.now.class value }
     requires free { All (λ class. is_locked_in state.old.present class ≡ false) state.old.taken }
     requires some { 0 < length branch.now.others.items + length state.old.taken }
     requires few { length branch.now.others.items + length state.old.taken ≤ branch.now.spare }

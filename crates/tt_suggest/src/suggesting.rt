@@ -8,7 +8,7 @@ ghost use Rattle.tt_published.specs.Published.{moved_in};
 ghost use Rattle.tt_published.specs.Aim.{IsAimOf};
 ghost use Rattle.tt_state.specs.History.{IsWithinStep, earlier, with_taken};
 ghost use Rattle.tt_state.specs.Snapshots.{with_value};
-ghost use Rattle.tt_state.specs.Values.{conflicts_of, total_with};
+ghost use Rattle.tt_state.specs.Values.{conflict_set_of, total_with};
 ghost use Rattle.tt_suggest.specs.Suggestions.{suggestion_rank, suggested, suggestions_of};
 ghost use Rattle.tt_suggest.specs.Tree.{gives_child, most_tries, root_of, tries_of};
 ghost use Rattle.tt_suggest.specs.Ranks.{is_better, rank_numbers};
@@ -215,7 +215,7 @@ fn descend(
     requires branch { IsBranchOf state.old.problem aim.now state.old.present branch.now }
     requires value { IsOfDomain state.old.problem branch.now.class value }
     requires taken { state.old.taken
-        ≡ conflicts_of state.old.problem state.old.present branch.now.class value }
+        ≡ conflict_set_of state.old.problem state.old.present branch.now.class value }
     requires gives { gives_child state.old.problem branch.now.spare
         (node_of state.old.present branch.now) branch.now.class branch.now.others.items value
         ≡ true }

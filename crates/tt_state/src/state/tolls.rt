@@ -1,7 +1,7 @@
 //! What a class at a value weighs.
 
 ghost use Rattle.std.specs.Prelude.{◌≡◌, ◌≤◌, ◌^◌};
-ghost use Rattle.tt_state.specs.Values.{conflicts_of};
+ghost use Rattle.tt_state.specs.Values.{conflict_set_of};
 ghost use Rattle.tt_state.specs.Tolls.{toll_of, tolls_of};
 
 use crate::state::State;
@@ -29,7 +29,7 @@ impl State {
     #[tactic(auto, unfolding(crate::specs::Tolls::tolls_of))]
     pub fn tolls(&self, class: u32, value: Value) -> u128
         requires taken { self.now.taken
-            ≡ conflicts_of self.now.problem self.now.present class value }
+            ≡ conflict_set_of self.now.problem self.now.present class value }
         ensures tolls { result ≡ tolls_of self.now.problem self.now.present class value }
     {
         self.problem().validity();

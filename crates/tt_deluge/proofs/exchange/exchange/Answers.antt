@@ -7,7 +7,7 @@ use Rattle.tt_state.specs.History.{trail, with_taken}
 use Rattle.tt_state.specs.Snapshots.{Snapshot, is_locked_in, value_in, with_value}
 use Rattle.tt_improve.specs.Classes.{is_free, total_of}
 use Rattle.tt_improve.specs.Standing.{IsMovable}
-use Rattle.tt_deluge.specs.ClassRounds.{moved_by_conflicts, exchange_value, half_exchanged, has_value}
+use Rattle.tt_deluge.specs.ClassRounds.{moved_by_conflict_set, exchange_value, half_exchanged, has_value}
 use Rattle.tt_deluge.specs.Deluged.{made_within}
 use Rattle.tt_deluge.specs.Standing.{IsClassRound}
 use Rattle.tt_deluge.proofs.ChangeLemmas.{stands-exchanged}
@@ -34,7 +34,7 @@ returns-then-totals-level-clause-round c =
     let free = c.in_ok-exchange_steps.ensures.free in
     let both : (is_free p (with_value s other None) class v && is_free p (half_exchanged s class v other) other to) ≡ true = sym free ∙ c.if-branch.true in
     let frees = and_parts (is_free p (with_value s other None) class v) (is_free p (half_exchanged s class v other) other to) both in
-    let found : moved_by_conflicts p s class v (other ∷ []) ≡ Some end = exchange-found p s class v other to true open_one to_is apart (sym both) in
+    let found : moved_by_conflict_set p s class v (other ∷ []) ≡ Some end = exchange-found p s class v other to true open_one to_is apart (sym both) in
     let present : st.present ≡ end = c.in_ok-exchange_steps.ensures.present c.if-branch.true in
     let problem : st.problem ≡ p = c.in_ok-exchange_steps.ensures.step.problem in
     let total : c.totals.result.total ≡ total_of p end = ap (λ t. t.total) c.totals.ensures ∙ ap (λ (q : Parts). total_of q st.present) problem ∙ ap (total_of p) present in
@@ -64,14 +64,14 @@ returns-clause-round c =
     let to_is : exchange_value p s class other ≡ Some to = sym c.exchange_value.ensures.value ∙ c.in-Some.is in
     let apart : has_value s other to ≡ false = sym c.has_value.ensures ∙ c.if-has_value.false in
     let b = c.in_ok-exchange_steps.field-0 in
-    let found : moved_by_conflicts p s class v (other ∷ []) ≡ cond b (Some end) None = exchange-found p s class v other to b open_one to_is apart c.in_ok-exchange_steps.ensures.free in
+    let found : moved_by_conflict_set p s class v (other ∷ []) ≡ cond b (Some end) None = exchange-found p s class v other to b open_one to_is apart c.in_ok-exchange_steps.ensures.free in
     let problem : st.problem ≡ p = c.in_ok-exchange_steps.ensures.step.problem in
     let begins = c.in_ok-exchange_steps.ensures.trail in
     let there : slice_get (trail st) c.mark_now-mark.result ≡ Some s = front-get (trail h) (trail st) c.mark_now-mark.result s begins c.mark_now-mark.ensures.present in
     let both : Some back.present ≡ Some s = sym c.roll_back.ensures.present ∙ there in
     let present : back.present ≡ s = cc both in
     let same : trail back ≡ trail h = c.roll_back.ensures.trail ∙ front-back (trail h) (trail st) c.mark_now-mark.result begins c.mark_now-mark.ensures.last in
-    let change : made_within p c.args.level (moved_by_conflicts p s class v (other ∷ [])) ≡ None =
+    let change : made_within p c.args.level (moved_by_conflict_set p s class v (other ∷ [])) ≡ None =
     elim c.else-branch.branch [
       | else-branch-via-then-branch+else-totals-level w ↦
           let now : st.present ≡ end = c.in_ok-exchange_steps.ensures.present w.if-branch.true in
@@ -81,4 +81,4 @@ returns-clause-round c =
       | else-branch-via-else-branch w ↦
           ap (made_within p c.args.level) (found ∙ ap (λ (b : Bool). cond b (Some end) None) w.if-branch.false)
     ] in
-    round-left c.args.level (moved_by_conflicts p s class v (other ∷ [])) (with_taken h []) (with_taken back []) change present same
+    round-left c.args.level (moved_by_conflict_set p s class v (other ∷ [])) (with_taken h []) (with_taken back []) change present same

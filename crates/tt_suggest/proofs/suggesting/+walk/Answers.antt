@@ -1,6 +1,6 @@
 use Rattle.std.proofs.Common.{◌≡◌, ◌∙◌, length, true, false, Err, ap, sym, refl, arith}
 use Rattle.tt_state.specs.History.{Contents}
-use Rattle.tt_state.specs.Values.{conflicts_of}
+use Rattle.tt_state.specs.Values.{conflict_set_of}
 use Rattle.tt_suggest.specs.declared.suggestion.SuggestEnd.TheVariants.{TooMany}
 use Rattle.tt_suggest.proofs.BackLemmas.{back_next, back_same}
 use Rattle.tt_suggest.proofs.FoundLemmas.{barren_found, child_found, child_free, child_spare, child_too_many, gives, leaf_above, leaf_found, on_ok}
@@ -21,7 +21,7 @@ try_value-returns-in_ok-offer-in-Some-clause-found t c =
     let some : gives start.problem start.present branch c.args.value ≡ true = sym c.gives_child.ensures.gives ∙ c.if-not-gives_child.false in
     let problem : c.gives_child.new.state.problem ≡ start.problem = ap (λ (h : Contents). h.problem) c.gives_child.ensures.same in
     let present : c.gives_child.new.state.present ≡ start.present = ap (λ (h : Contents). h.present) c.gives_child.ensures.same in
-    let conflicts : c.taken.result.now ≡ conflicts_of start.problem start.present branch.class c.args.value = c.taken.ensures.classes ∙ c.gives_child.ensures.taken c.if-not-gives_child.false in
+    let conflicts : c.taken.result.now ≡ conflict_set_of start.problem start.present branch.class c.args.value = c.taken.ensures.classes ∙ c.gives_child.ensures.taken c.if-not-gives_child.false in
     let empty = both_empty branch.others.items c.taken.result.now (sym c.is_last.ensures ∙ c.if-is_last.true) in
     let ranked = rw (problem, present) at c.in-Some.ensures.rank in
     leaf_found start.problem c.args.aim.now start.present branch c.args.value c.in-Some.rank c.args.found.now c.offer.new.self some empty.0 (sym conflicts ∙ empty.1) ranked c.offer.ensures.tried c.requires.few c.in_ok-offer-in-Some.ensures.best
@@ -33,7 +33,7 @@ try_value-returns-in-None-clause-found t c =
     let some : gives start.problem start.present branch c.args.value ≡ true = sym c.gives_child.ensures.gives ∙ c.if-not-gives_child.false in
     let problem : c.gives_child.new.state.problem ≡ start.problem = ap (λ (h : Contents). h.problem) c.gives_child.ensures.same in
     let present : c.gives_child.new.state.present ≡ start.present = ap (λ (h : Contents). h.present) c.gives_child.ensures.same in
-    let conflicts : c.taken.result.now ≡ conflicts_of start.problem start.present branch.class c.args.value = c.taken.ensures.classes ∙ c.gives_child.ensures.taken c.if-not-gives_child.false in
+    let conflicts : c.taken.result.now ≡ conflict_set_of start.problem start.present branch.class c.args.value = c.taken.ensures.classes ∙ c.gives_child.ensures.taken c.if-not-gives_child.false in
     let empty = both_empty branch.others.items c.taken.result.now (sym c.is_last.ensures ∙ c.if-is_last.true) in
     leaf_above start.problem c.args.aim.now start.present branch c.args.value c.args.found.now some empty.0 (sym conflicts ∙ empty.1) c.requires.few (rw (problem, present) at c.in-None.ensures.above)
 

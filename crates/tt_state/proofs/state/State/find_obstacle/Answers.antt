@@ -5,7 +5,7 @@ use Rattle.tt_state.specs.declared.obstacle.Obstacle.TheVariants as obstacle
 use Rattle.tt_state.specs.Snapshots.{is_locked_in}
 use Rattle.tt_clash.specs.declared.Block.{Block}
 use Rattle.tt_bits.specs.declared.times.Value.{Value}
-use Rattle.tt_state.specs.Values.{blocked_of, conflicts_of, obstacle_of}
+use Rattle.tt_state.specs.Values.{blocked_of, conflict_set_of, obstacle_of}
 use Rattle.tt_state.specs.History.{Contents, with_taken}
 use Rattle.tt_state.proofs.ObstacleLemmas.{obstacle_blocked, obstacle_open}
 use Rattle.tt_state.proofs.state.State.find_obstacle.Goals as goal
@@ -20,7 +20,7 @@ none_given None not = refl
 none_given (Some x) not = absurd (not x refl)
 
 -- where the value isn't blocked, the first class of the conflict set that is locked stands in its way
-obstacle_is : (h new : Contents) (class : ℕ) (v : Value) (first : Option ℕ) → blocked_of h.problem h.present.closures class v ≡ None → new ≡ with_taken h (conflicts_of h.problem h.present class v) → first ≡ find (is_locked_in new.present) new.taken
+obstacle_is : (h new : Contents) (class : ℕ) (v : Value) (first : Option ℕ) → blocked_of h.problem h.present.closures class v ≡ None → new ≡ with_taken h (conflict_set_of h.problem h.present class v) → first ≡ find (is_locked_in new.present) new.taken
     → option_map (λ other. obstacle.Held other) first ≡ obstacle_of h.problem h.present class v
 obstacle_is h new class v first open_one found is =
     ap (option_map (λ other. obstacle.Held other)) (is ∙ ap (λ (n : Contents). find (is_locked_in n.present) n.taken) found) ∙ sym (obstacle_open h.problem h.present class v open_one)

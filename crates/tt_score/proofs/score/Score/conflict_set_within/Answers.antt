@@ -4,19 +4,19 @@ use Rattle.std.proofs.lemmas.List.{with_items_is}
 use Rattle.tt_clash.specs.Blocked.{blocked_by}
 use Rattle.tt_score.proofs.KeptLemmas.{length-spots}
 use Rattle.tt_score.proofs.ConflictLemmas.{is-placing, held-by, free-alone, groups-same, set-agree}
-use Rattle.tt_score.proofs.score.Score.conflicts_within.Goals as goal
+use Rattle.tt_score.proofs.score.Score.conflict_set_within.Goals as goal
 
-pub conflicts_within-requires-clause-placing : goal.conflicts_within-requires-clause-placing
-conflicts_within-requires-clause-placing c =
+pub conflict_set_within-requires-clause-placing : goal.conflict_set_within-requires-clause-placing
+conflict_set_within-requires-clause-placing c =
     let kept = c.requires.fits.kept in
     is-placing c.args.problem.now c.args.self.now.occupancy.spots c.args.class c.spot.result kept.valid.travel_rooms kept.of_classes (length-spots kept) c.requires.value.within c.spot.ensures.fits
 
-pub conflicts_within-requires-clause-groups : goal.conflicts_within-requires-clause-groups
-conflicts_within-requires-clause-groups c =
+pub conflict_set_within-requires-clause-groups : goal.conflict_set_within-requires-clause-groups
+conflict_set_within-requires-clause-groups c =
     rw c.as_mut_slice.ensures.value (held-by c.args.problem.now c.args.self.now.occupancy.spots c.args.self.now.groups.items c.requires.fits.grouped)
 
-pub conflicts_within-requires-clause-free : goal.conflicts_within-requires-clause-free
-conflicts_within-requires-clause-free c =
+pub conflict_set_within-requires-clause-free : goal.conflict_set_within-requires-clause-free
+conflict_set_within-requires-clause-free c =
     let none : blocked_by c.args.problem.now c.args.self.now.closures c.args.class c.spot.result ≡ None = rw c.spot.ensures.spot at c.requires.open in
     rw c.as_mut_slice.ensures.value (free-alone c.args.problem.now c.args.self.now.closures c.args.self.now.occupancy.spots c.args.self.now.groups.items c.args.class c.spot.result c.requires.fits.grouped none)
 
@@ -24,12 +24,12 @@ pub returns-clause-few : goal.returns-clause-few
 returns-clause-few c =
     let s = c.args.self.now in
     let same = set-agree c.args.problem.now s.groups.items c.as_mut_slice.result.now s.plan.items s.occupancy.spots c.args.class c.args.value c.spot.result c.requires.fits.grouped c.as_mut_slice.ensures.value c.requires.fits.kept.spots c.spot.ensures.spot in
-    c.conflicts_within.ensures.few ∙ ap (λ (l : List ℕ). nat_le (length l) c.args.most) same
+    c.conflict_set_within.ensures.few ∙ ap (λ (l : List ℕ). nat_le (length l) c.args.most) same
 
 pub returns-clause-set : goal.returns-clause-set
 returns-clause-set c = λ found.
     let s = c.args.self.now in
-    c.conflicts_within.ensures.set found
+    c.conflict_set_within.ensures.set found
     ∙ set-agree c.args.problem.now s.groups.items c.as_mut_slice.result.now s.plan.items s.occupancy.spots c.args.class c.args.value c.spot.result c.requires.fits.grouped c.as_mut_slice.ensures.value c.requires.fits.kept.spots c.spot.ensures.spot
 
 pub returns-clause-fits : goal.returns-clause-fits
@@ -37,10 +37,10 @@ returns-clause-fits c =
     let p = c.args.problem.now in
     let s = c.args.self.now in
     let fits = c.requires.fits in
-    let held = c.conflicts_within.ensures.groups in
-    let same = rw c.as_mut_slice.ensures.value at c.conflicts_within.ensures.same in
-    let grouped = groups-same p s.occupancy.spots s.groups.items c.conflicts_within.new.groups fits.grouped held same in
-    rw (with_items_is s.groups c.conflicts_within.new.groups (omega (arith, grouped.count, fits.grouped.count, s.groups.ok.0)))
+    let held = c.conflict_set_within.ensures.groups in
+    let same = rw c.as_mut_slice.ensures.value at c.conflict_set_within.ensures.same in
+    let grouped = groups-same p s.occupancy.spots s.groups.items c.conflict_set_within.new.groups fits.grouped held same in
+    rw (with_items_is s.groups c.conflict_set_within.new.groups (omega (arith, grouped.count, fits.grouped.count, s.groups.ok.0)))
     (record {
       kept = fits.kept;
       grouped = grouped;

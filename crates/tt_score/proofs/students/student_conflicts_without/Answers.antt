@@ -3,8 +3,8 @@ use Rattle.std.specs.Prelude.{slice_set}
 use Rattle.tt_roster.specs.Rostered.{Rostered}
 use Rattle.tt_roster.specs.Conflicts.{student_conflicts}
 use Rattle.tt_score.proofs.RosterLemmas.{without}
-use Rattle.tt_score.proofs.students.conflicts_without.Goals as goal
-use Rattle.tt_score.proofs.students.conflicts_without.Goals.{After-conflicts}
+use Rattle.tt_score.proofs.students.student_conflicts_without.Goals as goal
+use Rattle.tt_score.proofs.students.student_conflicts_without.Goals.{After-conflicts}
 
 -- what the class has at its spot, and the rest
 rest : (c : After-conflicts)
