@@ -7,8 +7,8 @@ use Rattle.tt_roster.specs.Lists.{list_of}
 use Rattle.tt_roster.specs.Seen.{row_at}
 
 -- each student who has the class stands once in the list, and no other
-abbrev pub AreStudentsOf : (students : List ℕ) (seats : List (List ℕ)) (class : ℕ) → Type 0
-AreStudentsOf students seats class = (student : ℕ) → count_by (λ x. x == student) students ≡ cond (is_listed class (list_of seats student)) 1 0
+abbrev pub AreStudentsOf : (students : List ℕ) (lists : List (List ℕ)) (class : ℕ) → Type 0
+AreStudentsOf students lists class = (student : ℕ) → count_by (λ x. x == student) students ≡ cond (is_listed class (list_of lists student)) 1 0
 
 -- each student who has the class stands at the node that the student's row has beside it
 abbrev pub AreNodesOf : (nodes students : List ℕ) (rows : List ListedClasses) (class : ℕ) → Type 0

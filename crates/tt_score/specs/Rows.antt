@@ -26,19 +26,19 @@ abbrev pub pair_at : Table → List (Option Spot) → Spot → JointClass → �
 pair_at t spots x pair = cond (are_in_conflict t (Some x) (spot_at spots pair.class)) pair.number 0
 
 -- the row is of so many classes, and its numbers at those that conflict with a spot are the conflicting pairs with its class there
-pub record IsRowOf (seats : List (List ℕ)) (classes class : ℕ) (row : List JointClass) : Type 0 where
+pub record IsRowOf (lists : List (List ℕ)) (classes class : ℕ) (row : List JointClass) : Type 0 where
   pub within : All (λ pair. pair.class < classes) row
   pub few : length row ≤ classes
-  pub paid : All (Ascends 0 classes) seats → (t : Table) (spots : List (Option Spot)) (x : Spot) → sum_by (pair_at t spots x) row ≡ class_conflicts t spots seats class x
+  pub paid : All (Ascends 0 classes) lists → (t : Table) (spots : List (Option Spot)) (x : Spot) → sum_by (pair_at t spots x) row ≡ class_conflicts t spots lists class x
 
 -- each row that is kept is that of its class
-abbrev pub AreRowsOf : (seats : List (List ℕ)) → List (Option (List JointClass)) → Type 0
-AreRowsOf seats rows = (class : ℕ) → IfSome (row_at rows class) (IsRowOf seats (length rows) class)
+abbrev pub AreRowsOf : (lists : List (List ℕ)) → List (Option (List JointClass)) → Type 0
+AreRowsOf lists rows = (class : ℕ) → IfSome (row_at rows class) (IsRowOf lists (length rows) class)
 
 -- the rows that are left are those of the classes that aren't on a list
 abbrev pub AreLeft : (classes : List ℕ) → List (Option (List JointClass)) → List (Option (List JointClass)) → Type 0
 AreLeft classes rows left = (class : ℕ) → row_at left class ≡ cond (is_listed class classes) None (row_at rows class)
 
 -- no class of the student has a row
-abbrev pub IsCleared : (seats : List (List ℕ)) → List (Option (List JointClass)) → (student : ℕ) → Type 0
-IsCleared seats rows student = (class : ℕ) → is_listed class (list_of seats student) ≡ true → row_at rows class ≡ None
+abbrev pub IsCleared : (lists : List (List ℕ)) → List (Option (List JointClass)) → (student : ℕ) → Type 0
+IsCleared lists rows student = (class : ℕ) → is_listed class (list_of lists student) ≡ true → row_at rows class ≡ None

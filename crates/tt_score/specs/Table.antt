@@ -50,15 +50,15 @@ abbrev pub new_row : (classes : ℕ) → RowSeen
 new_row classes = record { classes = classes; pairs = Some [] }
 
 -- the row is of so many classes, and its numbers at those that conflict with a spot are the conflicting pairs with its class there
-pub record IsPaidRow (seats : List (List ℕ)) (classes class : ℕ) (row : List JointClass) : Type 0 where
+pub record IsPaidRow (lists : List (List ℕ)) (classes class : ℕ) (row : List JointClass) : Type 0 where
   pub within : All (λ pair. pair.class < classes) row
-  pub paid : All (Ascends 0 classes) seats → (t : Table) (spots : List (Option Spot)) (x : Spot) → sum_by (pair_at t spots x) row ≡ class_conflicts t spots seats class x
+  pub paid : All (Ascends 0 classes) lists → (t : Table) (spots : List (Option Spot)) (x : Spot) → sum_by (pair_at t spots x) row ≡ class_conflicts t spots lists class x
 
 -- each row is of so many classes, and where its pairs are kept they are those of its class; there is one for each class, or none
-pub record IsTableOf (seats : List (List ℕ)) (classes : ℕ) (table : List RowSeen) : Type 0 where
+pub record IsTableOf (lists : List (List ℕ)) (classes : ℕ) (table : List RowSeen) : Type 0 where
   pub whole : (class : ℕ) → class < length table → length table ≡ classes
   pub long : (class : ℕ) → class < length table → (table_row table class).classes ≡ classes
-  pub rows : (class : ℕ) → IfSome (table_row table class).pairs (IsPaidRow seats classes class)
+  pub rows : (class : ℕ) → IfSome (table_row table class).pairs (IsPaidRow lists classes class)
 
 -- how many students more a class has at those that pass a test, once another is seated with a list
 abbrev pub comes_to : (class : ℕ) → (g : ℕ → Bool) → (seated : ℕ) → List ℕ → ℕ

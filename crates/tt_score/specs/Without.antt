@@ -8,8 +8,8 @@ use Rattle.tt_score.specs.declared.totals.Without.{Without}
 use Rattle.tt_score.specs.Apart.{cost_sum_without}
 
 -- the student conflicts of a plan without a class, and the costs of the soft rules of which it is no member
-abbrev pub without_at : Parts → (plan : List (Option Value)) → (seats : List (List ℕ)) → (class : ℕ) → Without
-without_at p plan seats class = record {
-  student = student_conflicts p.travel (spots_of p (slice_set plan class None)) seats;
+abbrev pub without_at : Parts → (plan : List (Option Value)) → (lists : List (List ℕ)) → (class : ℕ) → Without
+without_at p plan lists class = record {
+  student = student_conflicts p.travel (spots_of p (slice_set plan class None)) lists;
   distribution = cost_sum_without p (spots_of p plan) class;
 }
