@@ -135,7 +135,7 @@ module _ (p : Parts) (s : Snapshot) where
 pub rooms_of : (p : Parts) (spots : List (Option Spot)) → IsValid p → AreSpotsOf p spots → (class : ℕ) → IfSome (spot_at spots class) (λ x. IsRoomOf p.travel x.room)
 rooms_of p spots valid fit class = by (spot_at spots class) (fit class)
   where
-    by : (o : Option Spot) → IfSome o (IsSpotOf p class) → IfSome o (λ x. IsRoomOf p.travel x.room)
+    by : (o : Option Spot) → IfSome o (IsSpotOf p) → IfSome o (λ x. IsRoomOf p.travel x.room)
     by None fits = tt
     by (Some x) fits = room_is p x x.room valid fits.room
 

@@ -1,29 +1,14 @@
--- Values, their places in a domain, and the cells that they take.
-use Rattle.std.proofs.Common.{◌≡◌, ℕ, ◌+◌, ◌*◌, ◌/◌, ◌%◌, ◌<◌, ◌≤◌, List, [], ◌∷◌, Some, length, get_or, slice_get, map, max, fold, arith, zero, suc, ap, ◌∙◌, length-append, zero-add, suc-mul, mul-le-mul_right, mod-lt, mul_comm}
+-- Values, and their places in a domain.
+use Rattle.std.proofs.Common.{◌≡◌, ℕ, ◌+◌, ◌*◌, ◌/◌, ◌%◌, ◌<◌, ◌≤◌, List, [], ◌∷◌, Some, length, get_or, slice_get, map, max, arith, zero, suc, ap, ◌∙◌, length-append, zero-add, suc-mul, mul-le-mul_right, mod-lt, mul_comm}
 use Rattle.std.proofs.Math.Nat.{div-add-mod, div-lt_iff_lt-mul}
 use Rattle.std.specs.List.{flat_map, range_with_len}
 use Rattle.std.proofs.lemmas.List.{get_or-append-add, get_or_append_left}
 use Rattle.std.proofs.lemmas.List.FromFn.{length-map-range_with_len, get_or-map-range_with_len}
 use Rattle.std.proofs.lemmas.Option.{slice_get-get_or}
 use Rattle.tt_bits.specs.declared.times.Value.{Value}
-use Rattle.tt_problem.specs.declared.parts.TimeChoice.{TimeChoice}
 use Rattle.tt_problem.specs.declared.parts.ClassPart.{ClassPart}
 use Rattle.tt_problem.specs.declared.parts.Parts.{Parts}
-use Rattle.tt_problem.specs.Sums.{time_cells, class_cells}
 use Rattle.tt_plan.specs.Domain.{value_of, values_of, values_per_time, domain_of, IsValueFor, IsOfDomain}
-
-most_from : (ts : List TimeChoice) (most : ℕ) → most ≤ fold max most (map time_cells ts)
-most_from [] most = omega arith
-most_from (t ∷ ts) most = omega (arith, most_from ts (max most (time_cells t)))
-
-at_most : (ts : List TimeChoice) (most i : ℕ) (d : TimeChoice) → i < length ts → time_cells (get_or ts i d) ≤ fold max most (map time_cells ts)
-at_most [] most i d within = absurd (omega arith)
-at_most (t ∷ ts) most zero d within = omega (arith, most_from ts (max most (time_cells t)))
-at_most (t ∷ ts) most (suc i) d within = at_most ts (max most (time_cells t)) i d (omega arith)
-
--- a time of the class takes no more cells than its most
-pub cells_of_choice : (c : ClassPart) (i : ℕ) (d : TimeChoice) → i < length c.times → time_cells (get_or c.times i d) ≤ class_cells c
-cells_of_choice c i d within = at_most c.times 0 i d within
 
 length-row : (rooms time : ℕ) → length (map (value_of time) (range_with_len 0 rooms)) ≡ rooms
 length-row rooms time = length-map-range_with_len (value_of time) 0 rooms

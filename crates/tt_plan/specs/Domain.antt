@@ -1,13 +1,12 @@
 -- Theorem. The values of a class, and what they stand for.
-use Rattle.std.specs.Prelude.{ℕ, ◌<◌, ◌≤◌, List, [], Option, IfSome, length, slice_get, map, max, option_and_then}
+use Rattle.std.specs.Prelude.{ℕ, ◌<◌, List, [], Option, IfSome, length, slice_get, map, max, option_and_then}
 use Rattle.std.specs.List.{enumerate_from, flat_map, range_with_len}
 use Rattle.std.specs.Option.{option_map, option_map_or}
 use Rattle.tt_bits.specs.declared.times.Spot.{Spot}
 use Rattle.tt_bits.specs.declared.times.Value.{Value}
-use Rattle.tt_bits.specs.Spots.{IsBelow, cell_count}
+use Rattle.tt_bits.specs.Spots.{IsBelow}
 use Rattle.tt_problem.specs.declared.parts.ClassPart.{ClassPart}
 use Rattle.tt_problem.specs.declared.parts.Parts.{Parts}
-use Rattle.tt_problem.specs.Sums.{cells_at}
 
 -- how many values a class has at each of its times: one for each of its rooms, and one where it needs none
 abbrev pub values_per_time : ClassPart → ℕ
@@ -55,11 +54,10 @@ time_penalty p class v = option_map_or (λ c. option_map_or (λ t. t.penalty) (s
 unfoldable pub room_penalty : Parts → ℕ → Value → ℕ
 room_penalty p class v = option_map_or (λ c. option_map_or (λ r. r.penalty) (slice_get c.rooms v.room) 0) (slice_get p.classes class) 0
 
--- the spot lies in the rooms and weeks of the problem, and takes no more cells than the class may
-pub record IsSpotOf (p : Parts) (class : ℕ) (x : Spot) : Type 0 where
+-- the spot lies in the rooms and weeks of the problem
+pub record IsSpotOf (p : Parts) (x : Spot) : Type 0 where
   pub room : IfSome x.room (λ room. room < length p.rooms)
   pub weeks : IsBelow p.nr_weeks x
-  pub cells : cell_count x ≤ cells_at p class
 
 -- the spots of a plan of which the first class is at this place
 abbrev pub spots_from : Parts → ℕ → List (Option Value) → List (Option Spot)

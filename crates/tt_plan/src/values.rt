@@ -45,11 +45,11 @@ pub fn value_at(problem: &Problem, class: u32, k: u32) -> Value
 }
 
 /// The time and the room of a value.
-#[tactic(auto, using(crate::proofs::DomainLemmas::cells_of_choice), unfolding(crate::specs::Domain::spot_at_value, tt_problem::specs::Sums::cells_at))]
+#[tactic(auto, unfolding(crate::specs::Domain::spot_at_value))]
 pub fn spot(problem: &Problem, class: u32, value: Value) -> Spot
     requires { IsOfDomain problem.now class value }
     ensures spot { spot_at_value problem.now class value ≡ Some result }
-    ensures fits { IsSpotOf problem.now class result }
+    ensures fits { IsSpotOf problem.now result }
 {
     problem.validity();
     let part = problem.class(class);

@@ -450,7 +450,7 @@ impl Score {
     fn costs_at(&self, problem: &Problem, class: u32, spot: Spot) -> u128
         requires fits { Fits problem.now self.now }
         requires class { class < length problem.now.classes }
-        requires spot { IsSpotOf problem.now class spot }
+        requires spot { IsSpotOf problem.now spot }
         ensures costs { result
             ≡ cost_sum problem.now (slice_set (occupancy_of self.now).spots class (Some spot)) }
         ensures few { result < 2 ^ 100 }

@@ -23,20 +23,20 @@ use Rattle.tt_published.specs.Timetable.{Timetable}
 -- the spots of the classes before place i are these, and fit the problem
 pub record AreSpotsTo (p : Parts) (plan : List (Option Value)) (i : ℕ) (done : List (Option Spot)) : Type 0 where
   pub so_far : done ++ spots_from p i (drop i plan) ≡ spots_of p plan
-  pub fit : (k : ℕ) → k < i → IfSome (spot_at (spots_of p plan) k) (λ x. IsSpotOf p k x)
+  pub fit : (k : ℕ) → k < i → IfSome (spot_at (spots_of p plan) k) (λ x. IsSpotOf p x)
 
 pub spots_begin : (p : Parts) (plan : List (Option Value)) → AreSpotsTo p plan 0 []
 spots_begin p plan = record { so_far = refl; fit = λ k below. absurd (omega arith) }
 
 pub spots_next : (p : Parts) (plan : List (Option Value)) (i : ℕ) (done : List (Option Spot)) (s : Option Spot) (d : Option Value) → AreSpotsTo p plan i done → i < length plan
-    → s ≡ option_and_then (spot_at_value p i) (get_or plan i d) → IfSome s (λ x. IsSpotOf p i x) → AreSpotsTo p plan (i + 1) (done ++ s ∷ [])
+    → s ≡ option_and_then (spot_at_value p i) (get_or plan i d) → IfSome s (λ x. IsSpotOf p x) → AreSpotsTo p plan (i + 1) (done ++ s ∷ [])
 spots_next p plan i done s d before within made fits =
     let left : spots_from p i (drop i plan) ≡ s ∷ spots_from p (i + 1) (drop (i + 1) plan) =
     ap (spots_from p i) (drop_more plan i d within) ∙ ap (λ (x : Option Spot). x ∷ spots_from p (i + 1) (drop (i + 1) plan)) (sym made) in
     let here : spot_at (spots_of p plan) i ≡ s = spot_in p plan i ∙ ap (option_and_then (spot_at_value p i)) (get_or_default plan i None d within) ∙ sym made in
     record {
       so_far = append_assoc done (s ∷ []) (spots_from p (i + 1) (drop (i + 1) plan)) ∙ ap (λ (l : List (Option Spot)). done ++ l) (sym left) ∙ before.so_far;
-      fit = below_more (λ k. IfSome (spot_at (spots_of p plan) k) (λ x. IsSpotOf p k x)) i before.fit (rw here fits);
+      fit = below_more (λ k. IfSome (spot_at (spots_of p plan) k) (λ x. IsSpotOf p x)) i before.fit (rw here fits);
     }
 
 pub spots_done : (p : Parts) (plan : List (Option Value)) (i : ℕ) (done : List (Option Spot)) → AreSpotsTo p plan i done → length plan ≤ i → done ≡ spots_of p plan
@@ -81,13 +81,13 @@ room_within : (p : Parts) (r : Option ℕ) → p.travel.rooms ≡ length p.rooms
 room_within p None same is = tt
 room_within p (Some room) same is = omega (arith, same, is)
 
-room_fits : (p : Parts) (class : ℕ) (s : Option Spot) → p.travel.rooms ≡ length p.rooms → IfSome s (λ x. IsSpotOf p class x) → IfSome s (λ x. IsRoomOf p.travel x.room)
-room_fits p class None same is = tt
-room_fits p class (Some x) same is = room_within p x.room same is.room
+room_fits : (p : Parts) (s : Option Spot) → p.travel.rooms ≡ length p.rooms → IfSome s (λ x. IsSpotOf p x) → IfSome s (λ x. IsRoomOf p.travel x.room)
+room_fits p None same is = tt
+room_fits p (Some x) same is = room_within p x.room same is.room
 
 -- the rooms of spots are rooms of the table of travel
 pub rooms_fit : (p : Parts) (spots : List (Option Spot)) → p.travel.rooms ≡ length p.rooms → AreSpotsOf p spots → (c : ℕ) → IfSome (spot_at spots c) (λ x. IsRoomOf p.travel x.room)
-rooms_fit p spots same fit c = room_fits p c (spot_at spots c) same (fit c)
+rooms_fit p spots same fit c = room_fits p (spot_at spots c) same (fit c)
 
 one_placed : (t : Table) (s : Option Spot) (rest : List (Option Spot)) → IfSome s (λ x. IsRoomOf t x.room) → AllByRecursion (λ x. IsRoomOf t x.room) (placed rest) → AllByRecursion (λ x. IsRoomOf t x.room) (placed (s ∷ rest))
 one_placed t None rest is all = all

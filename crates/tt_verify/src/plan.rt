@@ -34,7 +34,7 @@ pub fn published_plan(
 fn spot_of(problem: &Problem, class: u32, value: Option<Value>) -> Option<Spot>
     requires { IfSome value (λ v. IsOfDomain problem.now class v) }
     ensures spot { result ≡ option_and_then (spot_at_value problem.now class) value }
-    ensures fits { IfSome result (λ x. IsSpotOf problem.now class x) }
+    ensures fits { IfSome result (λ x. IsSpotOf problem.now x) }
 {
     match value {
         None => None,
