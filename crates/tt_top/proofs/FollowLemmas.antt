@@ -18,8 +18,8 @@ use Rattle.tt_top.specs.declared.end.InputFault.{InputFault}
 use Rattle.tt_top.specs.Words.{FileWords, first_words, file_words}
 use Rattle.tt_top.specs.PlainRun.{PlainRun, Phase, text_of, last_phase, script_phase}
 use Rattle.tt_top.specs.Run.{Outside, IsFront, IsFirst, IsLess, IsOwn, Follows, HasCauses, AsksInOrder}
-use Rattle.tt_top.specs.Ends.{input_status, end_status, done_status, done_by, status_of, WritesFirst, WritesLess, IsFaultyAt, Loads}
-use Rattle.tt_top.proofs.LoadLemmas.{whole_front}
+use Rattle.tt_top.specs.Ends.{input_status, end_status, done_status, done_by, status_of, WritesFirst, WritesLess, IsFaultyAt, Fetches}
+use Rattle.tt_top.proofs.FetchLemmas.{whole_front}
 use Rattle.tt_top.proofs.EndLemmas.{over_four, at_most_one, three_or_four, none_first}
 
 -- ---- what was written, as a text
@@ -163,11 +163,11 @@ module _ (words : FileWords) (o : Outside) where
   }
 
   -- where the run ended in a phase before the script
-  pub asks_early : {A : Type 0} {limit : ℕ} {holds : List ℕ → Option (List ℕ)} {left : Option (List ℕ)} (phase : Phase A) (r : Result (Result A InputFault) End) (e : End) → (e ≢ Sink → o.now.written ≡ o.before.written) → (loads : Loads words limit holds left phase o.before.asked o.now.asked r) → AsksInOrder words o loads.names (end_status e)
-  asks_early phase r e quiet loads = record {
-    asked = loads.asked;
-    first = front_of_front loads.names (first_words words) (option_to_list words.script) loads.first;
-    some = λ _. loads.some;
+  pub asks_early : {A : Type 0} {limit : ℕ} {holds : List ℕ → Option (List ℕ)} {left : Option (List ℕ)} (phase : Phase A) (r : Result (Result A InputFault) End) (e : End) → (e ≢ Sink → o.now.written ≡ o.before.written) → (fetches : Fetches words limit holds left phase o.before.asked o.now.asked r) → AsksInOrder words o fetches.names (end_status e)
+  asks_early phase r e quiet fetches = record {
+    asked = fetches.asked;
+    first = front_of_front fetches.names (first_words words) (option_to_list words.script) fetches.first;
+    some = λ _. fetches.some;
     all = λ le. absurd (over_four e (omega arith));
     faulty_problem = λ is. absurd (over_four e (omega arith));
     faulty_published = λ is. absurd (over_four e (omega arith));
@@ -175,41 +175,41 @@ module _ (words : FileWords) (o : Outside) where
   }
 
   -- with a fault
-  pub asks_faulty : {A : Type 0} {limit : ℕ} {holds : List ℕ → Option (List ℕ)} {left : Option (List ℕ)} (phase : Phase A) (f : InputFault) → (loads : Loads words limit holds left phase o.before.asked o.now.asked (Ok (Err f))) → AsksInOrder words o loads.names (input_status f.input)
-  asks_faulty phase f loads = record {
-    asked = loads.asked;
-    first = front_of_front loads.names (first_words words) (option_to_list words.script) loads.first;
-    some = λ _. loads.some;
+  pub asks_faulty : {A : Type 0} {limit : ℕ} {holds : List ℕ → Option (List ℕ)} {left : Option (List ℕ)} (phase : Phase A) (f : InputFault) → (fetches : Fetches words limit holds left phase o.before.asked o.now.asked (Ok (Err f))) → AsksInOrder words o fetches.names (input_status f.input)
+  asks_faulty phase f fetches = record {
+    asked = fetches.asked;
+    first = front_of_front fetches.names (first_words words) (option_to_list words.script) fetches.first;
+    some = λ _. fetches.some;
     all = λ le. absurd (let three = (three_or_four f.input).0 in omega arith);
-    faulty_problem = λ is. one f.input loads.each is;
-    faulty_published = λ is. two f.input loads.each is;
+    faulty_problem = λ is. one f.input fetches.each is;
+    faulty_published = λ is. two f.input fetches.each is;
     quiet = λ five ne few. absurd (let four = (three_or_four f.input).1 in omega (arith, four, five));
   }
     where
-      one : (input : Input) → IsFaultyAt words loads.names input → input_status input ≡ 3 → loads.names ≡ words.problem ∷ []
+      one : (input : Input) → IsFaultyAt words fetches.names input → input_status input ≡ 3 → fetches.names ≡ words.problem ∷ []
       one Problem at is = at
       one Published at is = absurd (omega arith)
 
-      two : (input : Input) → IsFaultyAt words loads.names input → input_status input ≡ 4 → IsSome words.published × (loads.names ≡ first_words words)
+      two : (input : Input) → IsFaultyAt words fetches.names input → input_status input ≡ 4 → IsSome words.published × (fetches.names ≡ first_words words)
       two Problem at is = absurd (omega arith)
       two Published at is = at
 
   -- where there is no script, and all went well
-  pub asks_all : {A : Type 0} {limit : ℕ} {holds : List ℕ → Option (List ℕ)} {left : Option (List ℕ)} (phase : Phase A) (x : A) (status : ℕ) → words.script ≡ None → status ≤ 1 → (loads : Loads words limit holds left phase o.before.asked o.now.asked (Ok (Ok x))) → AsksInOrder words o loads.names status
-  asks_all phase x status none few loads = record {
-    asked = loads.asked;
-    first = front_of_front loads.names (first_words words) (option_to_list words.script) loads.first;
-    some = λ _. loads.some;
-    all = λ _. rw none (loads.each ∙ sym (append-nil (first_words words)));
+  pub asks_all : {A : Type 0} {limit : ℕ} {holds : List ℕ → Option (List ℕ)} {left : Option (List ℕ)} (phase : Phase A) (x : A) (status : ℕ) → words.script ≡ None → status ≤ 1 → (fetches : Fetches words limit holds left phase o.before.asked o.now.asked (Ok (Ok x))) → AsksInOrder words o fetches.names status
+  asks_all phase x status none few fetches = record {
+    asked = fetches.asked;
+    first = front_of_front fetches.names (first_words words) (option_to_list words.script) fetches.first;
+    some = λ _. fetches.some;
+    all = λ _. rw none (fetches.each ∙ sym (append-nil (first_words words)));
     faulty_problem = λ is. absurd (omega arith);
     faulty_published = λ is. absurd (omega arith);
     quiet = λ five ne less. absurd (omega arith);
   }
 
   -- where the script was asked for, if there is one
-  pub asks_served : {limit : ℕ} {holds : List ℕ → Option (List ℕ)} {left : Option (List ℕ)} (phase : Phase Session) (mid : Option (List (List ℕ))) (session : Session) (r : Result Bool End) → (words.script ≡ None → IsOk r) → Loads words limit holds left phase o.before.asked mid (Ok (Ok session)) → AsksAll mid o.now.asked (option_to_list words.script) → AsksInOrder words o (file_words words) (status_of (done_by r))
-  asks_served phase mid session r done loads more = record {
-    asked = asks_append _ mid _ (first_words words) (option_to_list words.script) (rw loads.each at loads.asked) more;
+  pub asks_served : {limit : ℕ} {holds : List ℕ → Option (List ℕ)} {left : Option (List ℕ)} (phase : Phase Session) (mid : Option (List (List ℕ))) (session : Session) (r : Result Bool End) → (words.script ≡ None → IsOk r) → Fetches words limit holds left phase o.before.asked mid (Ok (Ok session)) → AsksAll mid o.now.asked (option_to_list words.script) → AsksInOrder words o (file_words words) (status_of (done_by r))
+  asks_served phase mid session r done fetches more = record {
+    asked = asks_append _ mid _ (first_words words) (option_to_list words.script) (rw fetches.each at fetches.asked) more;
     first = whole_front (file_words words);
     some = λ _. omega arith;
     all = λ _. refl;

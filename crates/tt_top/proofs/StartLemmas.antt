@@ -10,29 +10,29 @@ use Rattle.tt_top.specs.declared.end.InputFault.{InputFault}
 use Rattle.tt_top.specs.Opening.{FaultyFile, opening_session, published_in, started}
 use Rattle.tt_top.specs.PlainRun.{published_phase, start_phase}
 use Rattle.tt_top.specs.Ends.{Agrees, HasEndCause, seen}
-use Rattle.tt_top.specs.Started.{loaded_by}
+use Rattle.tt_top.specs.Started.{fetched_by}
 use Rattle.tt_top.proofs.EndLemmas.{done_cause, other_end}
-use Rattle.tt_top.proofs.LoadLemmas.{start_agrees}
+use Rattle.tt_top.proofs.FetchLemmas.{start_agrees}
 
--- ---- what is loaded with it
+-- ---- what is fetched with it
 
 module _ {E : Type 0} where
-  pub loaded_starts : (p : Parts) (t : Option Timetable) (r : Result Session E) → IfOk r (λ s. s ≡ opening_session p t) → IfOk (loaded_by r) (λ l. started p (Ok t) ≡ seen l)
-  loaded_starts p t (Ok s) is = ap Ok (sym is)
-  loaded_starts p t (Err e) is = tt
+  pub fetched_starts : (p : Parts) (t : Option Timetable) (r : Result Session E) → IfOk r (λ s. s ≡ opening_session p t) → IfOk (fetched_by r) (λ l. started p (Ok t) ≡ seen l)
+  fetched_starts p t (Ok s) is = ap Ok (sym is)
+  fetched_starts p t (Err e) is = tt
 
-  pub loaded_opens : (o : Result Session FaultyFile) (p : Parts) (t : Option Timetable) (r : Result Session E) → o ≡ Ok (opening_session p t) → IfOk r (λ s. s ≡ opening_session p t) → IfOk (loaded_by r) (λ l. o ≡ seen l)
-  loaded_opens o p t (Ok s) opens is = opens ∙ ap Ok (sym is)
-  loaded_opens o p t (Err e) opens is = tt
+  pub fetched_opens : (o : Result Session FaultyFile) (p : Parts) (t : Option Timetable) (r : Result Session E) → o ≡ Ok (opening_session p t) → IfOk r (λ s. s ≡ opening_session p t) → IfOk (fetched_by r) (λ l. o ≡ seen l)
+  fetched_opens o p t (Ok s) opens is = opens ∙ ap Ok (sym is)
+  fetched_opens o p t (Err e) opens is = tt
 
   -- no file has a fault
-  pub loaded_sound : (P : InputFault → Type 0) (r : Result Session E) → IfOk (loaded_by r) (λ l. IfErr l P)
-  loaded_sound P (Ok s) = tt
-  loaded_sound P (Err e) = tt
+  pub fetched_sound : (P : InputFault → Type 0) (r : Result Session E) → IfOk (fetched_by r) (λ l. IfErr l P)
+  fetched_sound P (Ok s) = tt
+  fetched_sound P (Err e) = tt
 
-  pub loaded_only : (r : Result Session E) → IfErr (loaded_by r) (λ end. end ≡ Memory)
-  loaded_only (Ok s) = tt
-  loaded_only (Err e) = refl
+  pub fetched_only : (r : Result Session E) → IfErr (fetched_by r) (λ end. end ≡ Memory)
+  fetched_only (Ok s) = tt
+  fetched_only (Err e) = refl
 
 -- ---- what comes last, and ends the run for want of memory alone
 

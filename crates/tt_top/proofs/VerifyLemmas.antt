@@ -17,9 +17,9 @@ use Rattle.tt_top.specs.declared.verify_run.Check.{Check}
 use Rattle.tt_top.specs.Words.{FileWords, verify_words}
 use Rattle.tt_top.specs.PlainRun.{PlainRun, Phase, text_of, ends, last_phase, problem_phase, timetable_phase, checking, solution_phase, check_phase, verify_run}
 use Rattle.tt_top.specs.Run.{Outside, IsFront, Follows, HasCauses, ReadsWithin, AsksInOrder, IsVerifyRun}
-use Rattle.tt_top.specs.Ends.{faulty_file, end_status, done_status, status_of, HasEndCause, Agrees, Loads}
+use Rattle.tt_top.specs.Ends.{faulty_file, end_status, done_status, status_of, HasEndCause, Agrees, Fetches}
 use Rattle.tt_top.specs.Checks.{check_text, check_status, check_run, check_seen}
-use Rattle.tt_top.proofs.LoadLemmas.{EndNames, names_then, names_problem, names_timetable, rest_within}
+use Rattle.tt_top.proofs.FetchLemmas.{EndNames, names_then, names_problem, names_timetable, rest_within}
 use Rattle.tt_top.proofs.EndLemmas.{at_most_one, three_or_four, end_is_no_usage, same_cause, done_cause, no_cause, other_end, has_causes, most_status, none_first}
 use Rattle.tt_top.proofs.FollowLemmas.{follows_whole, follows_part, follows_none, asks_early, asks_faulty, asks_all}
 
@@ -101,48 +101,48 @@ module _ (problem solution : List ℕ) (limit : ℕ) (o : Outside) where
 
   -- ---- before anything is written
 
-  module _ (e : End) (loads : Loads words limit o.holds o.now.left phase o.before.asked o.now.asked (Err e)) where
-    any_verify_run : (P : PlainRun → Type 0) → ((r : PlainRun) → IsFront loads.names r.names → P r) → IfSome (verify_run limit o.holds problem solution) P
+  module _ (e : End) (fetches : Fetches words limit o.holds o.now.left phase o.before.asked o.now.asked (Err e)) where
+    any_verify_run : (P : PlainRun → Type 0) → ((r : PlainRun) → IsFront fetches.names r.names → P r) → IfSome (verify_run limit o.holds problem solution) P
     any_verify_run P all =
-        any_last phase (λ r. IsFront loads.names r.names) P all loads.within
-        (if_ok phase (λ r. r.names ≡ both) (λ r. IsFront loads.names r.names) (λ r is. (loads.first.0, is ∙ loads.first.1)) (check_names limit o.holds problem solution))
+        any_last phase (λ r. IsFront fetches.names r.names) P all fetches.within
+        (if_ok phase (λ r. r.names ≡ both) (λ r. IsFront fetches.names r.names) (λ r is. (fetches.first.0, is ∙ fetches.first.1)) (check_names limit o.holds problem solution))
 
     pub unchecked_run : o.now.written ≡ o.before.written → o.now.sink ≡ o.before.sink → e ≢ Sink → HasEndCause {T = Result Check InputFault} Files o.before.files o.now.files (Err e) → IsVerifyRun problem solution limit o (end_status e)
     unchecked_run same kept no_sink files =
         let causes : HasCauses o (end_status e) = has_causes o (Err e) (same_cause Files _ _ e files) (other_end Sink e _ _ kept no_sink) in
-        is_verify_run loads.names (Err e) (by e refl causes) (asks_early words o phase (Err e) e (λ _. same) loads) causes (end_is_no_usage e) loads.reads
+        is_verify_run fetches.names (Err e) (by e refl causes) (asks_early words o phase (Err e) e (λ _. same) fetches) causes (end_is_no_usage e) fetches.reads
       where
-        by : (x : End) → e ≡ x → HasCauses o (end_status e) → IfSome (verify_run limit o.holds problem solution) (λ p. Follows p o loads.names (end_status e))
-        by Files is causes = any_verify_run _ (λ r front. follows_none o loads.names r e (λ long. cc (sym is ∙ long)) causes front same)
+        by : (x : End) → e ≡ x → HasCauses o (end_status e) → IfSome (verify_run limit o.holds problem solution) (λ p. Follows p o fetches.names (end_status e))
+        by Files is causes = any_verify_run _ (λ r front. follows_none o fetches.names r e (λ long. cc (sym is ∙ long)) causes front same)
         by Sink is causes = absurd (no_sink is)
-        by Memory is causes = any_verify_run _ (λ r front. follows_none o loads.names r e (λ long. cc (sym is ∙ long)) causes front same)
+        by Memory is causes = any_verify_run _ (λ r front. follows_none o fetches.names r e (λ long. cc (sym is ∙ long)) causes front same)
         by TooLong is causes =
-            told_last phase (ends loads.names [] 8) _ (rw is at loads.agrees) (follows_whole o loads.names (record { pieces = []; status = 8; names = loads.names }) (end_status e) (ap end_status is) refl (nothing_written _ _ same))
+            told_last phase (ends fetches.names [] 8) _ (rw is at fetches.agrees) (follows_whole o fetches.names (record { pieces = []; status = 8; names = fetches.names }) (end_status e) (ap end_status is) refl (nothing_written _ _ same))
 
   -- ---- where this was found
 
-  module _ (l : Result Check InputFault) (loads : Loads words limit o.holds o.now.left phase o.before.asked o.now.asked (check_seen both (Ok l))) (files : HasEndCause {T = Result Check InputFault} Files o.before.files o.now.files (Ok l)) where
+  module _ (l : Result Check InputFault) (fetches : Fetches words limit o.holds o.now.left phase o.before.asked o.now.asked (check_seen both (Ok l))) (files : HasEndCause {T = Result Check InputFault} Files o.before.files o.now.files (Ok l)) where
     -- it was written
     pub checked_run : (done : Done) → done_status done ≡ check_status l → Writes o.before.written o.now.written (check_text l) → o.now.sink ≡ o.before.sink → IsVerifyRun problem solution limit o (done_status done)
-    checked_run done is all kept = by l loads (has_causes o (Ok done) (done_cause Files _ _ l done files) (record { rose = λ is. absurd cc; same = λ _. kept })) is all
+    checked_run done is all kept = by l fetches (has_causes o (Ok done) (done_cause Files _ _ l done files) (record { rose = λ is. absurd cc; same = λ _. kept })) is all
       where
-        by : (l : Result Check InputFault) → Loads words limit o.holds o.now.left phase o.before.asked o.now.asked (check_seen both (Ok l)) → HasCauses o (done_status done) → done_status done ≡ check_status l → Writes o.before.written o.now.written (check_text l) → IsVerifyRun problem solution limit o (done_status done)
-        by (Ok c) loads causes is all =
+        by : (l : Result Check InputFault) → Fetches words limit o.holds o.now.left phase o.before.asked o.now.asked (check_seen both (Ok l)) → HasCauses o (done_status done) → done_status done ≡ check_status l → Writes o.before.written o.now.written (check_text l) → IsVerifyRun problem solution limit o (done_status done)
+        by (Ok c) fetches causes is all =
             let one : check_status (Ok c) ≤ 1 = at_most_one c.violations in
             let few : done_status done ≤ 1 = omega (arith, one, is) in
-            is_verify_run loads.names (Ok done) (told_last phase (Ok (check_run both c)) _ loads.agrees (follows_whole o loads.names (check_run both c) (done_status done) is loads.each (rw (append-nil c.reply) all)))
-            (asks_all words o phase (check_run both c) (done_status done) refl few loads) causes (λ two. omega (arith, few, two)) loads.reads
-        by (Err f) loads causes is all =
+            is_verify_run fetches.names (Ok done) (told_last phase (Ok (check_run both c)) _ fetches.agrees (follows_whole o fetches.names (check_run both c) (done_status done) is fetches.each (rw (append-nil c.reply) all)))
+            (asks_all words o phase (check_run both c) (done_status done) refl few fetches) causes (λ two. omega (arith, few, two)) fetches.reads
+        by (Err f) fetches causes is all =
             let line = (faulty_file f).line in
-            let asks : AsksInOrder words o loads.names (done_status done) = rw is (asks_faulty words o phase f loads) in
-            is_verify_run loads.names (Ok done)
-            (told_last phase (ends loads.names (line ∷ []) (check_status (Err f))) _ loads.agrees (follows_whole o loads.names (record { pieces = line ∷ []; status = check_status (Err f); names = loads.names }) (done_status done) is refl (rw (append-nil line) all)))
-            asks causes (λ two. let three = (three_or_four f.input).0 in omega (arith, three, is, two)) loads.reads
+            let asks : AsksInOrder words o fetches.names (done_status done) = rw is (asks_faulty words o phase f fetches) in
+            is_verify_run fetches.names (Ok done)
+            (told_last phase (ends fetches.names (line ∷ []) (check_status (Err f))) _ fetches.agrees (follows_whole o fetches.names (record { pieces = line ∷ []; status = check_status (Err f); names = fetches.names }) (done_status done) is refl (rw (append-nil line) all)))
+            asks causes (λ two. let three = (three_or_four f.input).0 in omega (arith, three, is, two)) fetches.reads
 
     -- it wasn't written whole
     pub unwritten_run : (e : End) → (e ≡ Memory → o.now.written ≡ o.before.written) → WritesFront o.before.written o.now.written (check_text l) → e ≢ Files → e ≢ TooLong → HasEndCause {T = Unit {0}} Sink o.before.sink o.now.sink (Err e) → IsVerifyRun problem solution limit o (end_status e)
     unwritten_run e memory front no_files no_limit sink =
-        by l loads (has_causes o (Err e) (no_cause Files e _ _ l files no_files) (same_cause Sink _ _ e sink)) front
+        by l fetches (has_causes o (Err e) (no_cause Files e _ _ l files no_files) (same_cause Sink _ _ e sink)) front
       where
         kept : e ≢ Sink → o.now.written ≡ o.before.written
         kept ne = by e memory no_files no_limit ne
@@ -156,14 +156,14 @@ module _ (problem solution : List ℕ) (limit : ℕ) (o : Outside) where
         part : (names : List (List ℕ)) (r : PlainRun) → HasCauses o (end_status e) → IsFront names r.names → WritesFront o.before.written o.now.written (text_of r) → Follows r o names (end_status e)
         part names r causes asked front = follows_part o names r e no_limit causes asked front (λ ne. none_first _ _ r.pieces (kept ne))
 
-        by : (l : Result Check InputFault) → Loads words limit o.holds o.now.left phase o.before.asked o.now.asked (check_seen both (Ok l)) → HasCauses o (end_status e) → WritesFront o.before.written o.now.written (check_text l) → IsVerifyRun problem solution limit o (end_status e)
-        by (Ok c) loads causes front =
-            is_verify_run loads.names (Err e)
-            (told_last phase (Ok (check_run both c)) _ loads.agrees (part loads.names (check_run both c) causes ([], sym loads.each ∙ sym (append-nil loads.names)) (WritesFront-first _ _ c.reply [] front)))
-            (asks_early words o phase (Ok (Ok (check_run both c))) e kept loads) causes (end_is_no_usage e) loads.reads
-        by (Err f) loads causes front =
+        by : (l : Result Check InputFault) → Fetches words limit o.holds o.now.left phase o.before.asked o.now.asked (check_seen both (Ok l)) → HasCauses o (end_status e) → WritesFront o.before.written o.now.written (check_text l) → IsVerifyRun problem solution limit o (end_status e)
+        by (Ok c) fetches causes front =
+            is_verify_run fetches.names (Err e)
+            (told_last phase (Ok (check_run both c)) _ fetches.agrees (part fetches.names (check_run both c) causes ([], sym fetches.each ∙ sym (append-nil fetches.names)) (WritesFront-first _ _ c.reply [] front)))
+            (asks_early words o phase (Ok (Ok (check_run both c))) e kept fetches) causes (end_is_no_usage e) fetches.reads
+        by (Err f) fetches causes front =
             let line = (faulty_file f).line in
-            is_verify_run loads.names (Err e)
-            (told_last phase (ends loads.names (line ∷ []) (check_status (Err f))) _ loads.agrees
-            (part loads.names (record { pieces = line ∷ []; status = check_status (Err f); names = loads.names }) causes ([], sym (append-nil loads.names)) (WritesFront-first _ _ line [] front)))
-            (asks_early words o phase (Ok (Err f)) e kept loads) causes (end_is_no_usage e) loads.reads
+            is_verify_run fetches.names (Err e)
+            (told_last phase (ends fetches.names (line ∷ []) (check_status (Err f))) _ fetches.agrees
+            (part fetches.names (record { pieces = line ∷ []; status = check_status (Err f); names = fetches.names }) causes ([], sym (append-nil fetches.names)) (WritesFront-first _ _ line [] front)))
+            (asks_early words o phase (Ok (Err f)) e kept fetches) causes (end_is_no_usage e) fetches.reads

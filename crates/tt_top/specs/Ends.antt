@@ -130,7 +130,7 @@ IsAsked words names (Err end) = ⊤
 
 -- The names asked for before the script are the first of these words, also of those that the plain run asks for, and no
 -- more is read of them than may be.
-pub record Loads {A : Type 0} (words : FileWords) (limit : ℕ) (holds : List ℕ → Option (List ℕ)) (left : Option (List ℕ)) (phase : Phase A) (before now : Option (List (List ℕ))) (result : Result (Result A InputFault) End) : Type 0 where
+pub record Fetches {A : Type 0} (words : FileWords) (limit : ℕ) (holds : List ℕ → Option (List ℕ)) (left : Option (List ℕ)) (phase : Phase A) (before now : Option (List (List ℕ))) (result : Result (Result A InputFault) End) : Type 0 where
   pub names : List (List ℕ)
   pub asked : AsksAll before now names
   pub some : 0 < length names

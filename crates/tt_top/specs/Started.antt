@@ -1,4 +1,4 @@
--- Proof. What is loaded where a session was to be started.
+-- Proof. What is fetched where a session was to be started.
 use Rattle.std.specs.Prelude.{Result, Ok, Err}
 use Rattle.tt_desk.specs.Desk.{Session}
 use Rattle.tt_top.specs.declared.end.End.{End}
@@ -6,6 +6,6 @@ use Rattle.tt_top.specs.declared.end.End.TheVariants.{Memory}
 use Rattle.tt_top.specs.declared.end.InputFault.{InputFault}
 
 -- the session, unless memory is wanting
-abbrev pub loaded_by : {E : Type 0} → Result Session E → Result (Result Session InputFault) End
-loaded_by (Ok s) = Ok (Ok s)
-loaded_by (Err e) = Err Memory
+abbrev pub fetched_by : {E : Type 0} → Result Session E → Result (Result Session InputFault) End
+fetched_by (Ok s) = Ok (Ok s)
+fetched_by (Err e) = Err Memory

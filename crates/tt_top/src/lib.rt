@@ -6,9 +6,9 @@
 #![tactic(auto)]
 
 mod end;
+mod fetch;
 mod file_run;
 mod form;
-mod load;
 mod outside;
 mod pieces;
 mod plain_run;

@@ -6,12 +6,12 @@ ghost use Rattle.tt_io.specs.Whole.{WritesFront};
 ghost use Rattle.tt_published.specs.Timetable.{IsTimetableOf};
 ghost use Rattle.tt_top.specs.PlainRun.{check_phase, checking, solution_phase};
 ghost use Rattle.tt_top.specs.Run.{HasAtMost, IsReadAtMost, IsVerifyRun, left_open};
-ghost use Rattle.tt_top.specs.Ends.{Agrees, HasEndCause, Loads, done_status, outside_of, status_of};
+ghost use Rattle.tt_top.specs.Ends.{Agrees, Fetches, HasEndCause, done_status, outside_of, status_of};
 ghost use Rattle.tt_top.specs.Checks.{check_run, check_seen, check_status, check_text};
 ghost use Rattle.tt_top.specs.Words.{verify_words};
 
-use crate::end::{Done, End, Input, Loaded};
-use crate::load::{load_problem, load_timetable};
+use crate::end::{Done, End, Fetched, Input};
+use crate::fetch::{fetch_problem, fetch_timetable};
 use crate::outside::Outside;
 use crate::reply::put_fault;
 use crate::serve::hand_on;
@@ -48,7 +48,7 @@ fn check_solution<F: Files>(
     problem: &Problem,
     solution: &str,
     files: &mut F,
-) -> Result<Loaded<Check>, End>
+) -> Result<Fetched<Check>, End>
     ensures agrees { (names : List (List ℕ))
         → Agrees names (solution_phase limit (F.holds files.old) names problem.now solution.now)
         (check_seen names result) }
@@ -60,7 +60,7 @@ fn check_solution<F: Files>(
     ensures asks { Asks (F.asked files.old) (F.asked files.new) solution.now }
     ensures cause { HasEndCause End.Files (F.faults files.old) (F.faults files.new) result }
 {
-    match load_timetable(limit, alloc, problem, solution, files)? {
+    match fetch_timetable(limit, alloc, problem, solution, files)? {
         Ok(timetable) => Ok(Ok(found(alloc, problem, &timetable)?)),
         Err(fault) => Ok(Err(fault)),
     }
@@ -73,22 +73,22 @@ fn check_files<F: Files>(
     problem: &str,
     solution: &str,
     files: &mut F,
-) -> Result<Loaded<Check>, End>
-    ensures checks { Loads (verify_words problem.now solution.now) limit (F.holds files.old)
+) -> Result<Fetched<Check>, End>
+    ensures checks { Fetches (verify_words problem.now solution.now) limit (F.holds files.old)
         (left_open (F.is_open files.new) (F.left files.new))
         (check_phase limit (F.holds files.old) problem.now solution.now) (F.asked files.old)
         (F.asked files.new) (check_seen (problem.now ∷ solution.now ∷ []) result) }
     ensures no_sink { result ≢ Err End.Sink }
     ensures cause { HasEndCause End.Files (F.faults files.old) (F.faults files.new) result }
 {
-    match load_problem(limit, alloc, problem, files)? {
+    match fetch_problem(limit, alloc, problem, files)? {
         Ok(problem) => check_solution(limit, alloc, &problem, solution, files),
         Err(fault) => Ok(Err(fault)),
     }
 }
 
 // Writes what was found, or the line on the fault of a file.
-fn write_check<S: Sink>(alloc: Global, check: &Loaded<Check>, out: &mut S) -> Result<(), End>
+fn write_check<S: Sink>(alloc: Global, check: &Fetched<Check>, out: &mut S) -> Result<(), End>
     ensures written { OnOk result
         (Writes (S.written out.old) (S.written out.new) (check_text check.now)) }
     ensures memory { result ≡ Err End.Memory → S.written out.new ≡ S.written out.old }
@@ -108,7 +108,7 @@ fn write_check<S: Sink>(alloc: Global, check: &Loaded<Check>, out: &mut S) -> Re
 }
 
 // How the run is done where this was written.
-fn done_of(check: &Loaded<Check>) -> Done
+fn done_of(check: &Fetched<Check>) -> Done
     ensures { done_status result ≡ check_status check.now }
 {
     match check {

@@ -1,7 +1,7 @@
 use Rattle.std.proofs.Common.{Ok, refl}
 use Rattle.tt_base.proofs.ResultLemmas.{handed_on}
 use Rattle.tt_top.specs.PlainRun.{timetable_phase, checking}
-use Rattle.tt_top.proofs.LoadLemmas.{faulty_first, ended_first}
+use Rattle.tt_top.proofs.FetchLemmas.{faulty_first, ended_first}
 use Rattle.tt_top.proofs.VerifyLemmas.{found_agrees}
 use Rattle.tt_top.proofs.verify_run.check_solution.Goals as goal
 

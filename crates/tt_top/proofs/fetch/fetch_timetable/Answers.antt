@@ -4,9 +4,9 @@ use Rattle.tt_io.specs.Causes.{most_read}
 use Rattle.tt_solution.specs.Tables.{published_of}
 use Rattle.tt_top.specs.Opening.{timetable_read}
 use Rattle.tt_top.specs.Ends.{seen}
-use Rattle.tt_top.proofs.LoadLemmas.{read_agrees, unread_agrees, some_bytes}
+use Rattle.tt_top.proofs.FetchLemmas.{read_agrees, unread_agrees, some_bytes}
 use Rattle.tt_top.proofs.ReadLemmas.{held_told, read_told, within_read}
-use Rattle.tt_top.proofs.load.load_timetable.Goals as goal
+use Rattle.tt_top.proofs.fetch.fetch_timetable.Goals as goal
 
 pub returns-clause-agrees : goal.returns-clause-agrees
 returns-clause-agrees g c = λ names.

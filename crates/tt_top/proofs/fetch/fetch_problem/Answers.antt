@@ -4,9 +4,9 @@ use Rattle.tt_io.specs.Causes.{most_read}
 use Rattle.tt_read.specs.Tables.{problem_of}
 use Rattle.tt_top.specs.Opening.{problem_read}
 use Rattle.tt_top.specs.Ends.{seen}
-use Rattle.tt_top.proofs.LoadLemmas.{read_agrees, unread_agrees, some_bytes}
+use Rattle.tt_top.proofs.FetchLemmas.{read_agrees, unread_agrees, some_bytes}
 use Rattle.tt_top.proofs.ReadLemmas.{held_told, read_told, within_read}
-use Rattle.tt_top.proofs.load.load_problem.Goals as goal
+use Rattle.tt_top.proofs.fetch.fetch_problem.Goals as goal
 
 pub returns-clause-agrees : goal.returns-clause-agrees
 returns-clause-agrees g c =

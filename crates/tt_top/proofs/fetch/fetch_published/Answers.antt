@@ -1,8 +1,8 @@
 use Rattle.std.proofs.Common.{Some, Ok, refl}
 use Rattle.tt_base.proofs.ResultLemmas.{handed_on}
 use Rattle.tt_top.specs.PlainRun.{timetable_phase}
-use Rattle.tt_top.proofs.LoadLemmas.{made_agrees, faulty_first, ended_first, published_some, published_fault}
-use Rattle.tt_top.proofs.load.load_published.Goals as goal
+use Rattle.tt_top.proofs.FetchLemmas.{made_agrees, faulty_first, ended_first, published_some, published_fault}
+use Rattle.tt_top.proofs.fetch.fetch_published.Goals as goal
 
 pub returns-in-Ok-clause-agrees : goal.returns-in-Ok-clause-agrees
 returns-in-Ok-clause-agrees g c = λ names.
