@@ -21,7 +21,7 @@ pub struct Weeks {
 
 impl Weeks {
     ghost use Rattle.tt_bits.specs.Sets.{week_set, set_text, weeks_text, weeks_word};
-    ghost use Rattle.tt_bits.specs.Words.{word_set};
+    ghost use Rattle.tt_bits.specs.BitWords.{word_set};
 
     /// The weeks of a text of `n` characters 0 and 1, as in the format of ITC 2019: the leftmost
     /// is for week 0, and a 1 says that the week is in the set. `None` where the length is

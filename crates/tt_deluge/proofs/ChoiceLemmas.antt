@@ -11,31 +11,31 @@ use Rattle.tt_problem.specs.declared.parts.Parts.{Parts}
 use Rattle.tt_problem.specs.ListLengths.{spans_at}
 use Rattle.tt_problem.specs.Spans.{IsSpanWithin}
 use Rattle.tt_struct.proofs.SpanWalks.{from, next_span, nth_place}
-use Rattle.tt_draw.specs.Words.{drawn, drawn_place}
+use Rattle.tt_draw.specs.Draws.{drawn, drawn_place}
 use Rattle.tt_deluge.specs.Draws.{by_item, draw_next}
 use Rattle.tt_deluge.specs.StudentRounds.{configurations_of, drawn_choice, fitting}
 
 module _ (p : Parts) (rest : List ℕ) where
   -- what a choice goes on with, once a class of a subpart is drawn
   abbrev goes_on : (so_far : List ℕ) (place after : ℕ) → ℕ → Stream → Option (List ℕ) × Stream
-  goes_on so_far place after class words = drawn_choice p rest (so_far ++ class ∷ []) (spans_at p.subparts (from (place + 1) after)) words
+  goes_on so_far place after class random = drawn_choice p rest (so_far ++ class ∷ []) (spans_at p.subparts (from (place + 1) after)) random
 
-  next_subpart : (so_far : List ℕ) (place after : ℕ) (subpart : Span) (words : Stream) → place < after → slice_get p.subparts place ≡ Some subpart
-      → drawn_choice p rest so_far (spans_at p.subparts (from place after)) words ≡ by_item (goes_on so_far place after) words (drawn (next_u32 words).0 (fitting p (rest ++ so_far) subpart))
-  next_subpart so_far place after subpart words lt is = ap (λ (spans : List Span). drawn_choice p rest so_far spans words) (next_span p.subparts place after subpart lt is)
+  next_subpart : (so_far : List ℕ) (place after : ℕ) (subpart : Span) (random : Stream) → place < after → slice_get p.subparts place ≡ Some subpart
+      → drawn_choice p rest so_far (spans_at p.subparts (from place after)) random ≡ by_item (goes_on so_far place after) random (drawn (next_u32 random).0 (fitting p (rest ++ so_far) subpart))
+  next_subpart so_far place after subpart random lt is = ap (λ (spans : List Span). drawn_choice p rest so_far spans random) (next_span p.subparts place after subpart lt is)
 
   -- where none fits, the choice ends
-  pub choice_stops : (so_far : List ℕ) (place after : ℕ) (subpart : Span) (words left : Stream) (all : Option (List ℕ) × Stream) → place < after → slice_get p.subparts place ≡ Some subpart
-      → None ≡ drawn (next_u32 words).0 (fitting p (rest ++ so_far) subpart) → left ≡ words → all ≡ drawn_choice p rest so_far (spans_at p.subparts (from place after)) words → all ≡ (None, left)
-  choice_stops so_far place after subpart words left all lt is none same so =
-      so ∙ next_subpart so_far place after subpart words lt is ∙ ap (by_item (goes_on so_far place after) words) (sym none) ∙ ap (λ (w : Stream). (None, w)) (sym same)
+  pub choice_stops : (so_far : List ℕ) (place after : ℕ) (subpart : Span) (random left : Stream) (all : Option (List ℕ) × Stream) → place < after → slice_get p.subparts place ≡ Some subpart
+      → None ≡ drawn (next_u32 random).0 (fitting p (rest ++ so_far) subpart) → left ≡ random → all ≡ drawn_choice p rest so_far (spans_at p.subparts (from place after)) random → all ≡ (None, left)
+  choice_stops so_far place after subpart random left all lt is none same so =
+      so ∙ next_subpart so_far place after subpart random lt is ∙ ap (by_item (goes_on so_far place after) random) (sym none) ∙ ap (λ (w : Stream). (None, w)) (sym same)
 
   -- else it goes on with the class that is drawn
-  pub choice_goes : (so_far : List ℕ) (place after class : ℕ) (subpart : Span) (words left : Stream) (all : Option (List ℕ) × Stream) → place < after → slice_get p.subparts place ≡ Some subpart
-      → Some class ≡ drawn (next_u32 words).0 (fitting p (rest ++ so_far) subpart) → left ≡ (next_u32 words).1 → all ≡ drawn_choice p rest so_far (spans_at p.subparts (from place after)) words
+  pub choice_goes : (so_far : List ℕ) (place after class : ℕ) (subpart : Span) (random left : Stream) (all : Option (List ℕ) × Stream) → place < after → slice_get p.subparts place ≡ Some subpart
+      → Some class ≡ drawn (next_u32 random).0 (fitting p (rest ++ so_far) subpart) → left ≡ (next_u32 random).1 → all ≡ drawn_choice p rest so_far (spans_at p.subparts (from place after)) random
       → all ≡ drawn_choice p rest (so_far ++ class ∷ []) (spans_at p.subparts (from (place + 1) after)) left
-  choice_goes so_far place after class subpart words left all lt is some next so =
-      so ∙ next_subpart so_far place after subpart words lt is ∙ ap (by_item (goes_on so_far place after) words) (sym some) ∙ ap (goes_on so_far place after class) (sym next)
+  choice_goes so_far place after class subpart random left all lt is some next so =
+      so ∙ next_subpart so_far place after subpart random lt is ∙ ap (by_item (goes_on so_far place after) random) (sym some) ∙ ap (goes_on so_far place after class) (sym next)
 
 -- the configurations of a course, by the part that it is
 pub configurations_are : (p : Parts) (course : ℕ) (part : CoursePart) → slice_get p.courses course ≡ Some part → configurations_of p course ≡ map (spans_at p.subparts) (spans_at p.configs part.configs)
@@ -43,10 +43,10 @@ unfolding configurations_of
 configurations_are p course part is = ap (λ (o : Option CoursePart). option_map_or (λ (x : CoursePart). map (spans_at p.subparts) (spans_at p.configs x.configs)) o []) is
 
 -- the configuration that is drawn
-pub config_drawn : (p : Parts) (course : ℕ) (part : CoursePart) (place : ℕ) (words left : Stream) (config : Span) → slice_get p.courses course ≡ Some part → IsSpanWithin (length p.configs) part.configs
-    → (place, left) ≡ draw_next (part.configs.after - part.configs.first) words → place < part.configs.after - part.configs.first → slice_get p.configs (part.configs.first + place) ≡ Some config
-    → drawn (next_u32 words).0 (configurations_of p course) ≡ Some (spans_at p.subparts config)
-config_drawn p course part place words left config is within next below at =
+pub config_drawn : (p : Parts) (course : ℕ) (part : CoursePart) (place : ℕ) (random left : Stream) (config : Span) → slice_get p.courses course ≡ Some part → IsSpanWithin (length p.configs) part.configs
+    → (place, left) ≡ draw_next (part.configs.after - part.configs.first) random → place < part.configs.after - part.configs.first → slice_get p.configs (part.configs.first + place) ≡ Some config
+    → drawn (next_u32 random).0 (configurations_of p course) ≡ Some (spans_at p.subparts config)
+config_drawn p course part place random left config is within next below at =
     let xs = spans_at p.configs part.configs in
     let count = part.configs.after - part.configs.first in
     let long : length xs ≡ count = omega (arith, length-take count (drop part.configs.first p.configs), length-drop part.configs.first p.configs, within.within, within.some) in
@@ -54,8 +54,8 @@ config_drawn p course part place words left config is within next below at =
     let here : config ≡ get_or xs place config = sym (there.2 ∙ get_or_from_slice_get p.configs (part.configs.first + place) config config at) in
     let got : slice_get xs place ≡ Some config = slice_get_read xs (length xs) place config refl (omega (arith, long, below)) here in
     let many : length (map (spans_at p.subparts) xs) ≡ count = length-map xs (spans_at p.subparts) ∙ long in
-    let place_is : place ≡ drawn_place (next_u32 words).0 count = ap (λ (d : ℕ × Stream). d.0) next in
-    ap (drawn (next_u32 words).0) (configurations_are p course part is)
-    ∙ ap (λ (n : ℕ). slice_get (map (spans_at p.subparts) xs) (drawn_place (next_u32 words).0 n)) many
+    let place_is : place ≡ drawn_place (next_u32 random).0 count = ap (λ (d : ℕ × Stream). d.0) next in
+    ap (drawn (next_u32 random).0) (configurations_are p course part is)
+    ∙ ap (λ (n : ℕ). slice_get (map (spans_at p.subparts) xs) (drawn_place (next_u32 random).0 n)) many
     ∙ ap (slice_get (map (spans_at p.subparts) xs)) (sym place_is)
     ∙ slice_get-map (spans_at p.subparts) xs place ∙ ap (option_map (spans_at p.subparts)) got

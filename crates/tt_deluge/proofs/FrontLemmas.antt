@@ -26,5 +26,5 @@ front-get xs ys k s begins is =
     sym (get-take ys (length xs) k (slice_get_within xs k s is)) ∙ ap (λ (l : List Snapshot). slice_get l k) begins ∙ is
 
 -- going back to the last place of the front gives the front
-pub front-back : (xs ys : List Snapshot) (mark : ℕ) → BeginsWith xs ys → mark + 1 ≡ length xs → take (mark + 1) ys ≡ xs
-front-back xs ys mark begins last = ap (λ (n : ℕ). take n ys) last ∙ begins
+pub front-back : (xs ys : List Snapshot) (place : ℕ) → BeginsWith xs ys → place + 1 ≡ length xs → take (place + 1) ys ≡ xs
+front-back xs ys place begins last = ap (λ (n : ℕ). take n ys) last ∙ begins

@@ -31,18 +31,18 @@ lesser : (p : Parts) (a b : DelugeMoment) → is_less (by_total p) a b ≡ nat_l
 lesser p a b = one_number (total_of p a.snapshot) (total_of p b.snapshot)
 
 -- a round that makes this change, or none
-pub round-leads : (p : Parts) (o : Targets) (first rounds i : ℕ) (s t : Snapshot) (changed level : ℕ) (words left : Stream) (made : Bool) → level ≡ level_at first rounds i (total_of p s)
-    → made_within p level (found_by p o s words).0 ≡ cond made (Some t) None → (made ≡ false → t ≡ s) → left ≡ (found_by p o s words).1
-    → after_round p o first rounds i (moment_of s changed words) ≡ moment_of t (changed + cond made 1 0) left
-round-leads p o first rounds i s t changed level words left made level_is change still words_are =
-    let m : DelugeMoment = moment_of s changed words in
-    let found : Option Snapshot × Stream = found_by p o s words in
+pub round-leads : (p : Parts) (o : Targets) (first rounds i : ℕ) (s t : Snapshot) (changed level : ℕ) (random left : Stream) (made : Bool) → level ≡ level_at first rounds i (total_of p s)
+    → made_within p level (found_by p o s random).0 ≡ cond made (Some t) None → (made ≡ false → t ≡ s) → left ≡ (found_by p o s random).1
+    → after_round p o first rounds i (moment_of s changed random) ≡ moment_of t (changed + cond made 1 0) left
+round-leads p o first rounds i s t changed level random left made level_is change still random_is =
+    let m : DelugeMoment = moment_of s changed random in
+    let found : Option Snapshot × Stream = found_by p o s random in
     ap (λ (l : ℕ). moment_with m (made_within p l found.0) found.1) (sym level_is)
     ∙ ap (λ (c : Option Snapshot). moment_with m c found.1) change
-    ∙ ap (moment_with m (cond made (Some t) None)) (sym words_are)
+    ∙ ap (moment_with m (cond made (Some t) None)) (sym random_is)
     ∙ by made still
   where
-    by : (b : Bool) → (b ≡ false → t ≡ s) → moment_with (moment_of s changed words) (cond b (Some t) None) left ≡ moment_of t (changed + cond b 1 0) left
+    by : (b : Bool) → (b ≡ false → t ≡ s) → moment_with (moment_of s changed random) (cond b (Some t) None) left ≡ moment_of t (changed + cond b 1 0) left
     by true still = refl
     by false still =
         let none : changed ≡ changed + 0 = omega arith in
@@ -64,20 +64,20 @@ last-moments p o first rounds i m past =
     ap (λ (n : ℕ). moments_after p o first rounds n i m) none
 
 -- before the first round
-pub pour-start : (p : Parts) (o : Targets) (rounds seed first : ℕ) (s : Snapshot) (trail : List Snapshot) (words : Stream) (best : Kept) → o ≡ targets_at p s → first ≡ total_of p s → IsMomentOf p s trail best → best.changed ≡ 0 → moment_of s 0 words ≡ first_moment seed s
-    → IsPouring p s trail (moments_after p o first rounds (rounds - 0) 0 (moment_of s best.changed words)) best (best_moment p rounds seed s)
+pub pour-start : (p : Parts) (o : Targets) (rounds seed first : ℕ) (s : Snapshot) (trail : List Snapshot) (random : Stream) (best : Kept) → o ≡ targets_at p s → first ≡ total_of p s → IsMomentOf p s trail best → best.changed ≡ 0 → moment_of s 0 random ≡ first_moment seed s
+    → IsPouring p s trail (moments_after p o first rounds (rounds - 0) 0 (moment_of s best.changed random)) best (best_moment p rounds seed s)
 unfolding best_moment
-pour-start p o rounds seed first s trail words best targets first_is moment none begins =
+pour-start p o rounds seed first s trail random best targets first_is moment none begins =
     let whole : rounds - 0 ≡ rounds = omega arith in
-    let at : moment_of s best.changed words ≡ first_moment seed s = ap (λ (n : ℕ). moment_of s n words) none ∙ begins in
+    let at : moment_of s best.changed random ≡ first_moment seed s = ap (λ (n : ℕ). moment_of s n random) none ∙ begins in
     let ends : (o : Targets) (first n : ℕ) (m : DelugeMoment) → DelugeMoment = λ (o : Targets) (first n : ℕ) (m : DelugeMoment). best_of (is_less (by_total p)) m (moments_after p o first rounds n 0 m) in
     record {
       now = s;
-      words = words;
+      random = random;
       moment = moment;
-      ends = ap (λ (o : Targets). ends o first (rounds - 0) (moment_of s best.changed words)) targets
-          ∙ ap (λ (n : ℕ). ends (targets_at p s) n (rounds - 0) (moment_of s best.changed words)) first_is
-          ∙ ap (λ (n : ℕ). ends (targets_at p s) (total_of p s) n (moment_of s best.changed words)) whole
+      ends = ap (λ (o : Targets). ends o first (rounds - 0) (moment_of s best.changed random)) targets
+          ∙ ap (λ (n : ℕ). ends (targets_at p s) n (rounds - 0) (moment_of s best.changed random)) first_is
+          ∙ ap (λ (n : ℕ). ends (targets_at p s) (total_of p s) n (moment_of s best.changed random)) whole
           ∙ ap (ends (targets_at p s) (total_of p s) rounds) at;
       fallen = inl (none, refl);
       stands = stands-same p s;
@@ -89,16 +89,16 @@ takes : (p : Parts) (m next : DelugeMoment) (rest : List DelugeMoment) (b : Bool
 takes p m next rest b is = ap (λ (c : Bool). best_of (is_less (by_total p)) (cond c next m) rest) (lesser p next m ∙ is)
 
 moved-on : (p : Parts) (s : Snapshot) (kept : Kept) (front whole : List Snapshot) → BeginsWith front whole → IsMomentOf p s front kept → IsMomentOf p s whole kept
-moved-on p s kept front whole begins is = record { total = is.total; small = is.small; at = front-get front whole kept.mark s begins is.at }
+moved-on p s kept front whole begins is = record { total = is.total; small = is.small; at = front-get front whole kept.place s begins is.at }
 
-pour-by : (p : Parts) (s t : Snapshot) (front whole : List Snapshot) (ahead : List DelugeMoment) (best kept : Kept) (words : Stream) (end : DelugeMoment) (b : Bool)
-    → (way : IsPouring p s front (moment_of t kept.changed words ∷ ahead) best end) → nat_lt (total_of p t) (total_of p way.now) ≡ b → BeginsWith front whole → IsMomentOf p t whole kept → StandsAs p s t → (kept.changed ≡ 0 → t ≡ s)
+pour-by : (p : Parts) (s t : Snapshot) (front whole : List Snapshot) (ahead : List DelugeMoment) (best kept : Kept) (random : Stream) (end : DelugeMoment) (b : Bool)
+    → (way : IsPouring p s front (moment_of t kept.changed random ∷ ahead) best end) → nat_lt (total_of p t) (total_of p way.now) ≡ b → BeginsWith front whole → IsMomentOf p t whole kept → StandsAs p s t → (kept.changed ≡ 0 → t ≡ s)
     → IsPouring p s whole ahead (if b then kept else best) end
-pour-by p s t front whole ahead best kept words end true way less begins moment stands still = record {
+pour-by p s t front whole ahead best kept random end true way less begins moment stands still = record {
   now = t;
-  words = words;
+  random = random;
   moment = moment;
-  ends = sym (takes p (moment_of way.now best.changed way.words) (moment_of t kept.changed words) ahead true less) ∙ way.ends;
+  ends = sym (takes p (moment_of way.now best.changed way.random) (moment_of t kept.changed random) ahead true less) ∙ way.ends;
   fallen = inr (some, below);
   stands = stands;
 }
@@ -115,25 +115,25 @@ pour-by p s t front whole ahead best kept words end true way less begins moment 
         positive : (n : ℕ) → (n ≡ 0 → ⊥) → 0 < n
         positive zero any = absurd (any refl)
         positive (suc n) any = omega arith
-pour-by p s t front whole ahead best kept words end false way less begins moment stands still = record {
+pour-by p s t front whole ahead best kept random end false way less begins moment stands still = record {
   now = way.now;
-  words = way.words;
+  random = way.random;
   moment = moved-on p way.now best front whole begins way.moment;
-  ends = sym (takes p (moment_of way.now best.changed way.words) (moment_of t kept.changed words) ahead false less) ∙ way.ends;
+  ends = sym (takes p (moment_of way.now best.changed way.random) (moment_of t kept.changed random) ahead false less) ∙ way.ends;
   fallen = way.fallen;
   stands = way.stands;
 }
 
 -- a round that is made
-pub pour-on : (p : Parts) (s t : Snapshot) (front whole : List Snapshot) (ahead : List DelugeMoment) (best kept : Kept) (words : Stream) (end : DelugeMoment)
-    → IsPouring p s front (moment_of t kept.changed words ∷ ahead) best end → BeginsWith front whole → IsMomentOf p t whole kept → StandsAs p s t → (kept.changed ≡ 0 → t ≡ s)
+pub pour-on : (p : Parts) (s t : Snapshot) (front whole : List Snapshot) (ahead : List DelugeMoment) (best kept : Kept) (random : Stream) (end : DelugeMoment)
+    → IsPouring p s front (moment_of t kept.changed random ∷ ahead) best end → BeginsWith front whole → IsMomentOf p t whole kept → StandsAs p s t → (kept.changed ≡ 0 → t ≡ s)
     → IsPouring p s whole ahead (if nat_lt kept.total best.total then kept else best) end
-pour-on p s t front whole ahead best kept words end way begins moment stands still =
+pour-on p s t front whole ahead best kept random end way begins moment stands still =
     let same : nat_lt (total_of p t) (total_of p way.now) ≡ nat_lt kept.total best.total = ap (λ (n : ℕ). nat_lt n (total_of p way.now)) (sym moment.total) ∙ ap (nat_lt kept.total) (sym way.moment.total) in
-    pour-by p s t front whole ahead best kept words end (nat_lt kept.total best.total) way same begins moment stands still
+    pour-by p s t front whole ahead best kept random end (nat_lt kept.total best.total) way same begins moment stands still
 
 -- where the way ends
-pub pour-end : (p : Parts) (s t : Snapshot) (trail : List Snapshot) (best : Kept) (end : DelugeMoment) → (way : IsPouring p s trail [] best end) → slice_get trail best.mark ≡ Some t → t ≡ way.now
+pub pour-end : (p : Parts) (s t : Snapshot) (trail : List Snapshot) (best : Kept) (end : DelugeMoment) → (way : IsPouring p s trail [] best end) → slice_get trail best.place ≡ Some t → t ≡ way.now
 pour-end p s t trail best end way is = let both : Some t ≡ Some way.now = sym is ∙ way.moment.at in cc both
 
 pub deluged-end : (p : Parts) (rounds seed : ℕ) (s t : Snapshot) (trail : List Snapshot) (best : Kept) → (way : IsPouring p s trail [] best (best_moment p rounds seed s)) → t ≡ way.now → are_none (targets_at p s) ≡ false

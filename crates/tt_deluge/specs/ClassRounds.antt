@@ -93,9 +93,9 @@ class_change p s kind class place =
 
 -- the change of a class, with a place in its domain by the next word, and the words after it
 abbrev pub class_drawn : Parts → Snapshot → (kind class : ℕ) → Stream → Option Snapshot × Stream
-class_drawn p s kind class words =
-    let place = draw_next (length (domain_of p class)) words in (class_change p s kind class place.0, place.1)
+class_drawn p s kind class random =
+    let place = draw_next (length (domain_of p class)) random in (class_change p s kind class place.0, place.1)
 
 -- what a round on one of these classes finds
 unfoldable pub class_round : Parts → (classes : List ℕ) → Snapshot → (kind : ℕ) → Stream → Option Snapshot × Stream
-class_round p classes s kind words = by_draw classes (class_drawn p s kind) words
+class_round p classes s kind random = by_draw classes (class_drawn p s kind) random

@@ -4,7 +4,7 @@ use Rattle.std.specs.Prelude.{ℕ, zero, suc, ◌+◌, ◌-◌, ◌*◌, ◌/◌
 use Rattle.std.specs.List.{best_of}
 use Rattle.rand_core.specs.Stream.{Stream}
 use Rattle.tt_base.specs.Lists.{is_less}
-use Rattle.tt_draw.specs.Words.{random_words}
+use Rattle.tt_draw.specs.Draws.{random_words}
 use Rattle.tt_problem.specs.declared.parts.Parts.{Parts}
 use Rattle.tt_state.specs.Snapshots.{Snapshot}
 use Rattle.tt_improve.specs.Classes.{total_of}
@@ -37,11 +37,11 @@ is_on_class o kind = has_no_item o.choices || (not (has_no_item o.classes) && (k
 
 -- what a round of a kind finds
 abbrev pub found_of_kind : Parts → Targets → Snapshot → (kind : ℕ) → Stream → Option Snapshot × Stream
-found_of_kind p o s kind words = if is_on_class o kind then class_round p o.classes s kind words else student_round p o.choices s words
+found_of_kind p o s kind random = if is_on_class o kind then class_round p o.classes s kind random else student_round p o.choices s random
 
 -- what a round finds: first its kind is drawn
 unfoldable pub found_by : Parts → Targets → Snapshot → Stream → Option Snapshot × Stream
-found_by p o s words = let kind = draw_next 32 words in found_of_kind p o s kind.0 kind.1
+found_by p o s random = let kind = draw_next 32 random in found_of_kind p o s kind.0 kind.1
 
 -- the level in round i of n, counted from 0: it sinks from the first total to 0, but not below the present total
 abbrev pub level_at : (first rounds i present : ℕ) → ℕ
@@ -51,7 +51,7 @@ level_at first rounds i present = max present (first - first * i / rounds)
 pub record DelugeMoment : Type 0 where
   pub snapshot : Snapshot
   pub changed : ℕ
-  pub words : Stream
+  pub random : Stream
 
 -- a change that is made: one with which the total is at most the level
 abbrev pub made_within : Parts → (level : ℕ) → Option Snapshot → Option Snapshot
@@ -60,13 +60,13 @@ made_within p level (Some next) = if nat_le (total_of p next) level then Some ne
 
 -- the moment after a round that made this change, or none, with the words to come
 abbrev pub moment_with : DelugeMoment → Option Snapshot → Stream → DelugeMoment
-moment_with m None words = record { snapshot = m.snapshot; changed = m.changed; words = words }
-moment_with m (Some next) words = record { snapshot = next; changed = m.changed + 1; words = words }
+moment_with m None random = record { snapshot = m.snapshot; changed = m.changed; random = random }
+moment_with m (Some next) random = record { snapshot = next; changed = m.changed + 1; random = random }
 
 -- the moment after a round at a level
 abbrev pub after_level : Parts → Targets → (level : ℕ) → DelugeMoment → DelugeMoment
 after_level p o level m =
-    let found = found_by p o m.snapshot m.words in moment_with m (made_within p level found.0) found.1
+    let found = found_by p o m.snapshot m.random in moment_with m (made_within p level found.0) found.1
 
 -- the moment after round i of n
 abbrev pub after_round : Parts → Targets → (first rounds i : ℕ) → DelugeMoment → DelugeMoment
@@ -80,7 +80,7 @@ moments_after p o first rounds (suc more) i m =
 
 -- before the first round
 abbrev pub first_moment : (seed : ℕ) → Snapshot → DelugeMoment
-first_moment seed s = record { snapshot = s; changed = 0; words = random_words seed }
+first_moment seed s = record { snapshot = s; changed = 0; random = random_words seed }
 
 -- the first moment of the way that has the least total
 unfoldable pub best_moment : Parts → (rounds seed : ℕ) → Snapshot → DelugeMoment

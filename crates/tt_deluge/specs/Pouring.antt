@@ -12,13 +12,13 @@ use Rattle.tt_deluge.specs.Standing.{StandsAs}
 
 -- a moment of this snapshot, with so many changes and these words to come
 abbrev pub moment_of : Snapshot → (changed : ℕ) → Stream → DelugeMoment
-moment_of s changed words = record { snapshot = s; changed = changed; words = words }
+moment_of s changed random = record { snapshot = s; changed = changed; random = random }
 
 -- what is kept of a moment is of the last snapshot of a trail
 pub record IsMomentOf (p : Parts) (s : Snapshot) (trail : List Snapshot) (kept : Kept) : Type 0 where
   pub total : kept.total ≡ total_of p s
   pub small : kept.total < 2 ^ 127
-  pub at : slice_get trail kept.mark ≡ Some s
+  pub at : slice_get trail kept.place ≡ Some s
 
 -- the number by which a moment is chosen
 abbrev pub by_total : Parts → DelugeMoment → List ℕ
@@ -31,8 +31,8 @@ HasFallen p start now changed = ((changed ≡ 0) × (now ≡ start)) ⊎ ((0 < c
 -- the best moment so far is one of the trail, and with what is still ahead the way has this one as its best
 pub record IsPouring (p : Parts) (start : Snapshot) (trail : List Snapshot) (ahead : List DelugeMoment) (best : Kept) (end : DelugeMoment) : Type 0 where
   pub now : Snapshot
-  pub words : Stream
+  pub random : Stream
   pub moment : IsMomentOf p now trail best
-  pub ends : best_of (is_less (by_total p)) (moment_of now best.changed words) ahead ≡ end
+  pub ends : best_of (is_less (by_total p)) (moment_of now best.changed random) ahead ≡ end
   pub fallen : HasFallen p start now best.changed
   pub stands : StandsAs p start now

@@ -5,5 +5,5 @@ use Rattle.rand_pcg.specs.Lcg.{Lcg}
 use Rattle.rand_pcg.specs.Pcg.{pcg32}
 
 -- the words that a generator will give
-abbrev pub words_of : Lcg → Stream
-words_of words = stream_of (steps_u32 pcg32) words
+abbrev pub random_of : Lcg → Stream
+random_of random = stream_of (steps_u32 pcg32) random

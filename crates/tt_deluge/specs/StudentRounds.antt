@@ -50,9 +50,9 @@ fitting p others subpart = filter (fits_beside p others) (places_between subpart
 -- a choice goes on with one class of each of these subparts, drawn among those that fit beside the rest and the choice so far;
 -- nothing where none fits, and then no more is drawn
 abbrev pub drawn_choice : Parts → (rest so_far : List ℕ) → List Span → Stream → Option (List ℕ) × Stream
-drawn_choice p rest so_far [] words = (Some so_far, words)
-drawn_choice p rest so_far (subpart ∷ subparts) words =
-    by_draw (fitting p (rest ++ so_far) subpart) (λ class. drawn_choice p rest (so_far ++ class ∷ []) subparts) words
+drawn_choice p rest so_far [] random = (Some so_far, random)
+drawn_choice p rest so_far (subpart ∷ subparts) random =
+    by_draw (fitting p (rest ++ so_far) subpart) (λ class. drawn_choice p rest (so_far ++ class ∷ []) subparts) random
 
 -- the snapshot in which a choice replaces the student's own classes of a course, where it differs and may do so
 abbrev pub replaced : Parts → Snapshot → (student : ℕ) → (rest own choice : List ℕ) → Option Snapshot
@@ -61,19 +61,19 @@ replaced p s student rest own choice =
 
 -- the change of a student by a choice, if there is one
 abbrev pub replaced_if : Parts → Snapshot → (student : ℕ) → (rest own : List ℕ) → Option (List ℕ) × Stream → Option Snapshot × Stream
-replaced_if p s student rest own (choice, words) = (option_and_then (replaced p s student rest own) choice, words)
+replaced_if p s student rest own (choice, random) = (option_and_then (replaced p s student rest own) choice, random)
 
 -- the change of a student by a choice of these subparts that the words draw
 abbrev pub student_drawn : Parts → Snapshot → (student course : ℕ) → List Span → Stream → Option Snapshot × Stream
-student_drawn p s student course subparts words =
+student_drawn p s student course subparts random =
     let rest = rest_of p course (list_in s student) in
-    replaced_if p s student rest (own_of p course (list_in s student)) (drawn_choice p rest [] subparts words)
+    replaced_if p s student rest (own_of p course (list_in s student)) (drawn_choice p rest [] subparts random)
 
 -- the change of a course of a student: first a configuration is drawn
 abbrev pub choice_drawn : Parts → Snapshot → Target → Stream → Option Snapshot × Stream
-choice_drawn p s (Class class) words = (None, words)
-choice_drawn p s (Course student course) words = by_draw (configurations_of p course) (student_drawn p s student course) words
+choice_drawn p s (Class class) random = (None, random)
+choice_drawn p s (Course student course) random = by_draw (configurations_of p course) (student_drawn p s student course) random
 
 -- what a round on one of these courses of students finds
 unfoldable pub student_round : Parts → (choices : List Target) → Snapshot → Stream → Option Snapshot × Stream
-student_round p choices s words = by_draw choices (choice_drawn p s) words
+student_round p choices s random = by_draw choices (choice_drawn p s) random

@@ -158,10 +158,10 @@ pub(crate) fn exchange(
     if has_value(state, other, to) || state.blocked(other, to).is_some() {
         return Ok(false);
     }
-    let mark = state.mark_now();
+    let moment = state.mark_now();
     if exchange_steps(state, class, value, other, to)? && state.totals().total <= level {
         return Ok(true);
     }
-    state.roll_back(mark);
+    state.roll_back(moment);
     Ok(false)
 }

@@ -8,11 +8,11 @@
 #![tactic(auto)]
 
 mod classes;
+mod drawing;
 mod exchange;
 mod pouring;
 mod students;
 mod targets;
 mod values;
-mod words;
 
 pub use pouring::{Deluged, deluge};

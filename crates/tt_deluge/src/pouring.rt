@@ -9,15 +9,15 @@ ghost use Rattle.tt_deluge.specs.ClassRounds.{class_round};
 ghost use Rattle.tt_deluge.specs.StudentRounds.{choices_in, student_round};
 ghost use Rattle.tt_deluge.specs.Deluged.{are_none, best_moment, deluged, found_by, is_on_class, level_at, targets_at};
 ghost use Rattle.tt_deluge.specs.Pouring.{IsMomentOf, IsPouring};
-ghost use Rattle.tt_deluge.specs.Reading.{words_of};
+ghost use Rattle.tt_deluge.specs.Reading.{random_of};
 ghost use Rattle.tt_deluge.specs.Standing.{IsRound, StandsAs};
 ghost use Rattle.tt_deluge.specs.UnderWay.{ended_at};
 ghost use Rattle.tt_deluge.specs.Views.{target_of, targets_in};
 
 use crate::classes::class_round;
+use crate::drawing::draw_below;
 use crate::students::{StudentBuffers, student_round};
 use crate::targets::{Choice, Targets};
-use crate::words::draw_below;
 use rand_pcg::Lcg64Xsh32;
 use std::alloc::{AllocError, Global};
 use tt_plan::domain_size;
@@ -37,7 +37,7 @@ pub struct Deluged {
 struct Moment {
     total: u128,
     changed: u32,
-    mark: u64,
+    place: u64,
 }
 
 // What a deluge works with: the targets, and room for what a student's round looks at.
@@ -91,7 +91,7 @@ fn moment_now(state: &State, changed: u32) -> Moment
     Moment {
         total: total_now(state),
         changed,
-        mark: state.mark_now(),
+        place: state.mark_now(),
     }
 }
 
@@ -120,7 +120,7 @@ fn round_on_class(
     state: &mut State,
     classes: &[u32],
     kind: u32,
-    words: &mut Lcg64Xsh32,
+    random: &mut Lcg64Xsh32,
     level: u128,
 ) -> Result<bool, AllocError>
     requires classes { classes.now ≡ movable_classes state.old.problem state.old.present }
@@ -129,17 +129,17 @@ fn round_on_class(
     requires level { level < 2 ^ 127 }
     requires step { 0 < length (earlier state.old) }
     ensures step { IsWithinStep (with_taken state.old []) (with_taken state.new []) }
-    ensures words { OnOk result (words_of words.new
+    ensures random { OnOk result (random_of random.new
         ≡ (class_round state.old.problem classes.now state.old.present kind
-        (words_of words.old)).1) }
+        (random_of random.old)).1) }
     ensures round { IfOk result (IsRound level
-        (class_round state.old.problem classes.now state.old.present kind (words_of words.old)).0
+        (class_round state.old.problem classes.now state.old.present kind (random_of random.old)).0
         (with_taken state.old []) (with_taken state.new [])) }
 {
     state.soundness();
-    let class = classes[draw_below(words, classes.len() as u64) as usize];
+    let class = classes[draw_below(random, classes.len() as u64) as usize];
     let size = domain_size(state.problem(), class);
-    let place = draw_below(words, u64::from(size)) as u32;
+    let place = draw_below(random, u64::from(size)) as u32;
     class_round(state, class, kind, place, level)
 }
 
@@ -148,7 +148,7 @@ fn round_on_class(
 fn round_on_student(
     state: &mut State,
     choices: &[Choice],
-    words: &mut Lcg64Xsh32,
+    random: &mut Lcg64Xsh32,
     level: u128,
     buffers: &mut StudentBuffers,
 ) -> Result<bool, AllocError>
@@ -157,22 +157,22 @@ fn round_on_student(
     requires few { length choices.now ≤ 2 ^ 32 }
     requires step { 0 < length (earlier state.old) }
     ensures step { IsWithinStep (with_taken state.old []) (with_taken state.new []) }
-    ensures words { OnOk result (words_of words.new
+    ensures random { OnOk result (random_of random.new
         ≡ (student_round state.old.problem (map target_of choices.now) state.old.present
-        (words_of words.old)).1) }
+        (random_of random.old)).1) }
     ensures round { IfOk result (IsRound level
         (student_round state.old.problem (map target_of choices.now) state.old.present
-        (words_of words.old)).0 (with_taken state.old []) (with_taken state.new [])) }
+        (random_of random.old)).0 (with_taken state.old []) (with_taken state.new [])) }
 {
-    let choice = choices[draw_below(words, choices.len() as u64) as usize];
-    student_round(state, choice, words, level, buffers)
+    let choice = choices[draw_below(random, choices.len() as u64) as usize];
+    student_round(state, choice, random, level, buffers)
 }
 
 // A round of a kind that a random word draws, in the last step. Whether it changes something.
 fn make_round(
     state: &mut State,
     work: &mut Work,
-    words: &mut Lcg64Xsh32,
+    random: &mut Lcg64Xsh32,
     level: u128,
 ) -> Result<bool, AllocError>
     requires targets { targets_in work.old.targets
@@ -184,21 +184,21 @@ fn make_round(
     requires step { 0 < length (earlier state.old) }
     ensures targets { work.new.targets ≡ work.old.targets }
     ensures step { IsWithinStep (with_taken state.old []) (with_taken state.new []) }
-    ensures words { OnOk result (words_of words.new
+    ensures random { OnOk result (random_of random.new
         ≡ (found_by state.old.problem (targets_in work.old.targets) state.old.present
-        (words_of words.old)).1) }
+        (random_of random.old)).1) }
     ensures round { IfOk result (IsRound level
         (found_by state.old.problem (targets_in work.old.targets) state.old.present
-        (words_of words.old)).0 (with_taken state.old []) (with_taken state.new [])) }
+        (random_of random.old)).0 (with_taken state.old []) (with_taken state.new [])) }
 {
-    let kind = draw_below(words, 32) as u32;
+    let kind = draw_below(random, 32) as u32;
     if is_on_class(&work.targets, kind) {
-        round_on_class(state, work.targets.classes.as_slice(), kind, words, level)
+        round_on_class(state, work.targets.classes.as_slice(), kind, random, level)
     } else {
         round_on_student(
             state,
             work.targets.choices.as_slice(),
-            words,
+            random,
             level,
             &mut work.buffers,
         )
@@ -225,13 +225,13 @@ fn pour<W: Watcher>(
         IsPouring state.old.problem state.old.present (trail state.new) [] best
         (best_moment state.old.problem rounds seed state.old.present)) }
 {
-    let mut words = Lcg64Xsh32::new(seed, 1);
+    let mut random = Lcg64Xsh32::new(seed, 1);
     let start = moment_now(state, 0);
     let mut now = start;
     let mut best = start;
     for made in 0..rounds {
         let level = level_at(start.total, rounds, made, now.total);
-        let changes = make_round(state, work, &mut words, level)?;
+        let changes = make_round(state, work, &mut random, level)?;
         now = moment_now(state, now.changed + u32::from(changes));
         best = better(best, now);
         watcher.tell(Progress::Rounds {
@@ -273,7 +273,7 @@ fn deluge_in_step<W: Watcher>(
     }
     match pour(state, &mut work, rounds, seed, watcher) {
         Ok(best) => {
-            state.roll_back(best.mark);
+            state.roll_back(best.place);
             Ok(Deluged {
                 rounds,
                 changed: best.changed,

@@ -7,18 +7,18 @@ ghost use Rattle.tt_problem.specs.ListLengths.{spans_at};
 ghost use Rattle.tt_problem.specs.Spans.{IsSpanWithin};
 ghost use Rattle.tt_state.specs.History.{IsWithinStep, earlier, trail};
 ghost use Rattle.tt_state.specs.Snapshots.{classes_in_order, list_in, with_list};
-ghost use Rattle.tt_draw.specs.Words.{drawn};
+ghost use Rattle.tt_draw.specs.Draws.{drawn};
 ghost use Rattle.tt_improve.specs.Classes.{total_of};
 ghost use Rattle.tt_improve.specs.Courses.{is_of_course, own_of, rest_of};
 ghost use Rattle.tt_improve.specs.Standing.{IsSeatedIn};
 ghost use Rattle.tt_improve.specs.declared.targets.Target.TheVariants.{Course};
 ghost use Rattle.tt_deluge.specs.Deluged.{made_within};
-ghost use Rattle.tt_deluge.specs.Reading.{words_of};
+ghost use Rattle.tt_deluge.specs.Reading.{random_of};
 ghost use Rattle.tt_deluge.specs.Standing.{BeginsWith, StandsAs};
 ghost use Rattle.tt_deluge.specs.StudentRounds.{choice_drawn, configurations_of, drawn_choice, fits_beside, fitting, replaced};
 
+use crate::drawing::draw_below;
 use crate::targets::Choice;
-use crate::words::draw_below;
 use rand_pcg::Lcg64Xsh32;
 use std::alloc::{AllocError, Global};
 use tt_choice::pairs_of;
@@ -90,21 +90,22 @@ fn draw_class(
     rest: &[u32],
     so_far: &[u32],
     subpart: Span,
-    words: &mut Lcg64Xsh32,
+    random: &mut Lcg64Xsh32,
 ) -> Option<u32>
     requires { IsSpanWithin (length problem.now.classes) subpart }
     ensures class { result
-        ≡ drawn (next_u32 (words_of words.old)).0
+        ≡ drawn (next_u32 (random_of random.old)).0
         (fitting problem.now (rest.now ++ so_far.now) subpart) }
     ensures below { IfSome result (λ class. class < length problem.now.classes) }
-    ensures next { IfSome result (λ class. words_of words.new ≡ (next_u32 (words_of words.old)).1) }
-    ensures same { IfNone result (words_of words.new ≡ words_of words.old) }
+    ensures next { IfSome result
+        (λ class. random_of random.new ≡ (next_u32 (random_of random.old)).1) }
+    ensures same { IfNone result (random_of random.new ≡ random_of random.old) }
 {
     let count = fitting_count(problem, rest, so_far, subpart);
     if count == 0 {
         return None;
     }
-    let place = draw_below(words, u64::from(count));
+    let place = draw_below(random, u64::from(count));
     fitting_at(problem, rest, so_far, subpart, place)
 }
 
@@ -115,13 +116,13 @@ fn draw_classes(
     config: Span,
     rest: &[u32],
     choice: &mut Vec<u32>,
-    words: &mut Lcg64Xsh32,
+    random: &mut Lcg64Xsh32,
 ) -> Result<bool, AllocError>
     requires { IsSpanWithin (length problem.now.subparts) config }
     ensures choice { IfOk result (λ found.
         drawn_choice problem.now rest.now [] (spans_at problem.now.subparts config)
-        (words_of words.old)
-        ≡ (cond found (Some choice.new.items) None, words_of words.new)) }
+        (random_of random.old)
+        ≡ (cond found (Some choice.new.items) None, random_of random.new)) }
     ensures below { OnOk result
         (All (λ class. class < length problem.now.classes) choice.new.items) }
     ensures few { OnOk result (length choice.new.items ≤ most_classes) }
@@ -130,7 +131,7 @@ fn draw_classes(
     choice.clear();
     for place in config.first..config.after {
         let subpart = problem.subpart(place);
-        match draw_class(problem, rest, choice.as_slice(), subpart, words) {
+        match draw_class(problem, rest, choice.as_slice(), subpart, random) {
             None => return Ok(false),
             Some(class) => choice.push(class)?,
         }
@@ -139,15 +140,16 @@ fn draw_classes(
 }
 
 // The configuration of a course that the next random word draws.
-fn draw_config(problem: &Problem, course: u32, words: &mut Lcg64Xsh32) -> Span
+fn draw_config(problem: &Problem, course: u32, random: &mut Lcg64Xsh32) -> Span
     requires { course < length problem.now.courses }
-    ensures config { drawn (next_u32 (words_of words.old)).0 (configurations_of problem.now course)
+    ensures config { drawn (next_u32 (random_of random.old)).0
+            (configurations_of problem.now course)
         ≡ Some (spans_at problem.now.subparts result) }
     ensures within { IsSpanWithin (length problem.now.subparts) result }
-    ensures words { words_of words.new ≡ (next_u32 (words_of words.old)).1 }
+    ensures random { random_of random.new ≡ (next_u32 (random_of random.old)).1 }
 {
     let configs = problem.course(course).configs;
-    let place = draw_below(words, u64::from(configs.after - configs.first)) as u32;
+    let place = draw_below(random, u64::from(configs.after - configs.first)) as u32;
     problem.config(configs.first + place)
 }
 
@@ -280,19 +282,19 @@ fn replace(
 pub(crate) fn student_round(
     state: &mut State,
     choice: Choice,
-    words: &mut Lcg64Xsh32,
+    random: &mut Lcg64Xsh32,
     level: u128,
     buffers: &mut StudentBuffers,
 ) -> Result<bool, AllocError>
     requires target { IsSeatedIn state.old.problem state.old.present choice.student choice.course }
     requires step { 0 < length (earlier state.old) }
     ensures step { IsWithinStep state.old state.new }
-    ensures words { OnOk result (words_of words.new
+    ensures random { OnOk result (random_of random.new
         ≡ (choice_drawn state.old.problem state.old.present (Course choice.student choice.course)
-        (words_of words.old)).1) }
+        (random_of random.old)).1) }
     ensures made { IfOk result (λ made.
         made_within state.old.problem level (choice_drawn state.old.problem state.old.present
-        (Course choice.student choice.course) (words_of words.old)).0
+        (Course choice.student choice.course) (random_of random.old)).0
         ≡ cond made (Some state.new.present) None) }
     ensures same { IfOk result (λ made. made ≡ false → state.new.present ≡ state.old.present) }
     ensures trail { OnOk result (BeginsWith (trail state.old) (trail state.new)) }
@@ -302,9 +304,9 @@ pub(crate) fn student_round(
     state.soundness();
     state.problem().validity();
     buffers.part(state, student, course)?;
-    let config = draw_config(state.problem(), course, words);
+    let config = draw_config(state.problem(), course, random);
     let rest = buffers.rest.as_slice();
-    if !draw_classes(state.problem(), config, rest, &mut buffers.choice, words)? {
+    if !draw_classes(state.problem(), config, rest, &mut buffers.choice, random)? {
         return Ok(false);
     }
     replace(state, student, course, buffers, level)

@@ -3,7 +3,7 @@
 #![tactic(auto)]
 
 ghost use Rattle.std.specs.Prelude.{◌≡◌, ◌≤◌, ◌^◌};
-ghost use Rattle.tt_draw.specs.Words.{drawn_place};
+ghost use Rattle.tt_draw.specs.Draws.{drawn_place};
 
 /// The place that a random word draws among `count` items, counted from 0. There are at most 2^32.
 pub fn draw(word: u32, count: u64) -> u64

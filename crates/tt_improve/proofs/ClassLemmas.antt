@@ -22,11 +22,11 @@ use Rattle.tt_state.specs.Snapshots.{Snapshot, StaysLocked, is_locked_in, may_lo
 use Rattle.tt_state.specs.Values.{blocked_of, conflict_set_of, total_with}
 use Rattle.tt_improve.specs.declared.classes.Best.{Best}
 use Rattle.tt_improve.specs.Below.{better, passed, nothing_below}
-use Rattle.tt_improve.specs.Classes.{is_free, total_of, least_value, at_lower, moved_class}
+use Rattle.tt_improve.specs.Classes.{is_free, total_of, least_value, at_lower, changed_class}
 use Rattle.tt_improve.specs.Standing.{IsLower, IsMovable, IsNoWorse}
 use Rattle.tt_improve.proofs.BelowLemmas.{least_below}
 use Rattle.tt_improve.proofs.FallLemmas.{spot_of_value, hard-falls}
-use Rattle.tt_improve.proofs.TargetLemmas.{moved-class_targets}
+use Rattle.tt_improve.proofs.TargetLemmas.{changed-class_targets}
 
 -- what is known of the best so far: its total is no higher than the bound, and what was found is below it
 pub record IsBestBelow (Of : Value → Type 0) (free : Value → Bool) (total : Value → ℕ) (bound : ℕ) (best : Best) : Type 0 where
@@ -73,8 +73,8 @@ walk_next free total domain k v start best now is step so_far =
 
 -- what the walk finds is where the round takes the class
 pub walk_found : (p : Parts) (s : Snapshot) (class : ℕ) (found : Option Value) → found ≡ (passed (is_free p s class) (total_with p s class) (nothing_below (total_of p s)) (domain_of p class)).value
-    → moved_class p s class ≡ option_map (λ v. with_value s class (Some v)) found
-unfolding moved_class least_value
+    → changed_class p s class ≡ option_map (λ v. with_value s class (Some v)) found
+unfolding changed_class least_value
 walk_found p s class found is =
     by (first_least (λ v. total_with p s class v ∷ []) (filter (is_free p s class) (domain_of p class)))
     (is ∙ least_below (is_free p s class) (total_with p s class) (total_of p s) (domain_of p class))
@@ -119,7 +119,7 @@ lower_no_worse p s class v valid whole target lower =
       hard = hard-falls p s.closures s.plan s.lists class v spot.0 valid (omega (arith, whole, target.within)) spot.1 open_value empty;
       statistics = refl;
       closures = refl;
-      targets = moved-class_targets p s class v target.free;
+      targets = changed-class_targets p s class v target.free;
       locked = others_stay s class v target.free;
     }
 

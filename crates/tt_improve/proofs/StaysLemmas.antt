@@ -33,9 +33,9 @@ use Rattle.tt_choice.proofs.PlaceLemmas.{AllOfCourse}
 use Rattle.tt_choice.proofs.ValidLemmas.{IsChoice, are_choices}
 use Rattle.tt_improve.specs.declared.targets.Target.{Target}
 use Rattle.tt_improve.specs.declared.targets.Target.TheVariants.{Class, Course}
-use Rattle.tt_improve.specs.Classes.{at_lower, free_values, is_free, least_value, moved_class, total_of}
-use Rattle.tt_improve.specs.Courses.{at_fewer, beside, is_of_course, least_replacement, may_replace, moved_student, own_of, replaced_by, rest_of}
-use Rattle.tt_improve.specs.Rounds.{moved_by}
+use Rattle.tt_improve.specs.Classes.{at_lower, changed_class, free_values, is_free, least_value, total_of}
+use Rattle.tt_improve.specs.Courses.{at_fewer, beside, changed_student, is_of_course, least_replacement, may_replace, own_of, replaced_by, rest_of}
+use Rattle.tt_improve.specs.Rounds.{changed_by}
 use Rattle.tt_improve.specs.Standing.{IsSeatedIn, IsTargetOf}
 use Rattle.tt_improve.specs.Touched.{have_in_common, meets}
 use Rattle.tt_improve.proofs.LeastLemmas.{all_of_kept, below_none, kept_of_all, none_below}
@@ -46,14 +46,14 @@ module _ (p : Parts) (s : Snapshot) (class : ℕ) where
   abbrev IsNoLower : Value → Type 0
   IsNoLower v = is_free p s class v ≡ true → total_of p s ≤ total_with p s class v
 
-  pub class_best : moved_class p s class ≡ None → AllByRecursion IsNoLower (domain_of p class)
-  unfolding moved_class least_value
+  pub class_best : changed_class p s class ≡ None → AllByRecursion IsNoLower (domain_of p class)
+  unfolding changed_class least_value
   class_best none =
       all_of_kept (is_free p s class) (λ v. total_of p s ≤ total_with p s class v) (domain_of p class)
       (none_below (total_with p s class) (λ v. []) (λ v. with_value s class (Some v)) (total_of p s) (free_values p s class) none)
 
-  pub best_class : AllByRecursion IsNoLower (domain_of p class) → moved_class p s class ≡ None
-  unfolding moved_class least_value
+  pub best_class : AllByRecursion IsNoLower (domain_of p class) → changed_class p s class ≡ None
+  unfolding changed_class least_value
   best_class all =
       below_none (total_with p s class) (λ v. []) (λ v. with_value s class (Some v)) (total_of p s) (free_values p s class)
       (kept_of_all (is_free p s class) (λ v. total_of p s ≤ total_with p s class v) (domain_of p class) all)
@@ -134,8 +134,8 @@ module _ (p : Parts) (s t : Snapshot) (student course : ℕ) (valid : IsValid p)
           let had = all.0 (sym (may_same choice are.0.of) ∙ may) in
           omega (arith, mine, its, had)
 
-  pub student_stays : moved_student p s student course ≡ None → moved_student p t student course ≡ None
-  unfolding moved_student
+  pub student_stays : changed_student p s student course ≡ None → changed_student p t student course ≡ None
+  unfolding changed_student
   student_stays none =
       rw list
       (best_student p t student course rest own
@@ -155,8 +155,8 @@ of_other : (p : Parts) (course c d : ℕ) → is_of_course p course c ≡ false 
 of_other p course c d other of same = let no : true ≡ false = sym (of_it p course c (ap (course_of p) (sym same) ∙ of)) ∙ other in cc no
 
 -- a class gets another value: a course of a student who doesn't have the class, and that isn't the class's, stays at its best
-class_apart : (p : Parts) (s : Snapshot) (c : ℕ) (v : Value) (student course : ℕ) → IsValid p → course < length p.courses → meets p s c student course ≡ false → moved_student p s student course ≡ None
-    → moved_student p (with_value s c (Some v)) student course ≡ None
+class_apart : (p : Parts) (s : Snapshot) (c : ℕ) (v : Value) (student course : ℕ) → IsValid p → course < length p.courses → meets p s c student course ≡ false → changed_student p s student course ≡ None
+    → changed_student p (with_value s c (Some v)) student course ≡ None
 class_apart p s c v student course valid within apart none =
     let parts = or_parts (is_listed c (list_in s student)) (is_of_course p course c) apart in
     student_stays p s (with_value s c (Some v)) student course valid within refl (λ d of. refl) (λ d. d ≢ c) agree (λ d. of_other p course c d parts.1) (all_apart c (list_in s student) parts.0) none
@@ -173,8 +173,8 @@ record IsReplaced (p : Parts) (s t : Snapshot) (student course : ℕ) : Type 0 w
   of : AllOfCourse p course choice
   now : t ≡ with_list s student (classes_in_order (rest_of p course (list_in s student) ++ choice))
 
-replaced_is : (p : Parts) (s t : Snapshot) (student course : ℕ) → IsValid p → IsSound p s → IsSeatedIn p s student course → moved_student p s student course ≡ Some t → IsReplaced p s t student course
-unfolding moved_student
+replaced_is : (p : Parts) (s t : Snapshot) (student course : ℕ) → IsValid p → IsSound p s → IsSeatedIn p s student course → changed_student p s student course ≡ Some t → IsReplaced p s t student course
+unfolding changed_student
 replaced_is p s t student course valid sound target is = by (least_replacement p s student course rest) refl is
   where
     rest : List ℕ
@@ -241,7 +241,7 @@ module _ (p : Parts) (s : Snapshot) (student course : ℕ) (choice : List ℕ) (
   all_units (x ∷ xs) = (tt, all_units xs)
 
   -- another course of another student stays at its best
-  student_apart : (other k : ℕ) → IsValid p → k < length p.courses → student ≢ other → nat_eq course k ≡ false → moved_student p s other k ≡ None → moved_student p after other k ≡ None
+  student_apart : (other k : ℕ) → IsValid p → k < length p.courses → student ≢ other → nat_eq course k ≡ false → changed_student p s other k ≡ None → changed_student p after other k ≡ None
   student_apart other k valid inside apart differs none =
       student_stays p s after other k valid inside (get_or-set_other s.lists student other new [] (λ same. apart (sym same))) (λ d is. seat_same other d apart (out d is)) (λ d. Unit {0}) (λ a b one two. refl) (λ d is. tt)
       (all_units (list_in s other)) none
@@ -285,12 +285,12 @@ module _ (p : Parts) (s : Snapshot) (student course : ℕ) (choice : List ℕ) (
         let before = h (sym (free_same v) ∙ free) in
         omega (arith, before, total_now, with_now v)
 
-    list_apart : moved_class p s c ≡ None → moved_class p after c ≡ None
+    list_apart : changed_class p s c ≡ None → changed_class p after c ≡ None
     list_apart none = best_class p after c (all-weaken (IsNoLower p s c) (IsNoLower p after c) no_lower (domain_of p c) (class_best p s c none))
 
 -- the value that a round gave a class
-value_is : (p : Parts) (s t : Snapshot) (c : ℕ) → moved_class p s c ≡ Some t → (v : Value) × (t ≡ with_value s c (Some v))
-unfolding moved_class
+value_is : (p : Parts) (s t : Snapshot) (c : ℕ) → changed_class p s c ≡ Some t → (v : Value) × (t ≡ with_value s c (Some v))
+unfolding changed_class
 value_is p s t c is = by (least_value p s c) is
   where
     less : (v : Value) (b : Bool) → (if b then Some (with_value s c (Some v)) else None) ≡ Some t → (w : Value) × (t ≡ with_value s c (Some w))
@@ -302,9 +302,9 @@ value_is p s t c is = by (least_value p s c) is
     by (Some v) e = less v (nat_lt (total_with p s c v) (total_of p s)) e
 
 -- a target that was found at its best stays so over a change that has nothing in common with it
-pub stays_best : (p : Parts) (s t : Snapshot) (target other : Target) → IsValid p → IsSound p s → IsTargetOf p s target → IsTargetOf p s other → moved_by p s target ≡ Some t → have_in_common p t target other ≡ false → moved_by p s other ≡ None
-    → moved_by p t other ≡ None
-unfolding moved_by
+pub stays_best : (p : Parts) (s t : Snapshot) (target other : Target) → IsValid p → IsSound p s → IsTargetOf p s target → IsTargetOf p s other → changed_by p s target ≡ Some t → have_in_common p t target other ≡ false → changed_by p s other ≡ None
+    → changed_by p t other ≡ None
+unfolding changed_by
 stays_best p s t (Class c) (Class d) valid sound target other is apart none = absurd (cc apart)
 stays_best p s t (Class c) (Course student course) valid sound target other is apart none =
     let value = value_is p s t c is in

@@ -40,10 +40,10 @@ use Rattle.tt_choice.proofs.Order.{all-append, all-weaken}
 use Rattle.tt_choice.proofs.SeatingLemmas.{all_seats}
 use Rattle.tt_choice.proofs.ValidLemmas.{IsChoice, are_choices, takes_at}
 use Rattle.tt_improve.specs.Classes.{total_of}
-use Rattle.tt_improve.specs.Courses.{at_fewer, beside, is_of_course, least_replacement, may_replace, moved_student, own_of, replaced_by, rest_of}
+use Rattle.tt_improve.specs.Courses.{at_fewer, beside, changed_student, is_of_course, least_replacement, may_replace, own_of, replaced_by, rest_of}
 use Rattle.tt_improve.specs.Targets.{seated_courses}
 use Rattle.tt_improve.specs.Standing.{IsNoWorse, IsSeatedIn}
-use Rattle.tt_improve.proofs.TargetLemmas.{moved-student_courses, moved-student_targets}
+use Rattle.tt_improve.proofs.TargetLemmas.{changed-student_courses, changed-student_targets}
 use Rattle.tt_improve.proofs.PairOrder.{count-with, pairs-with, pairs-joined, pairs-parted}
 use Rattle.tt_improve.proofs.ReplaceLemmas.{IsEnrolled, all_kept, below_kept, choice_some, enrolled_is, may_is}
 
@@ -272,7 +272,7 @@ module _ (p : Parts) (s : Snapshot) (student course : ℕ) (valid : IsValid p) (
       → seated_courses p (with_list s student (classes_in_order (rest_of p course (list_in s student) ++ choice))) ≡ seated_courses p s
   replaced_courses choice is =
       let some = enrolled_some (rest ++ choice) is in
-      moved-student_courses p s student (classes_in_order (rest ++ choice)) within_lists target.some (omega (arith, some, length-ordered (rest ++ choice)))
+      changed-student_courses p s student (classes_in_order (rest ++ choice)) within_lists target.some (omega (arith, some, length-ordered (rest ++ choice)))
 
   -- the student may get the rest with the choice
   pub may_get : (choice : List ℕ) → IsAllowed (IsChoice p course) sit choice → MayGet p s.lists student (rest_of p course (list_in s student) ++ choice)
@@ -305,7 +305,7 @@ module _ (p : Parts) (s : Snapshot) (student course : ℕ) (valid : IsValid p) (
         hard = omega arith;
         statistics = refl;
         closures = refl;
-        targets = moved-student_targets p s student new within_lists target.some long;
+        targets = changed-student_targets p s student new within_lists target.some long;
         locked = λ class is. (refl, is);
       }
 
@@ -360,8 +360,8 @@ module _ (p : Parts) (s : Snapshot) (student course : ℕ) (valid : IsValid p) (
       (λ here fewer. fewer_no_worse p s student course valid sound target choice (chosen_is p s student course valid sound target choice here) fewer) at mine
 
 -- a round on a course, where the rest and the own classes are named
-pub moved_of : (p : Parts) (s : Snapshot) (student course : ℕ) (others had : List ℕ) (found : Option Snapshot) → others ≡ rest_of p course (list_in s student) → had ≡ own_of p course (list_in s student) → replaced_by p s student course others had ≡ found
-    → moved_student p s student course ≡ found
-unfolding moved_student
-moved_of p s student course others had found r o e =
+pub changed_of : (p : Parts) (s : Snapshot) (student course : ℕ) (others had : List ℕ) (found : Option Snapshot) → others ≡ rest_of p course (list_in s student) → had ≡ own_of p course (list_in s student) → replaced_by p s student course others had ≡ found
+    → changed_student p s student course ≡ found
+unfolding changed_student
+changed_of p s student course others had found r o e =
     ap (λ (l : List ℕ). replaced_by p s student course l (own_of p course (list_in s student))) (sym r) ∙ ap (replaced_by p s student course others) (sym o) ∙ e

@@ -98,15 +98,15 @@ placed-same s class v placed d =
     within (o ∷ plan) zero e = omega arith
     within (o ∷ plan) (suc c) e = omega (arith, within plan c e)
 
-pub moved-class_movable : (p : Parts) (s : Snapshot) (class : ℕ) (v : Value) → may_lock s class ≡ true → movable_classes p (with_value s class (Some v)) ≡ movable_classes p s
+pub changed-class_movable : (p : Parts) (s : Snapshot) (class : ℕ) (v : Value) → may_lock s class ≡ true → movable_classes p (with_value s class (Some v)) ≡ movable_classes p s
 unfolding movable_classes
-moved-class_movable p s class v free =
+changed-class_movable p s class v free =
     let placed = (and_parts (is_some (value_in s class)) (not (is_locked_in s class)) free).0 in
     ap (λ (test : ℕ → Bool). filter test (range_with_len 0 (length p.classes))) (fun_ext (λ (d : ℕ). ap (λ (b : Bool). b && not (is_locked_in s d)) (placed-same s class v placed d)))
 
-pub moved-class_targets : (p : Parts) (s : Snapshot) (class : ℕ) (v : Value) → may_lock s class ≡ true → targets_of p (with_value s class (Some v)) ≡ targets_of p s
+pub changed-class_targets : (p : Parts) (s : Snapshot) (class : ℕ) (v : Value) → may_lock s class ≡ true → targets_of p (with_value s class (Some v)) ≡ targets_of p s
 unfolding seated_courses
-moved-class_targets p s class v free = ap (λ (classes : List ℕ). map (λ class. Class class) classes ++ seated_courses p s) (moved-class_movable p s class v free)
+changed-class_targets p s class v free = ap (λ (classes : List ℕ). map (λ class. Class class) classes ++ seated_courses p s) (changed-class_movable p s class v free)
 
 -- a student who gets other classes leaves the targets as they are
 with-same : (p : Parts) (student : ℕ) (one two : List ℕ) → 0 < length one → 0 < length two → courses_with p student one ≡ courses_with p student two
@@ -122,15 +122,15 @@ seated-same p s student list within some other d =
       | inr apart ↦ ap (courses_with p d) (get_or-set_other s.lists student d list [] apart)
     ]
 
-pub moved-student_courses : (p : Parts) (s : Snapshot) (student : ℕ) (list : List ℕ) → student < length s.lists → 0 < length (list_in s student) → 0 < length list → seated_courses p (with_list s student list) ≡ seated_courses p s
+pub changed-student_courses : (p : Parts) (s : Snapshot) (student : ℕ) (list : List ℕ) → student < length s.lists → 0 < length (list_in s student) → 0 < length list → seated_courses p (with_list s student list) ≡ seated_courses p s
 unfolding seated_courses
-moved-student_courses p s student list within some other =
+changed-student_courses p s student list within some other =
     ap (λ (each : ℕ → List Target). flat_map each (range_with_len 0 (length p.students))) (fun_ext (seated-same p s student list within some other))
 
-pub moved-student_targets : (p : Parts) (s : Snapshot) (student : ℕ) (list : List ℕ) → student < length s.lists → 0 < length (list_in s student) → 0 < length list → targets_of p (with_list s student list) ≡ targets_of p s
+pub changed-student_targets : (p : Parts) (s : Snapshot) (student : ℕ) (list : List ℕ) → student < length s.lists → 0 < length (list_in s student) → 0 < length list → targets_of p (with_list s student list) ≡ targets_of p s
 unfolding movable_classes
-moved-student_targets p s student list within some other =
-    ap (λ (courses : List Target). map (λ class. Class class) (movable_classes p s) ++ courses) (moved-student_courses p s student list within some other)
+changed-student_targets p s student list within some other =
+    ap (λ (courses : List Target). map (λ class. Class class) (movable_classes p s) ++ courses) (changed-student_courses p s student list within some other)
 
 -- there are few targets
 few_classes : (f : ℕ → Bool) (a n : ℕ) → length (filter f (range_with_len a n)) ≤ n

@@ -18,7 +18,7 @@ use Rattle.tt_improve.specs.declared.targets.Targets.{Targets}
 use Rattle.tt_improve.specs.declared.touched.Touched.{Touched}
 use Rattle.tt_improve.specs.Courses.{is_of_course}
 use Rattle.tt_improve.specs.Idle.{KnowsIdle, stages_in, targets_in}
-use Rattle.tt_improve.specs.Rounds.{moved_by}
+use Rattle.tt_improve.specs.Rounds.{changed_by}
 use Rattle.tt_improve.specs.Targets.{targets_of}
 use Rattle.tt_improve.specs.Touched.{IsNoted, have_in_common, last_of, stage_of}
 use Rattle.tt_improve.proofs.StaysLemmas.{stays_best}
@@ -69,12 +69,12 @@ neither : (a b : Bool) → a ≡ false → b ≡ false → (a || b) ≡ false
 neither a b h k = rw (h, k) refl
 
 -- a class got another value
-pub class_noted : (p : Parts) (s : Snapshot) (old new : Touched) (c course stage : ℕ) → course_of p c ≡ Some course → course < length old.courses.items → new.moved ≡ stage → new.courses.items ≡ slice_set old.courses.items course stage
+pub class_noted : (p : Parts) (s : Snapshot) (old new : Touched) (c course stage : ℕ) → course_of p c ≡ Some course → course < length old.courses.items → new.any_class ≡ stage → new.courses.items ≡ slice_set old.courses.items course stage
     → ((student : ℕ) → slice_index new.students.items student ≡ cond (is_listed student (students_of s.lists c)) stage (slice_index old.students.items student)) → IsNoted p s old new (Class c) stage
-class_noted p s old new c course stage is within moved courses students = all_left p s old new (Class c) stage left
+class_noted p s old new c course stage is within any_class courses students = all_left p s old new (Class c) stage left
   where
     left : (other : Target) → last_of p new other < stage → IsLeft p s old new (Class c) other
-    left (Class d) early = absurd (omega (arith, (both_early _ _ stage early).0, moved))
+    left (Class d) early = absurd (omega (arith, (both_early _ _ stage early).0, any_class))
     left (Course student k) early =
         let parts = both_early (slice_index new.students.items student) (stage_of new k) stage early in
         let one = each_early (is_listed student (students_of s.lists c)) (slice_index new.students.items student) stage (slice_index old.students.items student) (students student) parts.0 in
@@ -85,10 +85,10 @@ class_noted p s old new c course stage is within moved courses students = all_le
         record { apart = neither (is_listed c (list_in s student)) (is_of_course p k c) unlisted other; same = rw (one.1, at) refl }
 
 -- a student got other classes of a course
-pub student_noted : (p : Parts) (s : Snapshot) (old new : Touched) (student course stage : ℕ) → student < length old.students.items → course < length old.courses.items → new.moved ≡ old.moved
+pub student_noted : (p : Parts) (s : Snapshot) (old new : Touched) (student course stage : ℕ) → student < length old.students.items → course < length old.courses.items → new.any_class ≡ old.any_class
     → new.students.items ≡ slice_set old.students.items student stage → new.courses.items ≡ slice_set old.courses.items course stage
     → ((class : ℕ) → slice_index new.classes.items class ≡ cond (is_listed class (list_in s student)) stage (slice_index old.classes.items class)) → IsNoted p s old new (Course student course) stage
-student_noted p s old new student course stage within inside moved students courses classes = all_left p s old new (Course student course) stage left
+student_noted p s old new student course stage within inside any_class students courses classes = all_left p s old new (Course student course) stage left
   where
     course_left : (c : ℕ) (o : Option ℕ) → course_of p c ≡ o → option_map_or (stage_of new) o 0 < stage → (is_of_course p course c ≡ false) × (option_map_or (stage_of new) o 0 ≡ option_map_or (stage_of old) o 0)
     course_left c None is early = (ap (λ (o : Option ℕ). option_map_or (nat_eq course) o false) is, refl)
@@ -98,11 +98,11 @@ student_noted p s old new student course stage within inside moved students cour
 
     left : (other : Target) → last_of p new other < stage → IsLeft p s old new (Course student course) other
     left (Class c) early =
-        let all = both_early new.moved (max (slice_index new.classes.items c) (option_map_or (stage_of new) (course_of p c) 0)) stage early in
+        let all = both_early new.any_class (max (slice_index new.classes.items c) (option_map_or (stage_of new) (course_of p c) 0)) stage early in
         let parts = both_early (slice_index new.classes.items c) (option_map_or (stage_of new) (course_of p c) 0) stage all.1 in
         let one = each_early (is_listed c (list_in s student)) (slice_index new.classes.items c) stage (slice_index old.classes.items c) (classes c) parts.0 in
         let two = course_left c (course_of p c) refl parts.1 in
-        record { apart = neither (is_listed c (list_in s student)) (is_of_course p course c) one.0 two.0; same = rw (moved, one.1, two.1) refl }
+        record { apart = neither (is_listed c (list_in s student)) (is_of_course p course c) one.0 two.0; same = rw (any_class, one.1, two.1) refl }
     left (Course other k) early =
         let parts = both_early (slice_index new.students.items other) (stage_of new k) stage early in
         let one = set_early old.students.items student stage other within (rw students at parts.0) in
@@ -139,8 +139,8 @@ module _ (p : Parts) (s t : Snapshot) (targets after : Targets) (old : Touched) 
   target_here other at = let found : Some other ≡ Some target = sym at ∙ is in cc found
 
   -- a round that changed something
-  pub idle_changed : (new : Touched) → IsValid p → IsSound p s → targets_in targets ≡ targets_of p s → IsNoted p t old new target stage → moved_by p s target ≡ Some t → KnowsIdle p t after new (stage + 1)
-  idle_changed new valid sound all noted moved = record {
+  pub idle_changed : (new : Touched) → IsValid p → IsSound p s → targets_in targets ≡ targets_of p s → IsNoted p t old new target stage → changed_by p s target ≡ Some t → KnowsIdle p t after new (stage + 1)
+  idle_changed new valid sound all noted changes = record {
     no_later = λ k. omega (arith, no_later k);
     idle = λ k other at early. elim (cases_eq k place) [
       | inl here ↦
@@ -151,6 +151,6 @@ module _ (p : Parts) (s t : Snapshot) (targets after : Targets) (old : Touched) 
           let first : last_of p new other < stage = omega (arith, early, no_later k) in
           let there_is : slice_get (targets_in targets) k ≡ Some other = rw same at at in
           let before = known.idle k other there_is (omega (arith, early, stage_there k there, noted.same other first)) in
-          stays_best p s t target other valid sound (drawn-of p s (targets_in targets) place target (sym all) is) (drawn-of p s (targets_in targets) k other (sym all) there_is) moved (noted.apart other first) before
+          stays_best p s t target other valid sound (drawn-of p s (targets_in targets) place target (sym all) is) (drawn-of p s (targets_in targets) k other (sym all) there_is) changes (noted.apart other first) before
     ];
   }

@@ -40,5 +40,5 @@ abbrev pub at_lower : Parts → Snapshot → (class : ℕ) → Value → Option 
 at_lower p s class v = if nat_lt (total_with p s class v) (total_of p s) then Some (with_value s class (Some v)) else None
 
 -- the snapshot after a round on a class, none where it changes nothing
-unfoldable pub moved_class : Parts → Snapshot → (class : ℕ) → Option Snapshot
-moved_class p s class = option_and_then (at_lower p s class) (least_value p s class)
+unfoldable pub changed_class : Parts → Snapshot → (class : ℕ) → Option Snapshot
+changed_class p s class = option_and_then (at_lower p s class) (least_value p s class)

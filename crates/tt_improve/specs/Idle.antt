@@ -7,12 +7,12 @@ use Rattle.tt_improve.specs.declared.targets.Target.{Target}
 use Rattle.tt_improve.specs.declared.targets.Looked.{Looked}
 use Rattle.tt_improve.specs.declared.targets.Targets.{Targets}
 use Rattle.tt_improve.specs.declared.touched.Touched.{Touched}
-use Rattle.tt_improve.specs.Rounds.{moved_by}
+use Rattle.tt_improve.specs.Rounds.{changed_by}
 use Rattle.tt_improve.specs.Touched.{last_of}
 
 -- the snapshot after a round on the target at a place, none where it changes nothing
-abbrev pub moved_at : Parts → Snapshot → List Target → (place : ℕ) → Option Snapshot
-moved_at p s targets place = option_and_then (moved_by p s) (slice_get targets place)
+abbrev pub changed_at : Parts → Snapshot → List Target → (place : ℕ) → Option Snapshot
+changed_at p s targets place = option_and_then (changed_by p s) (slice_get targets place)
 
 -- a target on which no round was made
 abbrev pub unlooked : Target → Looked
@@ -30,4 +30,4 @@ stages_in targets = map (λ looked. looked.stage) targets.table.items
 -- changes nothing
 pub record KnowsIdle (p : Parts) (s : Snapshot) (targets : Targets) (touched : Touched) (stage : ℕ) : Type 0 where
   pub no_later : (place : ℕ) → slice_index (stages_in targets) place ≤ stage
-  pub idle : (place : ℕ) (target : Target) → slice_get (targets_in targets) place ≡ Some target → last_of p touched target < slice_index (stages_in targets) place → moved_by p s target ≡ None
+  pub idle : (place : ℕ) (target : Target) → slice_get (targets_in targets) place ≡ Some target → last_of p touched target < slice_index (stages_in targets) place → changed_by p s target ≡ None

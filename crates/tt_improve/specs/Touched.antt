@@ -27,7 +27,7 @@ stage_of touched course = slice_index touched.courses.items course
 
 -- the stage of the last change that touched a target
 abbrev pub last_of : Parts → Touched → Target → ℕ
-last_of p touched (Class class) = max touched.moved (max (slice_index touched.classes.items class) (option_map_or (stage_of touched) (course_of p class) 0))
+last_of p touched (Class class) = max touched.any_class (max (slice_index touched.classes.items class) (option_map_or (stage_of touched) (course_of p class) 0))
 last_of p touched (Course student course) = max (slice_index touched.students.items student) (stage_of touched course)
 
 -- there is a stage for each class, each student and each course

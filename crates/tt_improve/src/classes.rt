@@ -6,7 +6,7 @@ ghost use Rattle.tt_plan.specs.Domain.{IsOfDomain};
 ghost use Rattle.tt_state.specs.History.{IsWithinStep, earlier, with_taken};
 ghost use Rattle.tt_state.specs.Snapshots.{value_in, with_value};
 ghost use Rattle.tt_state.specs.Values.{total_with, without_of};
-ghost use Rattle.tt_improve.specs.Classes.{is_free, moved_class, total_of};
+ghost use Rattle.tt_improve.specs.Classes.{changed_class, is_free, total_of};
 ghost use Rattle.tt_improve.specs.Below.{better};
 ghost use Rattle.tt_improve.specs.Standing.{IsLower, IsMovable, IsNoWorse};
 
@@ -70,7 +70,7 @@ fn lower_value(state: &mut State, class: u32) -> Option<Value>
     ensures problem { state.new.problem ≡ state.old.problem }
     ensures present { state.new.present ≡ state.old.present }
     ensures entries { state.new.entries ≡ state.old.entries }
-    ensures value { moved_class state.old.problem state.old.present class
+    ensures value { changed_class state.old.problem state.old.present class
         ≡ option_map (λ v. with_value state.old.present class (Some v)) result }
     ensures lower { IfSome result (IsLower state.old.problem state.old.present class) }
 {
@@ -88,14 +88,15 @@ fn lower_value(state: &mut State, class: u32) -> Option<Value>
 
 // A round on a class, in the last step: it gets the best of its free values, where the total falls.
 // Whether it does.
-pub(crate) fn move_class(state: &mut State, class: u32) -> Result<bool, AllocError>
+pub(crate) fn change_class(state: &mut State, class: u32) -> Result<bool, AllocError>
     requires class { IsMovable state.old.problem state.old.present class }
     requires step { 0 < length (earlier state.old) }
     ensures step { IsWithinStep (with_taken state.old []) (with_taken state.new []) }
-    ensures moved { IfOk result (λ moved.
-        moved_class state.old.problem state.old.present class
-        ≡ cond moved (Some state.new.present) None) }
-    ensures same { IfOk result (λ moved. moved ≡ false → state.new.present ≡ state.old.present) }
+    ensures changes { IfOk result (λ changes.
+        changed_class state.old.problem state.old.present class
+        ≡ cond changes (Some state.new.present) None) }
+    ensures same { IfOk result
+        (λ changes. changes ≡ false → state.new.present ≡ state.old.present) }
     ensures no_worse { OnOk result
         (IsNoWorse state.old.problem state.old.present state.new.present) }
 {

@@ -6,7 +6,7 @@ ghost use Rattle.tt_state.specs.History.{IsWithinStep, earlier};
 ghost use Rattle.tt_state.specs.Snapshots.{classes_in_order, list_in, with_list};
 ghost use Rattle.tt_choice.specs.Ready.{HasRoom};
 ghost use Rattle.tt_choice.specs.Seating.{MayGet};
-ghost use Rattle.tt_improve.specs.Courses.{moved_student, own_of, replaced_by, rest_of};
+ghost use Rattle.tt_improve.specs.Courses.{changed_student, own_of, replaced_by, rest_of};
 ghost use Rattle.tt_improve.specs.Standing.{IsNoWorse, IsSeatedIn};
 
 use crate::pairs::{has_pair, is_of_course};
@@ -96,7 +96,7 @@ fn fewer_pairs(
 // A round on a course of a student, in the last step: the least choice of the course that may replace
 // the student's own classes of it does so, where it adds fewer conflicting pairs. Whether it does.
 // Most students have no pair with a course, and nothing is fewer: this is found out without memory.
-pub(crate) fn move_student(
+pub(crate) fn change_student(
     alloc: Global,
     state: &mut State,
     student: u32,
@@ -108,10 +108,11 @@ pub(crate) fn move_student(
     requires room { HasRoom state.old.problem buffers.old }
     ensures room { HasRoom state.old.problem buffers.new }
     ensures step { IsWithinStep state.old state.new }
-    ensures moved { IfOk result (λ moved.
-        moved_student state.old.problem state.old.present student course
-        ≡ cond moved (Some state.new.present) None) }
-    ensures same { IfOk result (λ moved. moved ≡ false → state.new.present ≡ state.old.present) }
+    ensures changes { IfOk result (λ changes.
+        changed_student state.old.problem state.old.present student course
+        ≡ cond changes (Some state.new.present) None) }
+    ensures same { IfOk result
+        (λ changes. changes ≡ false → state.new.present ≡ state.old.present) }
     ensures no_worse { OnOk result
         (IsNoWorse state.old.problem state.old.present state.new.present) }
 {

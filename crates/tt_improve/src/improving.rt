@@ -5,15 +5,15 @@ ghost use Rattle.tt_state.specs.History.{IsWithinStep, desk_of, earlier, stepped
 ghost use Rattle.tt_state.specs.Snapshots.{StaysLocked};
 ghost use Rattle.tt_choice.specs.Ready.{HasRoom};
 ghost use Rattle.tt_improve.specs.Classes.{totals_in};
-ghost use Rattle.tt_improve.specs.Idle.{KnowsIdle, moved_at, targets_in};
+ghost use Rattle.tt_improve.specs.Idle.{KnowsIdle, changed_at, targets_in};
 ghost use Rattle.tt_improve.specs.Targets.{targets_of};
-ghost use Rattle.tt_improve.specs.Rounds.{improved, moved_by};
+ghost use Rattle.tt_improve.specs.Rounds.{changed_by, improved};
 ghost use Rattle.tt_improve.specs.Standing.{IsNoWorse, IsTargetOf};
 ghost use Rattle.tt_improve.specs.Touched.{IsTableOf};
 ghost use Rattle.tt_improve.specs.UnderWay.{so_far};
 
-use crate::classes::move_class;
-use crate::courses::move_student;
+use crate::classes::change_class;
+use crate::courses::change_student;
 use crate::targets::{Looked, Target, Targets};
 use crate::touched::Touched;
 use rand_core::Rng;
@@ -62,7 +62,7 @@ impl Descent {
 }
 
 // A round on a target, in the last step. Whether it changes something.
-#[tactic(auto, unfolding(crate::specs::Rounds::moved_by))]
+#[tactic(auto, unfolding(crate::specs::Rounds::changed_by))]
 fn make_round(
     alloc: Global,
     state: &mut State,
@@ -74,16 +74,19 @@ fn make_round(
     requires room { HasRoom state.old.problem buffers.old }
     ensures room { HasRoom state.old.problem buffers.new }
     ensures step { IsWithinStep (with_taken state.old []) (with_taken state.new []) }
-    ensures moved { IfOk result (λ moved.
-        moved_by state.old.problem state.old.present target
-        ≡ cond moved (Some state.new.present) None) }
-    ensures same { IfOk result (λ moved. moved ≡ false → state.new.present ≡ state.old.present) }
+    ensures changes { IfOk result (λ changes.
+        changed_by state.old.problem state.old.present target
+        ≡ cond changes (Some state.new.present) None) }
+    ensures same { IfOk result
+        (λ changes. changes ≡ false → state.new.present ≡ state.old.present) }
     ensures no_worse { OnOk result
         (IsNoWorse state.old.problem state.old.present state.new.present) }
 {
     match target {
-        Target::Class { class } => move_class(state, class),
-        Target::Course { student, course } => move_student(alloc, state, student, course, buffers),
+        Target::Class { class } => change_class(state, class),
+        Target::Course { student, course } => change_student(
+            alloc, state, student, course, buffers,
+        ),
     }
 }
 
@@ -108,13 +111,14 @@ fn make_round_at(
     ensures whole { IsTableOf state.old.problem descent.new.touched }
     ensures step { IsWithinStep (with_taken state.old []) (with_taken state.new []) }
     ensures targets { targets_in descent.new.targets ≡ targets_in descent.old.targets }
-    ensures moved { IfOk result (λ moved.
-        moved_at state.old.problem state.old.present (targets_in descent.old.targets) place
-        ≡ cond moved (Some state.new.present) None) }
-    ensures same { IfOk result (λ moved. moved ≡ false → state.new.present ≡ state.old.present) }
-    ensures idle { IfOk result (λ moved.
+    ensures changes { IfOk result (λ changes.
+        changed_at state.old.problem state.old.present (targets_in descent.old.targets) place
+        ≡ cond changes (Some state.new.present) None) }
+    ensures same { IfOk result
+        (λ changes. changes ≡ false → state.new.present ≡ state.old.present) }
+    ensures idle { IfOk result (λ changes.
         KnowsIdle state.old.problem state.new.present descent.new.targets descent.new.touched
-        (stage + cond moved 1 0)) }
+        (stage + cond changes 1 0)) }
     ensures no_worse { OnOk result
         (IsNoWorse state.old.problem state.old.present state.new.present) }
 {
@@ -127,9 +131,9 @@ fn make_round_at(
     if descent.touched.last(state, target) < looked {
         return Ok(false);
     }
-    let moved = make_round(alloc, state, target, &mut descent.buffers)?;
+    let changes = make_round(alloc, state, target, &mut descent.buffers)?;
     descent.targets.note(place, stage);
-    if !moved {
+    if !changes {
         return Ok(false);
     }
     descent.touched.note(state, target, stage);
@@ -161,17 +165,17 @@ fn descend<W: Watcher>(
     ensures no_worse { OnOk result
         (IsNoWorse state.old.problem state.old.present state.new.present) }
 {
-    let mut words = Lcg64Xsh32::new(seed, 1);
+    let mut random = Lcg64Xsh32::new(seed, 1);
     let mut changed = 0;
     for made in 0..rounds {
-        let Some(place) = descent.targets.draw(words.next_u32()) else {
+        let Some(place) = descent.targets.draw(random.next_u32()) else {
             return Ok(Improved {
                 rounds: made,
                 changed,
             });
         };
-        let moved = make_round_at(alloc, state, descent, place, changed + 1)?;
-        changed += u32::from(moved);
+        let changes = make_round_at(alloc, state, descent, place, changed + 1)?;
+        changed += u32::from(changes);
         watcher.tell(Progress::Rounds {
             made: made + 1,
             of: rounds,

@@ -2,7 +2,7 @@
 
 ghost use Rattle.std.specs.Prelude.{◌≡◌, ◌↔◌, ◌<◌, ◌≤◌, ◌++◌, ◌^◌, [], None, is_some, IfNone, IfOk, IfSome, IsTrue, OnOk, Some, length, map, slice_get, slice_index, slice_set};
 ghost use Rattle.tt_state.specs.Snapshots.{list_in, may_lock, value_in};
-ghost use Rattle.tt_draw.specs.Words.{drawn, drawn_place};
+ghost use Rattle.tt_draw.specs.Draws.{drawn, drawn_place};
 ghost use Rattle.tt_improve.specs.declared.touched.Touched.{Touched};
 ghost use Rattle.tt_improve.specs.Idle.{KnowsIdle, targets_in, stages_in, unlooked};
 ghost use Rattle.tt_improve.specs.Targets.{courses_with, movable_classes, targets_of, seated_courses};

@@ -41,10 +41,10 @@ fn note_students(table: &mut [u32], places: Items<'_>, stage: u32)
 }
 
 // For each class, student and course the stage whose end was the last change that touched it, and the
-// stage of the last move of a class; 0 where there is none.
+// stage of the last change of any class; 0 where there is none.
 #[derive(Drop)]
 pub(crate) struct Touched {
-    moved: u32,
+    any_class: u32,
     classes: Vec<u32>,
     students: Vec<u32>,
     courses: Vec<u32>,
@@ -56,7 +56,7 @@ impl Touched {
         ensures { IfOk result (IsTableOf problem.now) }
     {
         Ok(Touched {
-            moved: 0,
+            any_class: 0,
             classes: vec![in alloc; 0; problem.class_count() as usize]?,
             students: vec![in alloc; 0; problem.student_count() as usize]?,
             courses: vec![in alloc; 0; problem.course_count() as usize]?,
@@ -75,7 +75,7 @@ impl Touched {
             Target::Class { class } => {
                 let course = state.problem().course_of(class);
                 let listed = self.classes[class as usize].max(self.courses[course as usize]);
-                self.moved.max(listed)
+                self.any_class.max(listed)
             }
             Target::Course { student, course } => {
                 self.students[student as usize].max(self.courses[course as usize])
@@ -94,7 +94,7 @@ impl Touched {
     {
         state.soundness();
         let course = state.problem().course_of(class);
-        self.moved = stage;
+        self.any_class = stage;
         self.courses[course as usize] = stage;
         let students = state.score().roster().attendees(class);
         note_students(self.students.as_mut_slice(), students, stage);

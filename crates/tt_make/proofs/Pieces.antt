@@ -11,7 +11,7 @@ use Rattle.serde_json.proofs.OnLiterals.{serde_json_on_literals}
 use Rattle.tt_make.specs.Values.{num, list, word_at}
 use Rattle.tt_make.specs.Pieces.{parent_text, rooms_text, travel_text, closed_text, strength_text}
 use Rattle.tt_make.specs.Draws.{Draws, draw_each}
-use Rattle.tt_make.specs.Classes.{day_words, week_words, time, time_data, choice_data, choices, class, made_class}
+use Rattle.tt_make.specs.Classes.{day_words, week_words, time, time_data, class_room_data, class_rooms, class, made_class}
 use Rattle.tt_make.specs.Courses.{course_data, config_data, whole_data, whole_course, last_course, subpart_data}
 use Rattle.tt_make.specs.Rooms.{room, room_data, travel, unavailable, travel_entry, friday_afternoon}
 use Rattle.tt_make.specs.Students.{student, request}
@@ -55,9 +55,9 @@ pub time_text : (days start length weeks penalty : ℕ) → compact_text (time_d
 unfolding time_data serde_json_on_literals digits
 time_text days start length weeks penalty = refl
 
-pub choice_text : (id penalty : ℕ) → compact_text (choice_data id penalty) ≡ (codes "{\"id\":" ++ decimal id) ++ ((codes ",\"penalty\":" ++ decimal penalty) ++ codes "}")
+pub class_room_text : (id penalty : ℕ) → compact_text (class_room_data id penalty) ≡ (codes "{\"id\":" ++ decimal id) ++ ((codes ",\"penalty\":" ++ decimal penalty) ++ codes "}")
 unfolding serde_json_on_literals digits
-choice_text id penalty = refl
+class_room_text id penalty = refl
 
 pub class_text : (id : ℕ) (parent : Option ℕ) (rooms : Option (List Data)) (times : List Data) → compact_text (made_class id parent rooms times)
     ≡ (codes "{\"id\":" ++ decimal id) ++ (codes ",\"limit\":50" ++ (parent_text parent ++ (rooms_text rooms ++ (codes ",\"times\":" ++ (compact_text (list times) ++ codes "}")))))
@@ -149,8 +149,8 @@ extended new old slice part e is = e ∙ ap (λ (t : List ℕ). old ++ t) is
 quoted_word : (new old word other : List ℕ) (key : List ℕ) → new ≡ old ++ (key ++ quoted word) → word ≡ other → new ≡ old ++ (key ++ quoted other)
 quoted_word new old word other key e is = e ∙ ap (λ (w : List ℕ). old ++ (key ++ quoted w)) is
 
-pub choice_written : (id penalty : ℕ) (out a b c : List ℕ) → a ≡ out ++ (codes "{\"id\":" ++ decimal id) → b ≡ a ++ (codes ",\"penalty\":" ++ decimal penalty) → c ≡ b ++ codes "}" → c ≡ out ++ compact_text (choice_data id penalty)
-choice_written id penalty out a b c is_a is_b is_c = shown _ out _ _ (then out _ _ (then a _ _ is_c is_b) is_a) (choice_text id penalty)
+pub class_room_written : (id penalty : ℕ) (out a b c : List ℕ) → a ≡ out ++ (codes "{\"id\":" ++ decimal id) → b ≡ a ++ (codes ",\"penalty\":" ++ decimal penalty) → c ≡ b ++ codes "}" → c ≡ out ++ compact_text (class_room_data id penalty)
+class_room_written id penalty out a b c is_a is_b is_c = shown _ out _ _ (then out _ _ (then a _ _ is_c is_b) is_a) (class_room_text id penalty)
 
 pub time_written : (days start length weeks penalty : ℕ) (day week out a b c d e f : List ℕ) → day ≡ word_at day_words days → week ≡ word_at week_words weeks → a ≡ out ++ (codes "{\"days\":" ++ quoted day)
     → b ≡ a ++ (codes ",\"length\":" ++ decimal (10 + 6 * length)) → c ≡ b ++ (codes ",\"penalty\":" ++ decimal penalty) → d ≡ c ++ (codes ",\"start\":" ++ decimal (96 + 12 * start))
@@ -182,19 +182,19 @@ unfolding attendees_rule
 attendees_written k out a b c is_a is_b is_c = shown _ out _ _ (then out _ _ (then a _ _ is_c is_b) is_a) (attendees_text (4 * k - 3) (4 * k - 1))
 
 pub class_written : (empty times out a b c d e f g : List ℕ) (rooms id : ℕ) (parent : Option ℕ) (start between : Lcg) → empty ≡ [] → times ≡ empty ++ compact_text (list (draw_each 0 6 (λ i. time) start).0)
-    → between ≡ (draw_each 0 6 (λ i. time) start).1 → a ≡ out ++ (codes "{\"id\":" ++ decimal id) → b ≡ a ++ codes ",\"limit\":50" → c ≡ b ++ parent_text parent → d ≡ c ++ rooms_text (choices rooms id between).0
+    → between ≡ (draw_each 0 6 (λ i. time) start).1 → a ≡ out ++ (codes "{\"id\":" ++ decimal id) → b ≡ a ++ codes ",\"limit\":50" → c ≡ b ++ parent_text parent → d ≡ c ++ rooms_text (class_rooms rooms id between).0
     → e ≡ d ++ codes ",\"times\":" → f ≡ e ++ times → g ≡ f ++ codes "}" → g ≡ out ++ compact_text (class rooms parent id start).0
 unfolding class
 class_written empty times out a b c d e f g rooms id parent start between is_empty is_times is_between is_a is_b is_c is_d is_e is_f is_g =
     let drawn : List Data = (draw_each 0 6 (λ i. time) start).0 in
     let now : Lcg = (draw_each 0 6 (λ i. time) start).1 in
     let is_text : times ≡ compact_text (list drawn) = is_times ∙ ap (λ (t : List ℕ). t ++ compact_text (list drawn)) is_empty in
-    let rooms_now = is_d ∙ ap (λ (l : Lcg). c ++ rooms_text (choices rooms id l).0) is_between in
-    shown _ out _ _ (then out _ _ (then a _ _ (then b _ _ (then c _ _ (then d _ _ (then e _ _ is_g (extended f e _ _ is_f is_text)) is_e) rooms_now) is_c) is_b) is_a) (class_text id parent (choices rooms id now).0 drawn)
+    let rooms_now = is_d ∙ ap (λ (l : Lcg). c ++ rooms_text (class_rooms rooms id l).0) is_between in
+    shown _ out _ _ (then out _ _ (then a _ _ (then b _ _ (then c _ _ (then d _ _ (then e _ _ is_g (extended f e _ _ is_f is_text)) is_e) rooms_now) is_c) is_b) is_a) (class_text id parent (class_rooms rooms id now).0 drawn)
 
-pub class_words : (rooms id : ℕ) (parent : Option ℕ) (start between after : Lcg) → between ≡ (draw_each 0 6 (λ i. time) start).1 → after ≡ (choices rooms id between).1 → after ≡ (class rooms parent id start).1
+pub class_words : (rooms id : ℕ) (parent : Option ℕ) (start between after : Lcg) → between ≡ (draw_each 0 6 (λ i. time) start).1 → after ≡ (class_rooms rooms id between).1 → after ≡ (class rooms parent id start).1
 unfolding class
-class_words rooms id parent start between after is_between is_after = is_after ∙ ap (λ (l : Lcg). (choices rooms id l).1) is_between
+class_words rooms id parent start between after is_between is_after = is_after ∙ ap (λ (l : Lcg). (class_rooms rooms id l).1) is_between
 
 abbrev parents : ℕ → ℕ → ℕ → Draws (List Data)
 parents rooms k count = draw_each (4 * k - 3) count (λ id. class rooms None id)

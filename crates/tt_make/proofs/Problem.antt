@@ -5,7 +5,7 @@ use Rattle.rand_pcg.specs.Lcg.{Lcg}
 use Rattle.serde_json.specs.Data.{Data}
 use Rattle.serde_json.specs.Written.{compact_text}
 use Rattle.serde_json.proofs.OnLiterals.{serde_json_on_literals}
-use Rattle.tt_draw.specs.Words.{seeded}
+use Rattle.tt_draw.specs.Draws.{seeded}
 use Rattle.tt_make.specs.Draws.{draw_each}
 use Rattle.tt_make.specs.Values.{list}
 use Rattle.tt_make.specs.Rooms.{room}

@@ -59,11 +59,11 @@ each_more make from i start =
 pub record Writes (make : ℕ → Draws Data) (from count i : ℕ) (start : Lcg) (before out : List ℕ) (now : Lcg) : Type 0 where
   pub within : i ≤ count
   pub text : out ≡ before ++ 91 ∷ pieces false (draw_each from i make start).0
-  pub words : now ≡ (draw_each from i make start).1
+  pub random : now ≡ (draw_each from i make start).1
 
 pub writes_none : (make : ℕ → Draws Data) (from count : ℕ) (start : Lcg) (before out : List ℕ) → out ≡ before ++ 91 ∷ [] → Writes make from count 0 start before out start
 unfolding pieces draw_each
-writes_none make from count start before out e = record { within = omega arith; text = e; words = refl }
+writes_none make from count start before out e = record { within = omega arith; text = e; random = refl }
 
 pub writes_more : {make : ℕ → Draws Data} {from count i : ℕ} {start now : Lcg} {before out : List ℕ} (comma new : List ℕ) (after : Lcg) → Writes make from count i start before out now → i < count
     → comma ≡ out ++ comma_if (nat_lt 0 i) → new ≡ comma ++ compact_text (make (from + i) now).0 → after ≡ (make (from + i) now).1 → Writes make from count (i + 1) start before new after
@@ -78,9 +78,9 @@ writes_more {make = make} {from = from} {i = i} {start = start} {now = now} {bef
           ∙ append_assoc (before ++ 91 ∷ pieces false ds) (comma_if (nat_lt 0 i)) (compact_text d)
           ∙ append_assoc before (91 ∷ pieces false ds) (comma_if (nat_lt 0 i) ++ compact_text d)
           ∙ ap (λ (t : List ℕ). before ++ 91 ∷ t) (sym joined)
-          ∙ ap (λ (g : Lcg). before ++ 91 ∷ pieces false (ds ++ (make (from + i) g).0 ∷ [])) w.words
+          ∙ ap (λ (g : Lcg). before ++ 91 ∷ pieces false (ds ++ (make (from + i) g).0 ∷ [])) w.random
           ∙ ap (λ (p : List Data × Lcg). before ++ 91 ∷ pieces false p.0) (sym (each_more make from i start));
-      words = is_after ∙ ap (λ (g : Lcg). (make (from + i) g).1) w.words ∙ ap (λ (p : List Data × Lcg). p.1) (sym (each_more make from i start));
+      random = is_after ∙ ap (λ (g : Lcg). (make (from + i) g).1) w.random ∙ ap (λ (p : List Data × Lcg). p.1) (sym (each_more make from i start));
     }
 
 pub writes_all : {make : ℕ → Draws Data} {from count i : ℕ} {start now : Lcg} {before out : List ℕ} (new : List ℕ) → Writes make from count i start before out now → count ≤ i → new ≡ out ++ 93 ∷ []
@@ -90,4 +90,4 @@ writes_all {make = make} {from = from} {count = count} {i = i} {start = start} {
     let text : new ≡ before ++ compact_text (list (draw_each from i make start).0) =
     is_new ∙ ap (λ (t : List ℕ). t ++ 93 ∷ []) w.text ∙ append_assoc before (91 ∷ pieces false (draw_each from i make start).0) (93 ∷ [])
     ∙ ap (λ (t : List ℕ). before ++ 91 ∷ t) (sym (pieces_end false (draw_each from i make start).0)) in
-    (text ∙ ap (λ (m : ℕ). before ++ compact_text (list (draw_each from m make start).0)) all, w.words ∙ ap (λ (m : ℕ). (draw_each from m make start).1) all)
+    (text ∙ ap (λ (m : ℕ). before ++ compact_text (list (draw_each from m make start).0)) all, w.random ∙ ap (λ (m : ℕ). (draw_each from m make start).1) all)

@@ -32,20 +32,20 @@ time = do
   give (time_data days start length weeks penalty)
 
 -- a room, with its penalty
-abbrev pub choice_data : ℕ → ℕ → Data
-choice_data id penalty = object (member (codes "id") (num id) (member (codes "penalty") (num penalty) no_members))
+abbrev pub class_room_data : ℕ → ℕ → Data
+class_room_data id penalty = object (member (codes "id") (num id) (member (codes "penalty") (num penalty) no_members))
 
 -- a room that a class may have, one of so many
-unfoldable pub choice : ℕ → Draws Data
-choice rooms = do
+unfoldable pub class_room : ℕ → Draws Data
+class_room rooms = do
   room ← draw rooms
   penalty ← draw 5
-  give (choice_data (1 + room) penalty)
+  give (class_room_data (1 + room) penalty)
 
 -- every tenth class needs no room
-unfoldable pub choices : ℕ → ℕ → Draws (Option (List Data))
-choices rooms id = if id % 10 == 0 then give None else do
-  made ← draw_each 0 4 (λ i. choice rooms)
+unfoldable pub class_rooms : ℕ → ℕ → Draws (Option (List Data))
+class_rooms rooms id = if id % 10 == 0 then give None else do
+  made ← draw_each 0 4 (λ i. class_room rooms)
   give (Some made)
 
 -- the key that says which rooms a class may have, before the other keys
@@ -63,5 +63,5 @@ made_class id parent rooms times =
 unfoldable pub class : ℕ → Option ℕ → ℕ → Draws Data
 class rooms parent id = do
   times ← draw_each 0 6 (λ i. time)
-  chosen ← choices rooms id
+  chosen ← class_rooms rooms id
   give (made_class id parent chosen times)

@@ -2,7 +2,7 @@
 use Rattle.std.specs.Prelude.{ℕ, zero, suc, ◌+◌, List, [], ◌∷◌, ◌++◌}
 use Rattle.rand_pcg.specs.Lcg.{Lcg}
 use Rattle.rand_pcg.specs.Pcg.{pcg32}
-use Rattle.tt_draw.specs.Words.{drawn_place}
+use Rattle.tt_draw.specs.Draws.{drawn_place}
 
 -- what is made by drawing, and the generator afterwards
 abbrev pub Draws : Type 0 → Type 0

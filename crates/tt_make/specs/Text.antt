@@ -2,7 +2,7 @@
 use Rattle.std.specs.Prelude.{ℕ, ◌+◌, ◌*◌, ◌/◌, List, codes}
 use Rattle.serde_json.specs.Data.{Data, string, object, member, no_members}
 use Rattle.serde_json.specs.Written.{compact_text}
-use Rattle.tt_draw.specs.Words.{seeded}
+use Rattle.tt_draw.specs.Draws.{seeded}
 use Rattle.tt_make.specs.Draws.{Draws, ◌>>=◌, give, draw_each}
 use Rattle.tt_make.specs.Values.{num, list}
 use Rattle.tt_make.specs.Rooms.{room}

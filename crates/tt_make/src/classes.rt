@@ -2,11 +2,11 @@
 
 ghost use Rattle.std.specs.Prelude.{◌≡◌, ◌≤◌, ◌-◌, ◌++◌, OnOk, Some, None, ⊤};
 ghost use Rattle.serde_json.specs.Written.{compact_text};
-ghost use Rattle.tt_make.specs.Classes.{choices as choices_of, class as class_of};
+ghost use Rattle.tt_make.specs.Classes.{class as class_of, class_rooms as class_rooms_of};
 ghost use Rattle.tt_make.specs.Pieces.{parent_text, rooms_text};
 
 use crate::append::{push_field, push_text};
-use crate::choices::Choices;
+use crate::class_rooms::ClassRooms;
 use crate::parts::{Made, push_list};
 use crate::times::Times;
 use rand_pcg::Lcg64Xsh32;
@@ -37,10 +37,10 @@ impl Made for Parents {
         &self,
         alloc: Global,
         out: &mut Vec<u8>,
-        words: &mut Lcg64Xsh32,
+        random: &mut Lcg64Xsh32,
         id: u32,
     ) -> Result<(), AllocError> {
-        push_class(alloc, out, words, self.rooms, None, id)
+        push_class(alloc, out, random, self.rooms, None, id)
     }
 }
 
@@ -53,10 +53,10 @@ impl Made for Children {
         &self,
         alloc: Global,
         out: &mut Vec<u8>,
-        words: &mut Lcg64Xsh32,
+        random: &mut Lcg64Xsh32,
         id: u32,
     ) -> Result<(), AllocError> {
-        push_class(alloc, out, words, self.rooms, Some(id - 2), id)
+        push_class(alloc, out, random, self.rooms, Some(id - 2), id)
     }
 }
 
@@ -64,7 +64,7 @@ impl Made for Children {
 fn push_class(
     alloc: Global,
     out: &mut Vec<u8>,
-    words: &mut Lcg64Xsh32,
+    random: &mut Lcg64Xsh32,
     rooms: u32,
     parent: Option<u32>,
     id: u32,
@@ -72,15 +72,15 @@ fn push_class(
     requires some { 1 ≤ rooms }
     requires few { rooms ≤ 2002 }
     ensures text { OnOk result
-        (out.new.items ≡ out.old.items ++ compact_text (class_of rooms parent id words.old).0) }
-    ensures words { OnOk result (words.new ≡ (class_of rooms parent id words.old).1) }
+        (out.new.items ≡ out.old.items ++ compact_text (class_of rooms parent id random.old).0) }
+    ensures random { OnOk result (random.new ≡ (class_of rooms parent id random.old).1) }
 {
     let mut times = Vec::new(alloc);
-    push_list(alloc, &mut times, words, &Times, 0, 6)?;
+    push_list(alloc, &mut times, random, &Times, 0, 6)?;
     push_field(out, r#"{"id":"#, id)?;
     push_text(out, r#","limit":50"#)?;
     push_parent(out, parent)?;
-    push_rooms(alloc, out, words, rooms, id)?;
+    push_rooms(alloc, out, random, rooms, id)?;
     push_text(out, r#","times":"#)?;
     out.extend_from_slice(&times)?;
     push_text(out, "}")?;
@@ -98,24 +98,24 @@ fn push_parent(out: &mut Vec<u8>, parent: Option<u32>) -> Result<(), AllocError>
 }
 
 // Appends the rooms of a class, which are drawn, or that it needs none.
-#[tactic(auto, unfolding(crate::specs::Classes::choices), using(std::proofs::Common::append_assoc))]
+#[tactic(auto, unfolding(crate::specs::Classes::class_rooms), using(std::proofs::Common::append_assoc))]
 fn push_rooms(
     alloc: Global,
     out: &mut Vec<u8>,
-    words: &mut Lcg64Xsh32,
+    random: &mut Lcg64Xsh32,
     rooms: u32,
     id: u32,
 ) -> Result<(), AllocError>
     requires some { 1 ≤ rooms }
     requires few { rooms ≤ 2002 }
     ensures text { OnOk result
-        (out.new.items ≡ out.old.items ++ rooms_text (choices_of rooms id words.old).0) }
-    ensures words { OnOk result (words.new ≡ (choices_of rooms id words.old).1) }
+        (out.new.items ≡ out.old.items ++ rooms_text (class_rooms_of rooms id random.old).0) }
+    ensures random { OnOk result (random.new ≡ (class_rooms_of rooms id random.old).1) }
 {
     if id % 10 == 0 {
         push_text(out, r#","room":false"#)
     } else {
         push_text(out, r#","rooms":"#)?;
-        push_list(alloc, out, words, &Choices { rooms }, 0, 4)
+        push_list(alloc, out, random, &ClassRooms { rooms }, 0, 4)
     }
 }

@@ -31,13 +31,13 @@ impl Made for Courses {
         &self,
         alloc: Global,
         out: &mut Vec<u8>,
-        words: &mut Lcg64Xsh32,
+        random: &mut Lcg64Xsh32,
         k: u32,
     ) -> Result<(), AllocError> {
         if 4 * k <= self.classes {
-            push_whole(alloc, out, words, self.rooms, k)
+            push_whole(alloc, out, random, self.rooms, k)
         } else {
-            push_last(alloc, out, words, self.rooms, self.classes % 4, k)
+            push_last(alloc, out, random, self.rooms, self.classes % 4, k)
         }
     }
 }
@@ -58,7 +58,7 @@ pub fn course_count(classes: u32) -> u32
 fn push_whole(
     alloc: Global,
     out: &mut Vec<u8>,
-    words: &mut Lcg64Xsh32,
+    random: &mut Lcg64Xsh32,
     rooms: u32,
     k: u32,
 ) -> Result<(), AllocError>
@@ -67,22 +67,22 @@ fn push_whole(
     requires first { 1 ≤ k }
     requires last { k ≤ 5000 }
     ensures text { OnOk result
-        (out.new.items ≡ out.old.items ++ compact_text (whole_of rooms k words.old).0) }
-    ensures words { OnOk result (words.new ≡ (whole_of rooms k words.old).1) }
+        (out.new.items ≡ out.old.items ++ compact_text (whole_of rooms k random.old).0) }
+    ensures random { OnOk result (random.new ≡ (whole_of rooms k random.old).1) }
 {
     push_field(out, r#"{"configs":[{"id":"#, k)?;
     push_text(out, r#","subparts":["#)?;
     push_subpart(
         alloc,
         out,
-        words,
+        random,
         &Parents { rooms },
         4 * k - 3,
         2,
         2 * k - 1,
     )?;
     push_text(out, ",")?;
-    push_subpart(alloc, out, words, &Children { rooms }, 4 * k - 1, 2, 2 * k)?;
+    push_subpart(alloc, out, random, &Children { rooms }, 4 * k - 1, 2, 2 * k)?;
     push_field(out, r#"]}],"id":"#, k)?;
     push_text(out, "}")?;
     Ok(())
@@ -92,7 +92,7 @@ fn push_whole(
 fn push_last(
     alloc: Global,
     out: &mut Vec<u8>,
-    words: &mut Lcg64Xsh32,
+    random: &mut Lcg64Xsh32,
     rooms: u32,
     count: u32,
     k: u32,
@@ -103,15 +103,15 @@ fn push_last(
     requires last { k ≤ 5000 }
     requires count { count < 4 }
     ensures text { OnOk result
-        (out.new.items ≡ out.old.items ++ compact_text (last_of rooms count k words.old).0) }
-    ensures words { OnOk result (words.new ≡ (last_of rooms count k words.old).1) }
+        (out.new.items ≡ out.old.items ++ compact_text (last_of rooms count k random.old).0) }
+    ensures random { OnOk result (random.new ≡ (last_of rooms count k random.old).1) }
 {
     push_field(out, r#"{"configs":[{"id":"#, k)?;
     push_text(out, r#","subparts":["#)?;
     push_subpart(
         alloc,
         out,
-        words,
+        random,
         &Parents { rooms },
         4 * k - 3,
         count,
@@ -126,7 +126,7 @@ fn push_last(
 fn push_subpart<P: Made>(
     alloc: Global,
     out: &mut Vec<u8>,
-    words: &mut Lcg64Xsh32,
+    random: &mut Lcg64Xsh32,
     classes: &P,
     from: u32,
     count: u32,
@@ -137,12 +137,12 @@ fn push_subpart<P: Made>(
     ensures text { OnOk result (out.new.items
         ≡ out.old.items
         ++ compact_text
-        (subpart_data id (draw_each from count (P.made classes.now) words.old).0)) }
-    ensures words { OnOk result
-        (words.new ≡ (draw_each from count (P.made classes.now) words.old).1) }
+        (subpart_data id (draw_each from count (P.made classes.now) random.old).0)) }
+    ensures random { OnOk result
+        (random.new ≡ (draw_each from count (P.made classes.now) random.old).1) }
 {
     push_text(out, r#"{"classes":"#)?;
-    push_list(alloc, out, words, classes, from, count)?;
+    push_list(alloc, out, random, classes, from, count)?;
     push_field(out, r#","id":"#, id)?;
     push_text(out, "}")?;
     Ok(())

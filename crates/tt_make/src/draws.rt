@@ -9,11 +9,11 @@ use tt_draw::draw as draw_place;
 
 /// A number below `k`, from the next word.
 #[tactic(auto, unfolding(crate::specs::Draws::draw))]
-pub fn draw(words: &mut Lcg64Xsh32, k: u32) -> u32
+pub fn draw(random: &mut Lcg64Xsh32, k: u32) -> u32
     requires { 0 < k }
-    ensures gives { (result, words.new) ≡ draw_of k words.old }
+    ensures gives { (result, random.new) ≡ draw_of k random.old }
     ensures below { result < k }
 {
-    let word = words.next_word();
+    let word = random.next_word();
     draw_place(word, u64::from(k)) as u32
 }

@@ -4,7 +4,7 @@
 #![tactic(auto)]
 
 mod append;
-mod choices;
+mod class_rooms;
 mod classes;
 mod courses;
 mod draws;

@@ -23,20 +23,20 @@ pub trait Made {
         &self,
         alloc: Global,
         out: &mut Vec<u8>,
-        words: &mut Lcg64Xsh32,
+        random: &mut Lcg64Xsh32,
         number: u32,
     ) -> Result<(), AllocError>
         requires { covers self.now number }
         ensures text { OnOk result
-            (out.new.items ≡ out.old.items ++ compact_text (made self.now number words.old).0) }
-        ensures words { OnOk result (words.new ≡ (made self.now number words.old).1) };
+            (out.new.items ≡ out.old.items ++ compact_text (made self.now number random.old).0) }
+        ensures random { OnOk result (random.new ≡ (made self.now number random.old).1) };
 }
 
 /// Appends the text of the list of the parts for `from` and the numbers after it, `count` in all.
 pub fn push_list<P: Made>(
     alloc: Global,
     out: &mut Vec<u8>,
-    words: &mut Lcg64Xsh32,
+    random: &mut Lcg64Xsh32,
     part: &P,
     from: u32,
     count: u32,
@@ -45,13 +45,14 @@ pub fn push_list<P: Made>(
     requires covers { (k : ℕ) → from ≤ k → k < from + count → P.covers part.now k }
     ensures text { OnOk result (out.new.items
         ≡ out.old.items
-        ++ compact_text (list_data (draw_each from count (P.made part.now) words.old).0)) }
-    ensures words { OnOk result (words.new ≡ (draw_each from count (P.made part.now) words.old).1) }
+        ++ compact_text (list_data (draw_each from count (P.made part.now) random.old).0)) }
+    ensures random { OnOk result
+        (random.new ≡ (draw_each from count (P.made part.now) random.old).1) }
 {
     out.push(b'[')?;
     for i in 0..count {
         push_comma_if(out, i > 0)?;
-        part.push(alloc, out, words, from + i)?;
+        part.push(alloc, out, random, from + i)?;
     }
     out.push(b']')?;
     Ok(())

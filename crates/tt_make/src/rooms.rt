@@ -25,11 +25,11 @@ impl Made for Rooms {
         &self,
         _alloc: Global,
         out: &mut Vec<u8>,
-        words: &mut Lcg64Xsh32,
+        random: &mut Lcg64Xsh32,
         id: u32,
     ) -> Result<(), AllocError> {
         push_field(out, r#"{"capacity":60,"id":"#, id)?;
-        push_travel(out, words, id)?;
+        push_travel(out, random, id)?;
         push_unavailable(out, id)?;
         push_text(out, "}")?;
         Ok(())
@@ -38,16 +38,16 @@ impl Made for Rooms {
 
 // The travel to the room before this one, a drawn number of slots; none for the first room.
 #[tactic(auto, unfolding(crate::specs::Rooms::travel))]
-fn push_travel(out: &mut Vec<u8>, words: &mut Lcg64Xsh32, id: u32) -> Result<(), AllocError>
+fn push_travel(out: &mut Vec<u8>, random: &mut Lcg64Xsh32, id: u32) -> Result<(), AllocError>
     requires { 1 ≤ id }
     ensures text { OnOk result
-        (out.new.items ≡ out.old.items ++ travel_text (travel_of id words.old).0) }
-    ensures words { OnOk result (words.new ≡ (travel_of id words.old).1) }
+        (out.new.items ≡ out.old.items ++ travel_text (travel_of id random.old).0) }
+    ensures random { OnOk result (random.new ≡ (travel_of id random.old).1) }
 {
     if id == 1 {
         return Ok(());
     }
-    let steps = draw(words, 3);
+    let steps = draw(random, 3);
     push_entry(out, id - 1, 1 + steps)
 }
 

@@ -27,12 +27,12 @@ impl Made for Rules {
         &self,
         _alloc: Global,
         out: &mut Vec<u8>,
-        words: &mut Lcg64Xsh32,
+        random: &mut Lcg64Xsh32,
         j: u32,
     ) -> Result<(), AllocError> {
         let k = j / 2 + 1;
         if j % 2 == 0 {
-            let penalty = draw(words, 10);
+            let penalty = draw(random, 10);
             push_turn(out, k, 1 + penalty)
         } else {
             push_attendees(out, k)

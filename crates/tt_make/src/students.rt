@@ -35,14 +35,14 @@ impl Made for Students {
         &self,
         alloc: Global,
         out: &mut Vec<u8>,
-        words: &mut Lcg64Xsh32,
+        random: &mut Lcg64Xsh32,
         id: u32,
     ) -> Result<(), AllocError> {
         let requests = Requests {
             courses: self.courses,
         };
         push_text(out, r#"{"courses":"#)?;
-        push_list(alloc, out, words, &requests, 0, 4)?;
+        push_list(alloc, out, random, &requests, 0, 4)?;
         push_field(out, r#","id":"#, id)?;
         push_text(out, "}")?;
         Ok(())
@@ -59,10 +59,10 @@ impl Made for Requests {
         &self,
         _alloc: Global,
         out: &mut Vec<u8>,
-        words: &mut Lcg64Xsh32,
+        random: &mut Lcg64Xsh32,
         _i: u32,
     ) -> Result<(), AllocError> {
-        let course = draw(words, self.courses);
+        let course = draw(random, self.courses);
         push_field(out, "", 1 + course)
     }
 }

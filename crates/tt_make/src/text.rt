@@ -25,17 +25,17 @@ pub fn make_text(alloc: Global, seed: u64, classes: u32) -> Result<Vec<u8>, Allo
     requires few { classes ≤ most_classes }
     ensures { IfOk result (λ v. v.items ≡ text_of seed classes) }
 {
-    let mut words = Lcg64Xsh32::new(seed, 1);
+    let mut random = Lcg64Xsh32::new(seed, 1);
     let rooms = classes / 10 + 2;
     let courses = course_count(classes);
     let mut rooms_text = Vec::new(alloc);
-    push_list(alloc, &mut rooms_text, &mut words, &Rooms, 1, rooms)?;
+    push_list(alloc, &mut rooms_text, &mut random, &Rooms, 1, rooms)?;
     let mut out = Vec::new(alloc);
     push_text(&mut out, r#"{"courses":"#)?;
     let all = Courses { rooms, classes };
-    push_list(alloc, &mut out, &mut words, &all, 1, courses)?;
+    push_list(alloc, &mut out, &mut random, &all, 1, courses)?;
     push_text(&mut out, r#","distributions":"#)?;
-    push_list(alloc, &mut out, &mut words, &Rules, 0, 2 * (classes / 4))?;
+    push_list(alloc, &mut out, &mut random, &Rules, 0, 2 * (classes / 4))?;
     push_text(
         &mut out,
         r#","name":"generated","nrDays":7,"nrWeeks":13,"optimization":{"distribution":1,"room":1,"student":2,"time":2},"rooms":"#,
@@ -43,7 +43,7 @@ pub fn make_text(alloc: Global, seed: u64, classes: u32) -> Result<Vec<u8>, Allo
     out.extend_from_slice(&rooms_text)?;
     push_text(&mut out, r#","slotsPerDay":288,"students":"#)?;
     let all = Students { courses };
-    push_list(alloc, &mut out, &mut words, &all, 1, 15 * classes / 4)?;
+    push_list(alloc, &mut out, &mut random, &all, 1, 15 * classes / 4)?;
     push_text(&mut out, "}")?;
     Ok(out)
 }

@@ -25,14 +25,14 @@ impl Made for Times {
         &self,
         _alloc: Global,
         out: &mut Vec<u8>,
-        words: &mut Lcg64Xsh32,
+        random: &mut Lcg64Xsh32,
         _i: u32,
     ) -> Result<(), AllocError> {
-        let days = draw(words, 9);
-        let start = draw(words, 10);
-        let length = draw(words, 3);
-        let weeks = draw(words, 3);
-        let penalty = draw(words, 5);
+        let days = draw(random, 9);
+        let start = draw(random, 10);
+        let length = draw(random, 3);
+        let weeks = draw(random, 3);
+        let penalty = draw(random, 5);
         let drawn = DrawnTime {
             days,
             start,

@@ -10,7 +10,7 @@ use Rattle.tt_script.specs.declared.reading.Turns.{Turns}
 use Rattle.tt_script.specs.declared.reading.Chosen.{Chosen}
 use Rattle.tt_script.specs.declared.reading.Chosen.TheVariants.{All, One}
 use Rattle.tt_script.specs.declared.reading.Closing.{Closing}
-use Rattle.tt_bits.specs.Words.{bit_word}
+use Rattle.tt_bits.specs.BitWords.{bit_word}
 
 -- ---- words
 

@@ -4,7 +4,7 @@ use Rattle.std.specs.Prelude.{◌/◌, ◌&&◌, ◌||◌, nat_eq, slice_get, sl
 use Rattle.std.specs.List.{filter, list_any, range_with_len}
 use Rattle.std.specs.Option.{is_none}
 use Rattle.std.proofs.lemmas.Bool.Decides.{eqb_tells}
-use Rattle.tt_draw.specs.Words.{drawn}
+use Rattle.tt_draw.specs.Draws.{drawn}
 use Rattle.tt_flags.specs.Places.{is_set, set_places}
 use Rattle.tt_problem.specs.declared.parts.Parts.{Parts}
 use Rattle.tt_state.specs.Snapshots.{Snapshot}

@@ -11,7 +11,7 @@ use Rattle.std.proofs.lemmas.Option.{slice_get_within, get_or_from_slice_get}
 use Rattle.rand_core.specs.Stream.{Stream, next_u32}
 use Rattle.tt_base.specs.Lists.{first_least, is_less}
 use Rattle.tt_bits.specs.declared.times.Value.{Value}
-use Rattle.tt_draw.specs.Words.{drawn, random_words}
+use Rattle.tt_draw.specs.Draws.{drawn, random_words}
 use Rattle.tt_problem.specs.declared.parts.Parts.{Parts}
 use Rattle.tt_plan.specs.Domain.{IsOfDomain, domain_of}
 use Rattle.tt_plan.proofs.DomainLaws.{IsOfDomain_iff}
@@ -45,17 +45,17 @@ least_has P numbers (y ∷ xs) x all is =
     rw e at (all first.0 y first.1.0)
 
 -- what each turn keeps, all have that come after it
-all_onward : {W A : Type 0} (P : A → Type 0) (draw : Stream → W × Stream) (turn : W → A → Option A) → ((w : W) (a b : A) → P a → turn w a ≡ Some b → P b) → (n : ℕ) (words : Stream) (a : A) → P a
-    → All P (onward draw turn n words a)
+all_onward : {W A : Type 0} (P : A → Type 0) (draw : Stream → W × Stream) (turn : W → A → Option A) → ((w : W) (a b : A) → P a → turn w a ≡ Some b → P b) → (n : ℕ) (random : Stream) (a : A) → P a
+    → All P (onward draw turn n random a)
 unfolding onward
-all_onward P draw turn keep zero words a has = λ k d lt. absurd (omega (arith, lt))
-all_onward {W = W} {A = A} P draw turn keep (suc n) words a has = by (turn (draw words).0 a) refl (all_onward P draw turn keep n (draw words).1)
+all_onward P draw turn keep zero random a has = λ k d lt. absurd (omega (arith, lt))
+all_onward {W = W} {A = A} P draw turn keep (suc n) random a has = by (turn (draw random).0 a) refl (all_onward P draw turn keep n (draw random).1)
   where
-    by : (o : Option A) → turn (draw words).0 a ≡ o → ((b : A) → P b → All P (onward draw turn n (draw words).1 b)) → All P (then_on o (onward draw turn n (draw words).1))
+    by : (o : Option A) → turn (draw random).0 a ≡ o → ((b : A) → P b → All P (onward draw turn n (draw random).1 b)) → All P (then_on o (onward draw turn n (draw random).1))
     by None is rest = λ k d lt. absurd (omega (arith, lt))
     by (Some b) is rest =
-        let next = keep (draw words).0 a b has is in
-        all_cons P b (onward draw turn n (draw words).1 b) next (rest b next)
+        let next = keep (draw random).0 a b has is in
+        all_cons P b (onward draw turn n (draw random).1 b) next (rest b next)
 
 -- locked classes are placed, and those that were locked in the first snapshot stay where they were
 record HasLocksOf (start s : Snapshot) : Type 0 where
@@ -146,19 +146,19 @@ snapshot_after p m class None = refl
 snapshot_after p m class (Some v) = refl
 
 -- a turn that learns leaves the classes that are locked
-place_turn_has : (p : Parts) (start : Snapshot) (words : TurnWords) (m n : PlaceMoment) → HasLocksOf start m.snapshot → place_turn p words m ≡ Some n → HasLocksOf start n.snapshot
+place_turn_has : (p : Parts) (start : Snapshot) (random : TurnWords) (m n : PlaceMoment) → HasLocksOf start m.snapshot → place_turn p random m ≡ Some n → HasLocksOf start n.snapshot
 unfolding place_turn
-place_turn_has p start words m n has is = by (drawn words.class (candidates p m.snapshot)) refl is
+place_turn_has p start random m n has is = by (drawn random.class (candidates p m.snapshot)) refl is
   where
     forces : (class : ℕ) → Option Value → PlaceMoment
     forces class o = after_forcing p m class o
 
-    by : (o : Option ℕ) → drawn words.class (candidates p m.snapshot) ≡ o → option_map (λ class. after_forcing p m class (drawn words.value (least_values p m class))) o ≡ Some n → HasLocksOf start n.snapshot
+    by : (o : Option ℕ) → drawn random.class (candidates p m.snapshot) ≡ o → option_map (λ class. after_forcing p m class (drawn random.value (least_values p m class))) o ≡ Some n → HasLocksOf start n.snapshot
     by None from is = absurd (cc)
     by (Some class) from is =
-        let value = drawn words.value (least_values p m class) in
+        let value = drawn random.value (least_values p m class) in
         let after : forces class value ≡ n = cc in
-        let kept = forced_if_has p start m.snapshot class value has (drawn_unplaced p m.snapshot words.class class from) (drawn_free p m class words.value value refl) in
+        let kept = forced_if_has p start m.snapshot class value has (drawn_unplaced p m.snapshot random.class class from) (drawn_free p m class random.value value refl) in
         rw after at (rw (sym (snapshot_after p m class value)) at kept)
 
 -- where all snapshots of a way leave the locked classes, so does where it ends
@@ -185,5 +185,5 @@ all_of_map P f (x ∷ xs) all = all_cons P (f x) (map f xs) (all 0 x (omega arit
 pub place_locked_stay : (p : Parts) (n seed : ℕ) (s t : Snapshot) → ((class : ℕ) → is_locked_in s class ≡ true → is_some (value_in s class) ≡ true) → place_end p n seed s ≡ t → (class : ℕ) → StaysLocked s t class
 place_locked_stay p n seed s t placed is =
     let start = starts_locked s placed in
-    let all = all_onward (λ m. HasLocksOf s m.snapshot) two_words (place_turn p) (λ words a b. place_turn_has p s words a b) n (random_words seed) (record { snapshot = s; outs = [] }) start in
+    let all = all_onward (λ m. HasLocksOf s m.snapshot) two_words (place_turn p) (λ random a b. place_turn_has p s random a b) n (random_words seed) (record { snapshot = s; outs = [] }) start in
     ends_locked (rank_of p None) s (places_after p n seed s) t start (all_of_map (HasLocksOf s) (λ m. m.snapshot) (after_places p n seed s) all) (place_ends_at_first p n seed s t is)

@@ -12,7 +12,7 @@ use Rattle.std.proofs.lemmas.Bool.Decides.{eqb_tells}
 use Rattle.tt_base.proofs.ListLemmas.{drop_at}
 use Rattle.std.proofs.lemmas.List.Sums.{sum_by-append, sum_by-cons, count_by-le-length}
 use Rattle.rand_core.specs.Stream.{Stream, next_u32}
-use Rattle.tt_draw.specs.Words.{drawn, random_words}
+use Rattle.tt_draw.specs.Draws.{drawn, random_words}
 use Rattle.tt_bits.specs.declared.times.Value.{Value}
 use Rattle.tt_problem.specs.declared.parts.Parts.{Parts}
 use Rattle.tt_state.specs.Snapshots.{Snapshot}
@@ -88,19 +88,19 @@ then_words class next = (record { class = class; value = next.0 }, next.1)
 all_words : ℕ × Stream → TurnWords × Stream
 all_words next = then_words next.0 (next_u32 next.1)
 
-pub two_drawn : (class value : ℕ) (words middle left : Stream) → (class, middle) ≡ next_u32 words → (value, left) ≡ next_u32 middle → (record { class = class; value = value }, left) ≡ two_words words
+pub two_drawn : (class value : ℕ) (random middle left : Stream) → (class, middle) ≡ next_u32 random → (value, left) ≡ next_u32 middle → (record { class = class; value = value }, left) ≡ two_words random
 unfolding then_words all_words
-two_drawn class value words middle left first second = ap (then_words class) second ∙ ap all_words first
+two_drawn class value random middle left first second = ap (then_words class) second ∙ ap all_words first
 
 -- the turn where no word draws a class, and where one does
-pub no_class : (p : Parts) (words : TurnWords) (m : PlaceMoment) → drawn words.class (candidates p m.snapshot) ≡ None → place_turn p words m ≡ None
+pub no_class : (p : Parts) (random : TurnWords) (m : PlaceMoment) → drawn random.class (candidates p m.snapshot) ≡ None → place_turn p random m ≡ None
 unfolding place_turn
-no_class p words m none = rw none refl
+no_class p random m none = rw none refl
 
-pub one_class : (p : Parts) (words : TurnWords) (m : PlaceMoment) (class : ℕ) (value : Option Value) → drawn words.class (candidates p m.snapshot) ≡ Some class → drawn words.value (least_values p m class) ≡ value
-    → place_turn p words m ≡ Some (after_forcing p m class value)
+pub one_class : (p : Parts) (random : TurnWords) (m : PlaceMoment) (class : ℕ) (value : Option Value) → drawn random.class (candidates p m.snapshot) ≡ Some class → drawn random.value (least_values p m class) ≡ value
+    → place_turn p random m ≡ Some (after_forcing p m class value)
 unfolding place_turn
-one_class p words m class value is chosen = rw is (rw chosen refl)
+one_class p random m class value is chosen = rw is (rw chosen refl)
 
 -- what a turn leaves behind
 pub after_same : (p : Parts) (s t : Snapshot) (outs taken : List ℕ) (m : Turn) → t ≡ after_making p s m → IfSome m.value (λ v. taken ≡ conflict_set_of p s m.class v) → moment_after p s outs m ≡ record { snapshot = t; outs = taken_by m taken ++ outs }
@@ -112,22 +112,22 @@ after_same p s t outs taken m is found = by m.value is found
     by (Some v) is found = rw (is, found) refl
 
 -- how far turns that learn have come
-pub record IsPlacing (p : Parts) (turns seed : ℕ) (start : Snapshot) (made : ℕ) (words : Stream) (now : Snapshot) (trail : List Snapshot) (w : ClassWeights) (best : Best) : Type 0 where
+pub record IsPlacing (p : Parts) (turns seed : ℕ) (start : Snapshot) (made : ℕ) (random : Stream) (now : Snapshot) (trail : List Snapshot) (w : ClassWeights) (best : Best) : Type 0 where
   pub outs : List ℕ
   pub counts : CountsOuts p outs w
   pub few : length outs ≤ made * 20000
-  pub way : IsUnderWay (rank_of p None) trail (map (λ (m : PlaceMoment). m.snapshot) (onward two_words (place_turn p) (turns - made) words (record { snapshot = now; outs = outs }))) best made (place_end p turns seed start) (length (places_after p turns seed start))
+  pub way : IsUnderWay (rank_of p None) trail (map (λ (m : PlaceMoment). m.snapshot) (onward two_words (place_turn p) (turns - made) random (record { snapshot = now; outs = outs }))) best made (place_end p turns seed start) (length (places_after p turns seed start))
 
 -- so no count is near its end
-pub far_off : (p : Parts) (turns seed : ℕ) (start : Snapshot) (made : ℕ) (words : Stream) (now : Snapshot) (trail : List Snapshot) (w : ClassWeights) (best : Best) → IsPlacing p turns seed start made words now trail w best
+pub far_off : (p : Parts) (turns seed : ℕ) (start : Snapshot) (made : ℕ) (random : Stream) (now : Snapshot) (trail : List Snapshot) (w : ClassWeights) (best : Best) → IsPlacing p turns seed start made random now trail w best
     → made < 2 ^ 32 → (class : ℕ) → slice_index_or w.outs.items class 0 ≤ 2 ^ 63
-far_off p turns seed start made words now trail w best on below class = omega (arith, on.counts.counts class, few_counted class on.outs, on.few, below)
+far_off p turns seed start made random now trail w best on below class = omega (arith, on.counts.counts class, few_counted class on.outs, on.few, below)
 
 -- before the first turn
-pub starts_placing : (p : Parts) (turns seed : ℕ) (s : Snapshot) (words : Stream) (trail : List Snapshot) (w : ClassWeights) (best : Best) → CountsOuts p [] w → words ≡ random_words seed → trail ≡ s ∷ []
-    → rank_numbers best.rank ≡ rank_of p None s → best.mark ≡ 0 → IsPlacing p turns seed s 0 words s trail w best
+pub starts_placing : (p : Parts) (turns seed : ℕ) (s : Snapshot) (random : Stream) (trail : List Snapshot) (w : ClassWeights) (best : Best) → CountsOuts p [] w → random ≡ random_words seed → trail ≡ s ∷ []
+    → rank_numbers best.rank ≡ rank_of p None s → best.place ≡ 0 → IsPlacing p turns seed s 0 random s trail w best
 unfolding place_end
-starts_placing p turns seed s words trail w best counts seeded is ranked first =
+starts_placing p turns seed s random trail w best counts seeded is ranked first =
     let whole : turns - 0 ≡ turns = omega arith in
     record {
       outs = [];
@@ -137,17 +137,17 @@ starts_placing p turns seed s words trail w best counts seeded is ranked first =
     }
 
 -- a turn that is made
-pub next_placing : (p : Parts) (turns seed : ℕ) (start : Snapshot) (made : ℕ) (words left : Stream) (pair : TurnWords) (now next : Snapshot) (before after : List Snapshot) (w v : ClassWeights) (old new : Best) (m : Turn) (taken : List ℕ)
-    → IsPlacing p turns seed start made words now before w old → made < turns → (pair, left) ≡ two_words words
+pub next_placing : (p : Parts) (turns seed : ℕ) (start : Snapshot) (made : ℕ) (random left : Stream) (pair : TurnWords) (now next : Snapshot) (before after : List Snapshot) (w v : ClassWeights) (old new : Best) (m : Turn) (taken : List ℕ)
+    → IsPlacing p turns seed start made random now before w old → made < turns → (pair, left) ≡ two_words random
     → ((outs : List ℕ) → CountsOuts p outs w → place_turn p pair (record { snapshot = now; outs = outs }) ≡ Some (moment_after p now outs m))
     → next ≡ after_making p now m → IfSome m.value (λ v. taken ≡ conflict_set_of p now m.class v) → LeadsOn (rank_of p None) before after next old new
     → length v.outs.items ≡ length w.outs.items → ((class : ℕ) → slice_index_or v.outs.items class 0 ≡ slice_index_or w.outs.items class 0 + count_by (nat_eq class) (taken_by m taken)) → length (taken_by m taken) ≤ 20000
     → IsPlacing p turns seed start (made + 1) left next after v new
-next_placing p turns seed start made words left pair now next before after w v old new m taken on below is turn moved found leads whole more few =
+next_placing p turns seed start made random left pair now next before after w v old new m taken on below is turn moved found leads whole more few =
     let outs = taken_by m taken ++ on.outs in
     let moment : PlaceMoment = record { snapshot = next; outs = outs } in
     let made_now = turn on.outs on.counts ∙ ap Some (after_same p now next on.outs taken m moved found) in
-    let onward_is = made_turn two_words (place_turn p) turns made words left pair (record { snapshot = now; outs = on.outs }) moment below is made_now in
+    let onward_is = made_turn two_words (place_turn p) turns made random left pair (record { snapshot = now; outs = on.outs }) moment below is made_now in
     record {
       outs = outs;
       counts = counts_more p on.outs (taken_by m taken) w v on.counts whole more;
@@ -156,25 +156,25 @@ next_placing p turns seed start made words left pair now next before after w v o
     }
 
 -- without a candidate the way is at its end
-pub no_placing : (p : Parts) (turns seed : ℕ) (start : Snapshot) (made : ℕ) (words left : Stream) (pair : TurnWords) (now : Snapshot) (trail : List Snapshot) (w : ClassWeights) (best : Best) → IsPlacing p turns seed start made words now trail w best
-    → (pair, left) ≡ two_words words → ((outs : List ℕ) → CountsOuts p outs w → place_turn p pair (record { snapshot = now; outs = outs }) ≡ None)
+pub no_placing : (p : Parts) (turns seed : ℕ) (start : Snapshot) (made : ℕ) (random left : Stream) (pair : TurnWords) (now : Snapshot) (trail : List Snapshot) (w : ClassWeights) (best : Best) → IsPlacing p turns seed start made random now trail w best
+    → (pair, left) ≡ two_words random → ((outs : List ℕ) → CountsOuts p outs w → place_turn p pair (record { snapshot = now; outs = outs }) ≡ None)
     → IsUnderWay (rank_of p None) trail [] best made (place_end p turns seed start) (length (places_after p turns seed start))
-no_placing p turns seed start made words left pair now trail w best on is turn =
-    let onward_is = no_turn two_words (place_turn p) (turns - made) words left pair (record { snapshot = now; outs = on.outs }) is (turn on.outs on.counts) in
+no_placing p turns seed start made random left pair now trail w best on is turn =
+    let onward_is = no_turn two_words (place_turn p) (turns - made) random left pair (record { snapshot = now; outs = on.outs }) is (turn on.outs on.counts) in
     rw onward_is at on.way
 
 -- and so it is once all turns are made
-pub all_placing : (p : Parts) (turns seed : ℕ) (start : Snapshot) (made : ℕ) (words : Stream) (now : Snapshot) (trail : List Snapshot) (w : ClassWeights) (best : Best) → IsPlacing p turns seed start made words now trail w best
+pub all_placing : (p : Parts) (turns seed : ℕ) (start : Snapshot) (made : ℕ) (random : Stream) (now : Snapshot) (trail : List Snapshot) (w : ClassWeights) (best : Best) → IsPlacing p turns seed start made random now trail w best
     → turns ≡ made → IsUnderWay (rank_of p None) trail [] best turns (place_end p turns seed start) (length (places_after p turns seed start))
-all_placing p turns seed start made words now trail w best on all =
-    let onward_is = no_turn_left two_words (place_turn p) turns made words (record { snapshot = now; outs = on.outs }) (omega (arith, all)) in
+all_placing p turns seed start made random now trail w best on all =
+    let onward_is = no_turn_left two_words (place_turn p) turns made random (record { snapshot = now; outs = on.outs }) (omega (arith, all)) in
     let way = rw onward_is at on.way in
     record { now = way.now; at = way.at; ranked = way.ranked; ends = way.ends; counts = ap (λ n. n + 0) all ∙ way.counts }
 
 -- where a turn leads on, one is made
-pub turn_made : (p : Parts) (turns seed : ℕ) (start : Snapshot) (made : ℕ) (words left : Stream) (pair : TurnWords) (now : Snapshot) (trail : List Snapshot) (w : ClassWeights) (best : Best) → IsPlacing p turns seed start made words now trail w best
-    → made < turns → (pair, left) ≡ two_words words → ((outs : List ℕ) → CountsOuts p outs w → IsSome (place_turn p pair (record { snapshot = now; outs = outs }))) → 0 < length (places_after p turns seed start)
-turn_made p turns seed start made words left pair now trail w best on below is turn = by (place_turn p pair m) refl (turn on.outs on.counts)
+pub turn_made : (p : Parts) (turns seed : ℕ) (start : Snapshot) (made : ℕ) (random left : Stream) (pair : TurnWords) (now : Snapshot) (trail : List Snapshot) (w : ClassWeights) (best : Best) → IsPlacing p turns seed start made random now trail w best
+    → made < turns → (pair, left) ≡ two_words random → ((outs : List ℕ) → CountsOuts p outs w → IsSome (place_turn p pair (record { snapshot = now; outs = outs }))) → 0 < length (places_after p turns seed start)
+turn_made p turns seed start made random left pair now trail w best on below is turn = by (place_turn p pair m) refl (turn on.outs on.counts)
   where
     m : PlaceMoment
     m = record { snapshot = now; outs = on.outs }
@@ -182,5 +182,5 @@ turn_made p turns seed start made words left pair now trail w best on below is t
     by : (o : Option PlaceMoment) → place_turn p pair m ≡ o → IsSome o → 0 < length (places_after p turns seed start)
     by None e some = absurd (cc some)
     by (Some next) e some =
-        let way = rw (made_turn two_words (place_turn p) turns made words left pair m next below is e) at on.way in
+        let way = rw (made_turn two_words (place_turn p) turns made random left pair m next below is e) at on.way in
         omega (arith, way.counts)

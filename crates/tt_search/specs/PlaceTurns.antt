@@ -9,7 +9,7 @@ use Rattle.tt_state.specs.Snapshots.{Snapshot}
 use Rattle.tt_state.specs.Values.{conflict_set_of, total_with}
 use Rattle.tt_state.specs.Forced.{forced}
 use Rattle.tt_base.specs.Lists.{is_less}
-use Rattle.tt_draw.specs.Words.{drawn, random_words}
+use Rattle.tt_draw.specs.Draws.{drawn, random_words}
 use Rattle.tt_search.specs.Searched.{onward, rank_of}
 use Rattle.tt_search.specs.Turns.{available_values, candidates}
 
@@ -50,12 +50,12 @@ pub record TurnWords : Type 0 where
 
 -- the next two words, and those after them
 abbrev pub two_words : Stream → TurnWords × Stream
-two_words words = let next = next_u32 words in (record { class = next.0; value = (next_u32 next.1).0 }, (next_u32 next.1).1)
+two_words random = let next = next_u32 random in (record { class = next.0; value = (next_u32 next.1).0 }, (next_u32 next.1).1)
 
 -- the moment after a turn, none where there is no candidate
 unfoldable pub place_turn : Parts → TurnWords → PlaceMoment → Option PlaceMoment
-place_turn p words m =
-    option_map (λ class. after_forcing p m class (drawn words.value (least_values p m class))) (drawn words.class (candidates p m.snapshot))
+place_turn p pair m =
+    option_map (λ class. after_forcing p m class (drawn pair.value (least_values p m class))) (drawn pair.class (candidates p m.snapshot))
 
 -- the moments after each of at most so many turns, two words a turn
 abbrev pub after_places : Parts → (turns seed : ℕ) → Snapshot → List PlaceMoment

@@ -20,4 +20,4 @@ pub record IsWayAt (p : Parts) (aim : Option Timetable) (s : Snapshot) (w : Way)
 pub record BeginsAt (p : Parts) (aim : Option Timetable) (s : Snapshot) (w : Way) : Type 0 where
   pub at : IsWayAt p aim s w
   pub ranked : rank_numbers w.best.rank ≡ rank_of p aim s
-  pub first : w.best.mark ≡ 0
+  pub first : w.best.place ≡ 0

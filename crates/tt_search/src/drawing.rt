@@ -5,7 +5,7 @@ ghost use Rattle.tt_plan.specs.Domain.{IsOfDomain};
 ghost use Rattle.tt_problem.specs.declared.parts.Parts.{Parts};
 ghost use Rattle.tt_state.specs.Snapshots.{Snapshot};
 ghost use Rattle.tt_state.specs.Values.{blocked_of};
-ghost use Rattle.tt_draw.specs.Words.{drawn};
+ghost use Rattle.tt_draw.specs.Draws.{drawn};
 ghost use Rattle.tt_search.specs.Turns.{is_open, has_open_value, candidates};
 ghost use Rattle.tt_search.specs.Drawing.{AreCandidates, AreHopeful};
 

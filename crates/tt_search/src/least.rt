@@ -2,7 +2,7 @@
 
 ghost use Rattle.std.specs.Prelude.{◌≡◌, ◌+◌, ◌<◌, ◌≤◌, ◌∷◌, ◌++◌, [], ℕ, All, List, None, Some, IfNone, IfOk, IfSome, drop, length, slice_get, vec_capacity};
 ghost use Rattle.tt_base.specs.Limits.{most_values};
-ghost use Rattle.tt_draw.specs.Words.{drawn};
+ghost use Rattle.tt_draw.specs.Draws.{drawn};
 ghost use Rattle.tt_plan.specs.Domain.{IsOfDomain, domain_of};
 ghost use Rattle.tt_state.specs.Values.{total_with, without_of};
 ghost use Rattle.tt_search.specs.Numbers.{price_numbers};

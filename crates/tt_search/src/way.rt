@@ -27,7 +27,7 @@ use tt_watch::Progress;
 #[derive(Clone, Copy, Debug, PartialEq, Eq)]
 pub(crate) struct Best {
     pub rank: Rank,
-    pub mark: u64,
+    pub place: u64,
 }
 
 // How far turns have come in the last step: what is kept of the present snapshot, the values of a turn,
@@ -45,11 +45,11 @@ fn moment(state: &State, moved: u32) -> Best
     ensures rank { (aim : Option Timetable)
         → moved ≡ moved_in state.now.problem aim state.now.present.plan
         → rank_numbers result.rank ≡ rank_of state.now.problem aim state.now.present }
-    ensures mark { result.mark + 1 ≡ length (trail state.now) }
+    ensures place { result.place + 1 ≡ length (trail state.now) }
 {
     Best {
         rank: rank_now(state, moved),
-        mark: state.mark_now(),
+        place: state.mark_now(),
     }
 }
 
@@ -95,7 +95,7 @@ impl Way {
         let moved = MovedClasses::new(alloc, state, aim)?;
         let least = LeastValues::new(alloc, state)?;
         let rank = rank_now(state, moved.count);
-        let best = Best { rank, mark: 0 };
+        let best = Best { rank, place: 0 };
         Ok(Way {
             candidates,
             moved,
@@ -143,18 +143,18 @@ impl Way {
         made: Result<u32, AllocError>,
     ) -> Result<u32, AllocError>
         requires step { 0 < length (earlier state.old) }
-        requires best { OnOk made (self.now.best.mark < length (trail state.old)) }
+        requires best { OnOk made (self.now.best.place < length (trail state.old)) }
         ensures made { result ≡ made }
         ensures problem { state.new.problem ≡ state.old.problem }
         ensures earlier { OnOk result (earlier state.new ≡ earlier state.old) }
         ensures present { OnOk result
-            (slice_get (trail state.old) self.now.best.mark ≡ Some state.new.present) }
+            (slice_get (trail state.old) self.now.best.place ≡ Some state.new.present) }
         ensures back { OnErr result (earlier state.old ≡ state.new.present ∷ earlier state.new) }
         ensures entries { OnErr result (state.new.entries ≡ before_step state.old.entries) }
     {
         match made {
             Ok(made) => {
-                state.roll_back(self.best.mark);
+                state.roll_back(self.best.place);
                 Ok(made)
             }
             Err(error) => {

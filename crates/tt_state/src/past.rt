@@ -77,7 +77,7 @@ impl Past {
     }
 
     /// Begins a step that changes nothing.
-    pub fn mark(&mut self) -> Result<(), AllocError>
+    pub fn begin_step(&mut self) -> Result<(), AllocError>
         ensures ok { OnOk result (self.new.list ≡ begun Beginning.Step self.old.list) }
         ensures err { OnErr result (self.new.list ≡ self.old.list) }
     {

@@ -229,10 +229,10 @@ fn descend(
     ensures too_many { result ≡ Err SuggestEnd.TooMany
         → most_tries < found.old.tried + tries_at_child state.old branch.now value }
 {
-    let mark = state.mark_now();
+    let moment = state.mark_now();
     let next = go_on(alloc, state, aim, branch, value)?;
     walk(alloc, state, aim, &next, found)?;
-    state.roll_back(mark);
+    state.roll_back(moment);
     Ok(())
 }
 

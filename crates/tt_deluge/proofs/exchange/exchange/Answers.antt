@@ -67,10 +67,10 @@ returns-clause-round c =
     let found : moved_by_conflict_set p s class v (other ∷ []) ≡ cond b (Some end) None = exchange-found p s class v other to b open_one to_is apart c.in_ok-exchange_steps.ensures.free in
     let problem : st.problem ≡ p = c.in_ok-exchange_steps.ensures.step.problem in
     let begins = c.in_ok-exchange_steps.ensures.trail in
-    let there : slice_get (trail st) c.mark_now-mark.result ≡ Some s = front-get (trail h) (trail st) c.mark_now-mark.result s begins c.mark_now-mark.ensures.present in
+    let there : slice_get (trail st) c.mark_now-moment.result ≡ Some s = front-get (trail h) (trail st) c.mark_now-moment.result s begins c.mark_now-moment.ensures.present in
     let both : Some back.present ≡ Some s = sym c.roll_back.ensures.present ∙ there in
     let present : back.present ≡ s = cc both in
-    let same : trail back ≡ trail h = c.roll_back.ensures.trail ∙ front-back (trail h) (trail st) c.mark_now-mark.result begins c.mark_now-mark.ensures.last in
+    let same : trail back ≡ trail h = c.roll_back.ensures.trail ∙ front-back (trail h) (trail st) c.mark_now-moment.result begins c.mark_now-moment.ensures.last in
     let change : made_within p c.args.level (moved_by_conflict_set p s class v (other ∷ [])) ≡ None =
     elim c.else-branch.branch [
       | else-branch-via-then-branch+else-totals-level w ↦

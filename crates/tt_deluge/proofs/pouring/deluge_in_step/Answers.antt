@@ -22,7 +22,7 @@ returns-then-are_none-clause-end g c =
 pub roll_back-requires : goal.roll_back-requires
 roll_back-requires g c =
     let way = c.in-Ok.ensures.way in
-    slice_get_within (trail c.pour.new.state) c.in-Ok.best.mark way.now way.moment.at
+    slice_get_within (trail c.pour.new.state) c.in-Ok.best.place way.now way.moment.at
 
 pub returns-in-Ok-clause-end : goal.returns-in-Ok-clause-end
 returns-in-Ok-clause-end g c =

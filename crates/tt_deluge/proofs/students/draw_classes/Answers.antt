@@ -5,8 +5,8 @@ use Rattle.rand_core.specs.Stream.{next_u32}
 use Rattle.tt_problem.proofs.SpanLemmas.{few_subparts}
 use Rattle.tt_problem.specs.ListLengths.{spans_at}
 use Rattle.tt_struct.proofs.SpanWalks.{from}
-use Rattle.tt_draw.specs.Words.{drawn}
-use Rattle.tt_deluge.specs.Reading.{words_of}
+use Rattle.tt_draw.specs.Draws.{drawn}
+use Rattle.tt_deluge.specs.Reading.{random_of}
 use Rattle.tt_deluge.specs.StudentRounds.{drawn_choice, fitting}
 use Rattle.tt_deluge.proofs.ChoiceLemmas.{choice_goes, choice_stops}
 use Rattle.tt_deluge.proofs.students.draw_classes.Goals as goal
@@ -16,10 +16,10 @@ returns-in-None-clause-choice c =
     let p = c.args.problem.now in
     let rest = c.args.rest.now in
     let subpart = c.subpart-subpart.result in
-    let words = words_of c.loop-place.words in
-    let none = c.in-None.ensures.class ∙ ap (λ (l : List ℕ). drawn (next_u32 words).0 (fitting p (rest ++ l) subpart)) c.as_slice.ensures.value in
-    choice_stops p rest c.loop-place.choice.items c.loop-place.place c.args.config.after subpart words (words_of c.draw_class.new.words)
-    (drawn_choice p rest [] (spans_at p.subparts c.args.config) (words_of c.args.words.now)) c.loop-place-test.true c.subpart-subpart.ensures.part none c.in-None.ensures.same c.loop-place.invariant.goes
+    let random = random_of c.loop-place.random in
+    let none = c.in-None.ensures.class ∙ ap (λ (l : List ℕ). drawn (next_u32 random).0 (fitting p (rest ++ l) subpart)) c.as_slice.ensures.value in
+    choice_stops p rest c.loop-place.choice.items c.loop-place.place c.args.config.after subpart random (random_of c.draw_class.new.random)
+    (drawn_choice p rest [] (spans_at p.subparts c.args.config) (random_of c.args.random.now)) c.loop-place-test.true c.subpart-subpart.ensures.part none c.in-None.ensures.same c.loop-place.invariant.goes
 
 pub returns-in-None-clause-few : goal.returns-in-None-clause-few
 returns-in-None-clause-few c =
@@ -32,12 +32,12 @@ loop-place-preserved c =
     let subpart = c.subpart-subpart.result in
     let so_far = c.loop-place.choice.items in
     let class = c.in-Some.class in
-    let words = words_of c.loop-place.words in
-    let left = words_of c.draw_class.new.words in
+    let random = random_of c.loop-place.random in
+    let left = random_of c.draw_class.new.random in
     let items : c.push.new.self.items ≡ so_far ++ class ∷ [] = c.in_ok-push-in-Some.ensures.items in
-    let some = c.in-Some.ensures.class ∙ ap (λ (l : List ℕ). drawn (next_u32 words).0 (fitting p (rest ++ l) subpart)) c.as_slice.ensures.value in
-    let goes = choice_goes p rest so_far c.loop-place.place c.args.config.after class subpart words left
-    (drawn_choice p rest [] (spans_at p.subparts c.args.config) (words_of c.args.words.now)) c.loop-place-test.true c.subpart-subpart.ensures.part some c.in-Some.ensures.next c.loop-place.invariant.goes in
+    let some = c.in-Some.ensures.class ∙ ap (λ (l : List ℕ). drawn (next_u32 random).0 (fitting p (rest ++ l) subpart)) c.as_slice.ensures.value in
+    let goes = choice_goes p rest so_far c.loop-place.place c.args.config.after class subpart random left
+    (drawn_choice p rest [] (spans_at p.subparts c.args.config) (random_of c.args.random.now)) c.loop-place-test.true c.subpart-subpart.ensures.part some c.in-Some.ensures.next c.loop-place.invariant.goes in
     record {
       below = subst (All (λ (k : ℕ). k < length p.classes)) (sym items) (All-push (λ (k : ℕ). k < length p.classes) so_far class c.loop-place.invariant.below c.in-Some.ensures.below);
       few = omega (arith, simp length-append at (ap length items), c.loop-place.invariant.few);

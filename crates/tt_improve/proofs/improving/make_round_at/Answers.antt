@@ -2,7 +2,7 @@ use Rattle.std.proofs.Common.{◌≡◌, Bool, Some, None, cond, ap, ◌∙◌, 
 use Rattle.tt_problem.specs.declared.parts.Parts.{Parts}
 use Rattle.tt_problem.specs.Valid.{IsValid}
 use Rattle.tt_improve.specs.Idle.{targets_in}
-use Rattle.tt_improve.specs.Rounds.{moved_by}
+use Rattle.tt_improve.specs.Rounds.{changed_by}
 use Rattle.tt_improve.specs.Standing.{IsTargetOf}
 use Rattle.tt_improve.specs.Touched.{IsNoted}
 use Rattle.tt_improve.proofs.TargetLemmas.{drawn-of}
@@ -23,15 +23,15 @@ pub note-requires-2-clause-target : goal.note-requires-2-clause-target
 note-requires-2-clause-target c =
     let h = c.args.state.now in
     let after = c.make_round.new.state in
-    subst (λ (p : Parts). IsTargetOf p after.present c.at-target.result.target) (sym c.in_ok-moved.ensures.step.problem)
-    (drawn-of h.problem after.present (targets_in c.args.descent.now.targets) c.args.place c.at-target.result.target (c.in_ok-moved.ensures.no_worse.targets ∙ sym c.requires.targets) c.at-target.ensures.target)
+    subst (λ (p : Parts). IsTargetOf p after.present c.at-target.result.target) (sym c.in_ok-changes.ensures.step.problem)
+    (drawn-of h.problem after.present (targets_in c.args.descent.now.targets) c.args.place c.at-target.result.target (c.in_ok-changes.ensures.no_worse.targets ∙ sym c.requires.targets) c.at-target.ensures.target)
 
 pub returns-clause-idle : goal.returns-clause-idle
 returns-clause-idle c =
     let h = c.args.state.now in
     let after = c.make_round.new.state in
     let target = c.at-target.result.target in
-    let noted = subst (λ (p : Parts). IsNoted p after.present c.args.descent.now.touched c.note-2.new.self target c.args.stage) c.in_ok-moved.ensures.step.problem c.note-2.ensures.noted in
-    let moved : moved_by h.problem h.present target ≡ Some after.present = c.in_ok-moved.ensures.moved ∙ ap (λ (b : Bool). cond b (Some after.present) None) c.if-not-moved.false in
+    let noted = subst (λ (p : Parts). IsNoted p after.present c.args.descent.now.touched c.note-2.new.self target c.args.stage) c.in_ok-changes.ensures.step.problem c.note-2.ensures.noted in
+    let changes : changed_by h.problem h.present target ≡ Some after.present = c.in_ok-changes.ensures.changes ∙ ap (λ (b : Bool). cond b (Some after.present) None) c.if-not-changes.false in
     idle_changed h.problem h.present after.present c.args.descent.now.targets c.note.new.self c.args.descent.now.touched c.args.place c.args.stage target c.requires.place c.at-target.ensures.target c.note.ensures.targets c.note.ensures.stages c.requires.idle
-    c.note-2.new.self (subst IsValid c.problem.ensures c.validity.ensures) c.soundness.ensures.present c.requires.targets noted moved
+    c.note-2.new.self (subst IsValid c.problem.ensures c.validity.ensures) c.soundness.ensures.present c.requires.targets noted changes

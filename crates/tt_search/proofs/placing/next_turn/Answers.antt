@@ -1,7 +1,7 @@
 use Rattle.std.proofs.Common.{List, refl, sym, subst, ap, ◌∙◌}
 use Rattle.std.specs.Prelude.{All}
 use Rattle.tt_bits.specs.declared.times.Value.{Value}
-use Rattle.tt_draw.specs.Words.{drawn}
+use Rattle.tt_draw.specs.Draws.{drawn}
 use Rattle.tt_search.specs.Numbers.{IsAvailable}
 use Rattle.tt_search.specs.PlacingNow.{burden_by, prices_by}
 use Rattle.tt_search.proofs.ChoiceLemmas.{least_by_both}

@@ -1,6 +1,6 @@
 use Rattle.std.proofs.Common.{◌≡◌, ◌^◌, ◌<◌, ◌∙◌, [], refl, arith}
 use Rattle.tt_state.specs.History.{earlier, trail, with_taken}
-use Rattle.tt_draw.proofs.WordLemmas.{words_from}
+use Rattle.tt_draw.proofs.WordLemmas.{random_from}
 use Rattle.tt_state.proofs.StepLemmas.{within_next, within_same, within_still}
 use Rattle.tt_search.proofs.PlacingLemmas.{all_placing, far_off, next_placing, no_placing, starts_placing, turn_made, two_drawn}
 use Rattle.tt_search.proofs.ListLemmas.{on_err}
@@ -10,11 +10,11 @@ pub loop-made-init : goal.loop-made-init
 loop-made-init g c =
     let start = c.args.state.now in
     let begins = c.requires.begins in
-    let words = words_from c.args.seed c.new-random.result c.new-random.ensures in
+    let random = random_from c.args.seed c.new-random.result c.new-random.ensures in
     record {
       step = within_same (with_taken start []);
       at = begins.at;
-      placing = starts_placing start.problem c.args.turns c.args.seed start.present _ (trail start) c.args.weights.now c.args.way.now.best c.requires.counts words c.requires.trail begins.ranked begins.first;
+      placing = starts_placing start.problem c.args.turns c.args.seed start.present _ (trail start) c.args.weights.now c.args.way.now.best c.requires.counts random c.requires.trail begins.ranked begins.first;
     }
 
 pub next_turn-found-requires-clause-candidates : goal.next_turn-found-requires-clause-candidates
@@ -49,13 +49,13 @@ loop-made-preserved g c =
     let begun : before.problem ≡ start.problem = c.loop-made.invariant.step.problem in
     let problem : moved.problem ≡ start.problem = same_problem ∙ begun in
     let same_trail : trail moved ≡ trail before = rw (same_present, same_entries) refl in
-    let words = two_drawn c.next_u32-class_word.result c.next_u32-value_word.result _ _ _ c.next_u32-class_word.ensures c.next_u32-value_word.ensures in
+    let random = two_drawn c.next_u32-class_word.result c.next_u32-value_word.result _ _ _ c.next_u32-class_word.ensures c.next_u32-value_word.ensures in
     let turn = rw (begun, c.in-Some.is) at c.next_turn-found.ensures.turn in
     record {
       step = within_next _ _ _ c.loop-made.invariant.step (within_next _ _ _ (within_still (with_taken before []) (with_taken moved []) same_problem same_present same_entries refl) c.in_ok-go.ensures.step);
       at = rw (c.none.ensures, problem) at c.in_ok-go.ensures.at;
       placing = next_placing _ _ _ _ c.loop-made.made _ _ _ before.present after.present (trail before) (trail after) c.loop-made.weights c.count_out.new.self c.loop-made.way.best c.go.new.self.best c.in-Some.next after.taken
-          c.loop-made.invariant.placing (omega arith) words turn (rw (problem, same_present) at c.in_ok-go.ensures.present) (rw (problem, same_present) at c.in_ok-go.ensures.taken) (rw (c.none.ensures, problem, same_trail) at c.in_ok-go.ensures.best)
+          c.loop-made.invariant.placing (omega arith) random turn (rw (problem, same_present) at c.in_ok-go.ensures.present) (rw (problem, same_present) at c.in_ok-go.ensures.taken) (rw (c.none.ensures, problem, same_trail) at c.in_ok-go.ensures.best)
           c.count_out.ensures.whole c.count_out.ensures.counts c.count_out.ensures.few;
     }
 
@@ -76,9 +76,9 @@ returns-in_err-go-clause-step g c =
 pub returns-in_default-clause-way : goal.returns-in_default-clause-way
 returns-in_default-clause-way g c =
     let same_trail : trail c.next_turn-found.new.state ≡ trail c.loop-made.state = rw (c.next_turn-found.ensures.present, c.next_turn-found.ensures.entries) refl in
-    let words = two_drawn c.next_u32-class_word.result c.next_u32-value_word.result _ _ _ c.next_u32-class_word.ensures c.next_u32-value_word.ensures in
+    let random = two_drawn c.next_u32-class_word.result c.next_u32-value_word.result _ _ _ c.next_u32-class_word.ensures c.next_u32-value_word.ensures in
     let turn = rw (c.loop-made.invariant.step.problem, c.in_default.is) at c.next_turn-found.ensures.turn in
-    rw same_trail (no_placing _ _ _ _ c.loop-made.made _ _ _ c.loop-made.state.present (trail c.loop-made.state) c.loop-made.weights c.loop-made.way.best c.loop-made.invariant.placing words turn)
+    rw same_trail (no_placing _ _ _ _ c.loop-made.made _ _ _ c.loop-made.state.present (trail c.loop-made.state) c.loop-made.weights c.loop-made.way.best c.loop-made.invariant.placing random turn)
 
 pub returns-clause-way : goal.returns-clause-way
 returns-clause-way g c =
@@ -88,7 +88,7 @@ returns-clause-way g c =
 pub returns-in_err-go-clause-memory : goal.returns-in_err-go-clause-memory
 returns-in_err-go-clause-memory g c =
     let before = c.loop-made.state in
-    let words = two_drawn c.next_u32-class_word.result c.next_u32-value_word.result _ _ _ c.next_u32-class_word.ensures c.next_u32-value_word.ensures in
+    let random = two_drawn c.next_u32-class_word.result c.next_u32-value_word.result _ _ _ c.next_u32-class_word.ensures c.next_u32-value_word.ensures in
     let turn = rw (c.loop-made.invariant.step.problem, c.in-Some.is) at c.next_turn-found.ensures.turn in
     on_err c.from_residual.result
-    (turn_made _ _ _ _ c.loop-made.made _ _ _ before.present (trail before) c.loop-made.weights c.loop-made.way.best c.loop-made.invariant.placing (omega arith) words (λ outs counts. rw (turn outs counts) refl))
+    (turn_made _ _ _ _ c.loop-made.made _ _ _ before.present (trail before) c.loop-made.weights c.loop-made.way.best c.loop-made.invariant.placing (omega arith) random (λ outs counts. rw (turn outs counts) refl))

@@ -20,7 +20,7 @@ pub returns-clause-noted : goal.returns-clause-noted
 returns-clause-noted c =
     let h = c.args.state.now in
     let new : Touched = record {
-      moved = c.args.self.now.moved;
+      any_class = c.args.self.now.any_class;
       classes = with_items c.args.self.now.classes c.note_classes.new.table;
       students = with_item c.args.self.now.students c.args.student c.args.stage;
       courses = with_item c.args.self.now.courses c.args.course c.args.stage;

@@ -31,4 +31,4 @@ returns-clause-best c =
     let moved : AreMoved before.problem aim after.present.plan c.follow-2.new.self [] = rw problem at c.follow-2.ensures in
     let rank = rw problem at (c.moment.ensures.rank aim) in
     let ranked = rank (moved_is before.problem aim after.present c.follow-2.new.self c.requires.belongs moved) in
-    rw c.better-self.ensures (leads_on (rank_of before.problem aim) (trail before) (trail after) after.present c.args.self.now.best c.moment.result c.in_ok-make.ensures.trail ranked c.moment.ensures.mark)
+    rw c.better-self.ensures (leads_on (rank_of before.problem aim) (trail before) (trail after) after.present c.args.self.now.best c.moment.result c.in_ok-make.ensures.trail ranked c.moment.ensures.place)
