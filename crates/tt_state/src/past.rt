@@ -76,7 +76,7 @@ impl Past {
         self.journal.reserve(n)
     }
 
-    /// Begins a step that changes nothing.
+    /// Begins a step that changes nothing, for which it takes memory.
     pub fn begin_step(&mut self) -> Result<(), AllocError>
         ensures ok { OnOk result (self.new.list ≡ begun Beginning.Step self.old.list) }
         ensures err { OnErr result (self.new.list ≡ self.old.list) }
@@ -86,7 +86,7 @@ impl Past {
         Ok(())
     }
 
-    /// Notes that a change begins.
+    /// Notes that a change begins, in the room that there is.
     #[tactic(auto, using(crate::proofs::TrailLemmas::few_points))]
     pub fn begin(&mut self, beginning: Beginning)
         requires { 1 ≤ self.old.spare }
