@@ -1,7 +1,8 @@
 //! The great deluge: its level, its rounds, and its best moment.
 
 ghost use Rattle.std.specs.Prelude.{◌≡◌, ◌↔◌, ℕ, ◌<◌, ◌≤◌, ◌^◌, [], ◌∷◌, IfOk, OnErr, OnOk, false, if◌then◌else◌, length, map, nat_lt};
-ghost use Rattle.tt_state.specs.History.{IsWithinStep, desk_of, earlier, stepped, trail, with_taken};
+ghost use Rattle.tt_state.specs.Desk.{stepped};
+ghost use Rattle.tt_state.specs.History.{IsWithinStep, desk_of, earlier, trail, with_taken};
 ghost use Rattle.tt_state.specs.Snapshots.{StaysLocked};
 ghost use Rattle.tt_improve.specs.Classes.{total_of, totals_in};
 ghost use Rattle.tt_improve.specs.Targets.{movable_classes};

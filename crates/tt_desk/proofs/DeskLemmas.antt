@@ -7,7 +7,7 @@ use Rattle.std.proofs.Math.Seq.{drop-cons, drop-length, take-length, take-append
 use Rattle.std.specs.Prelude.{All}
 use Rattle.tt_problem.specs.declared.parts.Parts.{Parts}
 use Rattle.std.specs.Prelude.{true, false}
-use Rattle.tt_state.specs.History.{Desk}
+use Rattle.tt_state.specs.Desk.{Desk}
 use Rattle.tt_script.specs.declared.command.Command.TheVariants.{Publish}
 use Rattle.tt_desk.specs.declared.refusal.Refusal.{Refusal}
 use Rattle.std.specs.Prelude.{codes}

@@ -25,7 +25,8 @@ use Rattle.tt_published.specs.Published.{is_moved, moved_in}
 use Rattle.tt_published.proofs.MovedLemmas.{moved_few, moved_same}
 use Rattle.tt_state.specs.Snapshots.{Snapshot, classes_in_order, with_list}
 use Rattle.tt_state.specs.Values.{conflict_set_of, obstacle_of}
-use Rattle.tt_state.specs.History.{Contents, desk_of, stepped, with_taken}
+use Rattle.tt_state.specs.Desk.{stepped}
+use Rattle.tt_state.specs.History.{Contents, desk_of, with_taken}
 use Rattle.tt_enrol.specs.Enrolled.{enrolled}
 use Rattle.tt_enrol.specs.Students.{classes_found}
 use Rattle.tt_state.specs.Forced.{forced}

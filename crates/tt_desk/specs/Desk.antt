@@ -27,7 +27,7 @@ use Rattle.tt_state.specs.declared.locks.LockFault.{LockFault}
 use Rattle.tt_state.specs.declared.locks.LockFault.TheVariants as lock_fault
 use Rattle.tt_state.specs.Forced.{forced}
 use Rattle.tt_state.specs.Sound.{is_ready}
-use Rattle.tt_state.specs.History.{Desk, stepped}
+use Rattle.tt_state.specs.Desk.{Desk, stepped}
 use Rattle.tt_published.specs.Timetable.{Timetable}
 use Rattle.tt_published.specs.Published.{timetable_of}
 use Rattle.tt_solution.specs.Text.{published_text}

@@ -1,7 +1,8 @@
 //! The enrolment of all students who have a course and no class.
 
 ghost use Rattle.std.specs.Prelude.{◌≡◌, ◌+◌, ◌<◌, ◌≤◌, [], ℕ, None, Some, IfOk, IsSome, OnOk, OnErr, cond, false, true, length};
-ghost use Rattle.tt_state.specs.History.{IsWithinStep, desk_of, earlier, stepped};
+ghost use Rattle.tt_state.specs.Desk.{stepped};
+ghost use Rattle.tt_state.specs.History.{IsWithinStep, desk_of, earlier};
 ghost use Rattle.tt_state.specs.Snapshots.{StaysLocked};
 ghost use Rattle.tt_state.specs.Sound.{lacks_classes};
 ghost use Rattle.tt_enrol.specs.Enrolled.{enrolled, all_enrolled, with_student};

@@ -1,7 +1,8 @@
 //! The enrolment of one student.
 
 ghost use Rattle.std.specs.Prelude.{◌≡◌, ◌<◌, ◌∷◌, [], ℕ, None, Some, Ok, IfOk, IfSome, MatchOption, OnErr, false, true, length};
-ghost use Rattle.tt_state.specs.History.{desk_of, stepped, trail};
+ghost use Rattle.tt_state.specs.Desk.{stepped};
+ghost use Rattle.tt_state.specs.History.{desk_of, trail};
 ghost use Rattle.tt_state.specs.Snapshots.{StaysLocked};
 ghost use Rattle.tt_choice.specs.Seating.{MayGet};
 ghost use Rattle.tt_enrol.specs.Students.{classes_found};

@@ -3,7 +3,8 @@
 ghost use Rattle.std.specs.Prelude.{◌≡◌, ◌<◌, ◌∷◌, [], Some, IfOk, OnOk, OnErr, length, None, ℕ};
 ghost use Rattle.tt_published.specs.Aim.{IsAimOf};
 ghost use Rattle.tt_published.specs.Timetable.{IsTimetableOf};
-ghost use Rattle.tt_state.specs.History.{IsWithinStep, desk_of, earlier, stepped, trail, with_taken};
+ghost use Rattle.tt_state.specs.Desk.{stepped};
+ghost use Rattle.tt_state.specs.History.{IsWithinStep, desk_of, earlier, trail, with_taken};
 ghost use Rattle.tt_state.specs.Snapshots.{StaysLocked};
 ghost use Rattle.tt_search.specs.Least.{IsFirstLeast};
 ghost use Rattle.tt_search.specs.Searched.{rank_of, search_end, way_of, turns_made, searched, repaired};

@@ -4,7 +4,8 @@ ghost use Rattle.std.specs.Prelude.{◌≡◌, ◌+◌, ◌<◌, ◌∷◌, ◌+
 ghost use Rattle.tt_published.specs.Published.{moved_in};
 ghost use Rattle.tt_published.specs.Aim.{IsAimOf};
 ghost use Rattle.tt_published.specs.Timetable.{Timetable};
-ghost use Rattle.tt_state.specs.History.{IsWithinStep, before_step, desk_of, earlier, moved_to, trail, with_taken};
+ghost use Rattle.tt_state.specs.Desk.{moved_to};
+ghost use Rattle.tt_state.specs.History.{IsWithinStep, before_step, desk_of, earlier, trail, with_taken};
 ghost use Rattle.tt_state.specs.Values.{conflict_set_of};
 ghost use Rattle.tt_base.specs.Lists.{comes_before};
 ghost use Rattle.tt_search.specs.Searched.{rank_of};

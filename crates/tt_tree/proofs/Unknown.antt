@@ -1,7 +1,7 @@
 -- Rooms and courses that are read with ids known are read with none known too, with the same ids.
 use Rattle.std.proofs.Common.{◌≡◌, ℕ, ◌-◌, List, [], length, Bool, true, false, None, refl, sym, ap, ◌∙◌, codes}
 use Rattle.std.proofs.lemmas.List.{length-map}
-use Rattle.tt_travel.specs.Table.{Table}
+use Rattle.tt_travel.specs.Table.{Table, no_travel}
 use Rattle.tt_problem.specs.declared.parts.RoomPart.{RoomPart}
 use Rattle.tt_problem.specs.declared.parts.ClassPart.{ClassPart}
 use Rattle.tt_problem.specs.declared.parts.CoursePart.{CoursePart}
@@ -10,7 +10,7 @@ use Rattle.tt_fields.specs.Answer.{Field}
 use Rattle.tt_fields.specs.Kinds.{a_number, a_truth, an_object, a_list, a_reference, place_of, required, or_else, optional, new_id, each, each_as}
 use Rattle.tt_fields.proofs.Alike.{Alike, Any, equal_alike, then_alike, after_alike, same_alike, required_alike, optional_alike, place_alike, reference_alike, each_alike, each_as_alike, ids_push}
 use Rattle.tt_tree.specs.Context.{Context}
-use Rattle.tt_tree.specs.Tables.{time_in, a_time_choice, a_closed_time, a_travel_entry, Campus, a_room, no_rooms, rooms_in, a_room_choice, rooms_where, rooms_of, a_class, Subparts, a_subpart, no_limit, Configs, a_config, Tree, a_course, no_tree, courses_in}
+use Rattle.tt_tree.specs.Tables.{time_in, a_time_choice, a_closed_time, a_travel_entry, Campus, a_room, rooms_in, a_room_choice, rooms_where, rooms_of, a_class, Subparts, a_subpart, no_limit, Configs, a_config, Tree, a_course, no_tree, courses_in}
 
 -- the same term, with no ids known
 abbrev pub unknown : Context → Context
@@ -64,7 +64,9 @@ room_alike c p s t same =
 
 pub rooms_alike : (c : Context) (items : List Field) → Alike SameRooms (rooms_in c items) (rooms_in (unknown c) items)
 unfolding rooms_in
-rooms_alike c items = each_alike SameRooms (a_room c) (a_room (unknown c)) (room_alike c) items (no_rooms (length items)) (no_rooms (length items)) refl
+rooms_alike c items =
+    let none : Campus = record { rooms = []; travel = no_travel (length items) } in
+    each_alike SameRooms (a_room c) (a_room (unknown c)) (room_alike c) items none none refl
 
 -- ---- classes
 

@@ -78,13 +78,9 @@ a_room c p s = do
   closed ← each_as (a_closed_time c) unavailable
   Ok (record { rooms = s.rooms ++ record { id = id; closed = closed } ∷ []; travel = travel })
 
--- none of `count` rooms has been read
-abbrev pub no_rooms : ℕ → Campus
-no_rooms count = record { rooms = []; travel = no_travel count }
-
 -- all rooms of a list, and the travel between them
 unfoldable pub rooms_in : Context → List Field → Result Campus Fault
-rooms_in c items = each (a_room c) items (no_rooms (length items))
+rooms_in c items = each (a_room c) items (record { rooms = []; travel = no_travel (length items) })
 
 -- ---- courses
 

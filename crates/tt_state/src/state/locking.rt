@@ -4,7 +4,8 @@ ghost use Rattle.std.specs.Prelude.{◌≡◌, ◌<◌, ◌∷◌, ◌++◌, [],
 ghost use Rattle.tt_state.specs.Snapshots.{all_locked, is_locked_in, lockable, locked_classes, none_locked, with_lock};
 ghost use Rattle.tt_state.specs.Faults.{lock_fault_of};
 ghost use Rattle.tt_state.specs.Past.{HasPastOf, MayBegin, begun};
-ghost use Rattle.tt_state.specs.History.{IsWithinStep, desk_of, earlier, moved_to, noted_by, point_count, stepped, trail};
+ghost use Rattle.tt_state.specs.Desk.{moved_to, stepped};
+ghost use Rattle.tt_state.specs.History.{IsWithinStep, desk_of, earlier, noted_by, point_count, trail};
 ghost use Rattle.tt_state.specs.Turned.{all_turned, may_turn, lock_entry, turning};
 
 use crate::locks::{LockFault, lock_fault, turn, turn_all, turn_count};

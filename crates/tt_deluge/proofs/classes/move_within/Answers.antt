@@ -1,7 +1,8 @@
 use Rattle.std.proofs.Common.{◌≡◌, [], ◌∷◌, ◌++◌, Some, ap, ◌∙◌, subst}
 use Rattle.std.specs.Prelude.{false, true, nat_le}
 use Rattle.tt_problem.specs.Valid.{IsValid}
-use Rattle.tt_state.specs.History.{Desk, Contents, trail, with_taken}
+use Rattle.tt_state.specs.Desk.{Desk}
+use Rattle.tt_state.specs.History.{Contents, trail, with_taken}
 use Rattle.tt_state.specs.Snapshots.{Snapshot, with_value}
 use Rattle.tt_improve.specs.Classes.{total_of}
 use Rattle.tt_deluge.proofs.ChangeLemmas.{stands-moved}

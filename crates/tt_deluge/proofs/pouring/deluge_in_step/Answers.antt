@@ -2,7 +2,8 @@ use Rattle.std.proofs.Common.{◌≡◌, ◌≤◌, true, false, [], ap, sym, �
 use Rattle.std.specs.Prelude.{◌↔◌}
 use Rattle.std.proofs.lemmas.Option.{slice_get_within}
 use Rattle.tt_problem.specs.declared.parts.Parts.{Parts}
-use Rattle.tt_state.specs.History.{Desk, trail}
+use Rattle.tt_state.specs.Desk.{Desk}
+use Rattle.tt_state.specs.History.{trail}
 use Rattle.tt_state.specs.Snapshots.{Snapshot}
 use Rattle.tt_improve.specs.Classes.{total_of}
 use Rattle.tt_deluge.specs.Deluged.{are_none, best_moment, targets_at}

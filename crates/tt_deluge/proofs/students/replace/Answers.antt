@@ -1,6 +1,6 @@
 use Rattle.std.proofs.Common.{◌≡◌, ◌++◌, ℕ, List, ap, sym, ◌∙◌, subst}
 use Rattle.tt_problem.specs.Valid.{IsValid}
-use Rattle.tt_state.specs.History.{Desk}
+use Rattle.tt_state.specs.Desk.{Desk}
 use Rattle.tt_state.specs.Snapshots.{classes_in_order, with_list}
 use Rattle.tt_deluge.proofs.StudentLemmas.{list_below, made_is, refused, stands_is}
 use Rattle.tt_deluge.proofs.students.replace.Goals as goal

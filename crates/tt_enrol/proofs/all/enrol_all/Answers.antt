@@ -1,5 +1,5 @@
 use Rattle.std.proofs.Common.{ap, ◌∙◌}
-use Rattle.tt_state.specs.History.{Desk}
+use Rattle.tt_state.specs.Desk.{Desk}
 use Rattle.tt_enrol.specs.Enrolled.{AllEnrolled, all_enrolled}
 use Rattle.tt_enrol.proofs.LockLemmas.{all_stay}
 use Rattle.tt_enrol.proofs.all.enrol_all.Goals as goal
