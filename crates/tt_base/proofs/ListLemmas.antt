@@ -1,5 +1,5 @@
 -- Numbers in lists, the rest of a list from a place on, and the first least of a list, piece by piece.
-use Rattle.std.proofs.Common.{◌≡◌, ◌∙◌, ℕ, zero, suc, ◌+◌, Bool, false, cond, Option, Some, None, List, [], ◌∷◌, ◌++◌, drop, refl, ap, arith}
+use Rattle.std.proofs.Common.{◌≡◌, ◌∙◌, ℕ, zero, suc, ◌+◌, ◌<◌, Bool, true, false, cond, Option, Some, None, List, [], ◌∷◌, ◌++◌, length, drop, refl, ap, arith}
 use Rattle.std.specs.Prelude.{◌==◌, slice_get}
 use Rattle.std.specs.List.{list_any}
 use Rattle.std.proofs.lemmas.Bool.Decides.{nat_tests}
@@ -21,6 +21,11 @@ any_agree p q same (x ∷ xs) = rw (same x, any_agree p q same xs) refl
 -- the test that `contains` of a slice makes is that of the definition
 pub listed_turned : (n : ℕ) (list : List ℕ) → list_any (λ other. other == n) list ≡ is_listed n list
 listed_turned n list = any_agree (λ other. other == n) (λ other. n == other) (λ other. equal_turned other n) list
+
+-- a list that has a number isn't empty
+pub has_some : (n : ℕ) (list : List ℕ) → is_listed n list ≡ true → 0 < length list
+has_some n [] has = absurd (cc has)
+has_some n (x ∷ xs) has = omega arith
 
 -- a list from a place on begins with what stands there
 pub drop_at : {A : Type 0} (xs : List A) (k : ℕ) (x : A) → slice_get xs k ≡ Some x → drop k xs ≡ x ∷ drop (k + 1) xs

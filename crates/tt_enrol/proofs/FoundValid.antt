@@ -1,5 +1,6 @@
 -- The classes found for a student, course after course, are a valid enrolment with seats.
 use Rattle.std.proofs.Common.{◌≡◌, ℕ, ◌+◌, ◌<◌, Bool, true, false, List, [], ◌∷◌, ◌++◌, Option, Some, None, map, length, arith, refl, sym, ap, ◌∙◌, append_assoc, append-nil, nat_eq}
+use Rattle.std.proofs.Math.Bool.{and-true}
 use Rattle.std.specs.Prelude.{◌&&◌, ◌||◌, IfSome, slice_get, fold}
 use Rattle.std.specs.List.{list_all, AllByRecursion, IsDistinct}
 use Rattle.std.specs.Option.{option_map, option_map_or}
@@ -86,10 +87,6 @@ module _ (p : Parts) (valid : IsValid p) (at : List ℕ → Situation) (has : �
       step None is one go e = absurd (none-some list (sym (e ∙ none_stays at (map (choices_at p) rest))))
       step (Some choice) is one go e = go choice one e
 
-and_yes : (b : Bool) → (b && true) ≡ b
-and_yes true = refl
-and_yes false = refl
-
 all_new : (rest : List ℕ) → AllByRecursion (λ j. is_listed j [] ≡ false) rest
 all_new [] = tt
 all_new (j ∷ rest) = (refl, all_new rest)
@@ -112,7 +109,7 @@ found_valid p s student part list valid is student_valid e =
     let courses : Some list ≡ fold (with_course at) (Some []) (map (choices_at p) part.courses) = sym e ∙ ap (λ (o : Option StudentPart). taken_in at (map (choices_at p) (option_map_or (λ x. x.courses) o []))) is in
     let within = recursion_from_All (λ place. place < length p.courses) part.courses student_valid.courses in
     let none : IsTaken p has [] [] = record { below = tt; of = tt; takes = refl; once = refl; parents = refl; seats = refl } in
-    let all = taken_all p valid at has (λ already choice. and_yes (list_all (λ c. has c && has_parent_in p already choice c) choice)) [] part.courses [] list tt within (are_new [] part.courses (all_new part.courses) student_valid.distinct) none courses in
+    let all = taken_all p valid at has (λ already choice. and-true (list_all (λ c. has c && has_parent_in p already choice c) choice)) [] part.courses [] list tt within (are_new [] part.courses (all_new part.courses) student_valid.distinct) none courses in
     record {
       below = All-from_recursion (λ c. c < length p.classes) list all.below;
       enrolment = ap (λ (o : Option StudentPart). option_map_or (λ x. is_enrolment_of p x list) o false) is ∙ is_enrolment_is p part has list all;

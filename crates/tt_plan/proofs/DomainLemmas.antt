@@ -1,5 +1,5 @@
 -- Values, and their places in a domain.
-use Rattle.std.proofs.Common.{◌≡◌, ℕ, ◌+◌, ◌*◌, ◌/◌, ◌%◌, ◌<◌, ◌≤◌, List, [], ◌∷◌, Some, length, get_or, slice_get, map, max, arith, zero, suc, ap, ◌∙◌, length-append, zero-add, suc-mul, mul-le-mul_right, mod-lt, mul_comm}
+use Rattle.std.proofs.Common.{◌≡◌, ℕ, ◌+◌, ◌*◌, ◌/◌, ◌%◌, ◌<◌, ◌≤◌, Some, length, get_or, slice_get, map, arith, zero, suc, ap, ◌∙◌, length-append, zero-add, suc-mul, mul-le-mul_right, mod-lt, mul_comm}
 use Rattle.std.proofs.Math.Nat.{div-add-mod, div-lt_iff_lt-mul}
 use Rattle.std.specs.List.{flat_map, range_with_len}
 use Rattle.std.proofs.lemmas.List.{get_or-append-add, get_or_append_left}
