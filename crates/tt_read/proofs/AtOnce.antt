@@ -14,8 +14,8 @@ use Rattle.tt_fields.specs.List.{items_of}
 use Rattle.tt_fields.proofs.Alike.{Alike, Any, read_too}
 use Rattle.tt_fields.proofs.Chain.{then, after}
 use Rattle.tt_tree.specs.Context.{Context}
-use Rattle.tt_tree.specs.Tables.{Campus, Tree, rooms_in, courses_in}
-use Rattle.tt_tree.proofs.Unknown.{unknown, SameRooms, SameTree, rooms_alike, courses_alike}
+use Rattle.tt_tree.specs.Tables.{Rooms, Courses, rooms_in, courses_in}
+use Rattle.tt_tree.proofs.Unknown.{unknown, SameRooms, SameCourses, rooms_alike, courses_alike}
 use Rattle.tt_tree.proofs.Whole.{classes_whole}
 use Rattle.tt_lists.specs.Tables.{rules_in, students_in}
 use Rattle.tt_lists.proofs.Unknown.{rules_alike, students_alike}
@@ -32,8 +32,8 @@ also P r other x h is = read_too P x other (subst (λ (q : Result _ Fault). Alik
 
 -- the parts are those of what the lists are read as
 pub record Links (s : Shape) (p : Parts) : Type 0 where
-  pub rooms : Campus
-  pub tree : Tree
+  pub rooms : Rooms
+  pub tree : Courses
   pub rules : List Rule
   pub students : List StudentPart
   pub rooms_are : rooms_in (shape_context s) s.rooms.items ≡ Ok rooms
@@ -53,14 +53,14 @@ links s p is = IfOk-at_ok (Links s) is
 
 -- ---- the first pass finds the same
 
-rooms_found : (term : Term) (o : Field) (items : List Field) (ids : List ℕ) (rooms : Campus) → or_else [] (a_list 0 most_rooms) (codes "rooms") o ≡ Ok items
+rooms_found : (term : Term) (o : Field) (items : List Field) (ids : List ℕ) (rooms : Rooms) → or_else [] (a_list 0 most_rooms) (codes "rooms") o ≡ Ok items
     → rooms_in (term_context term) items ≡ Ok rooms → room_ids rooms.rooms ≡ ids → room_list_of term o ≡ Ok (record { items = items; ids = ids })
 unfolding room_list_of
 rooms_found term o items ids rooms found read same =
     then (or_else [] (a_list 0 most_rooms) (codes "rooms") o) items _ _ found
     (then (rooms_in (term_context term) items) rooms _ _ read (ap (λ (l : List ℕ). Ok (record { items = items; ids = l })) same))
 
-courses_found : (term : Term) (o : Field) (items : List Field) (ids classes : List ℕ) (tree : Tree) → required (a_list 0 20000) (codes "courses") o ≡ Ok items
+courses_found : (term : Term) (o : Field) (items : List Field) (ids classes : List ℕ) (tree : Courses) → required (a_list 0 20000) (codes "courses") o ≡ Ok items
     → courses_in (term_context term) items ≡ Ok tree → course_ids tree.courses ≡ ids → class_ids tree.configs.subparts.classes ≡ classes
     → course_list_of term o ≡ Ok (record { items = items; ids = ids; class_ids = classes })
 unfolding course_list_of
@@ -91,7 +91,7 @@ shape_found o s p lists linked ids =
     let l : Links s p = links s p linked in
     let c : Context = shape_context s in
     let rooms = also SameRooms (rooms_in c s.rooms.items) (rooms_in (unknown c) s.rooms.items) l.rooms (rooms_alike c s.rooms.items) l.rooms_are in
-    let tree = also SameTree (courses_in c s.courses.items) (courses_in (unknown c) s.courses.items) l.tree (courses_alike c s.courses.items) l.tree_is in
+    let tree = also SameCourses (courses_in c s.courses.items) (courses_in (unknown c) s.courses.items) l.tree (courses_alike c s.courses.items) l.tree_is in
     let rules = also Any (rules_in s.term.version (Some s.courses.class_ids) s.distributions) (rules_in s.term.version None s.distributions) l.rules
     (rules_alike s.term.version (Some s.courses.class_ids) s.distributions) l.rules_are in
     let students = also Any (students_in (Some s.courses.ids) s.students) (students_in None s.students) l.students (students_alike (Some s.courses.ids) s.students) l.students_are in

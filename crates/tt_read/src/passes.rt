@@ -6,7 +6,7 @@ ghost use Rattle.tt_problem.specs.Valid.{AreValidWeights, IsValidTerm};
 ghost use Rattle.tt_fields.specs.Answer.{Reads, Gives, part_of};
 ghost use Rattle.tt_fields.specs.List.{items_of};
 ghost use Rattle.tt_tree.specs.Context.{context_of, IsContext};
-ghost use Rattle.tt_tree.specs.Read.{rooms_read, tree_read};
+ghost use Rattle.tt_tree.specs.Read.{rooms_read, courses_read};
 ghost use Rattle.tt_tree.specs.Whole.{HasClasses};
 ghost use Rattle.tt_lists.specs.Tables.{rules_in, students_in};
 ghost use Rattle.tt_read.specs.Read.{room_list_read, course_list_read, shape_read, lists_of, IsShape, HasAllClasses, IsLinked, HasOwnIds};
@@ -22,7 +22,7 @@ use tt_fields::{
 };
 use tt_lists::{read_rules, read_students};
 use tt_problem::{Parts, Rule, StudentPart, Weights};
-use tt_tree::{Campus, Classes, Configs, Context, Subparts, Tree, read_courses, read_rooms};
+use tt_tree::{Classes, Configs, Context, Courses, Rooms, Subparts, read_courses, read_rooms};
 
 // The most weeks of a term, by the version of the file's form.
 fn most_weeks(version: u8) -> u32
@@ -102,7 +102,7 @@ fn read_room_list<'a>(
 {
     let context = term_context(term);
     let items = list_or_none(object, "rooms", 2500)?;
-    let Campus { ids, .. } = read_rooms(alloc, &context, &items)?;
+    let Rooms { ids, .. } = read_rooms(alloc, &context, &items)?;
     Ok(RoomList { items, ids })
 }
 
@@ -131,7 +131,7 @@ fn read_course_list<'a>(
 {
     let context = term_context(term);
     let items = list(object, "courses", 0, 20_000)?;
-    let Tree { ids, configs, .. } = read_courses(alloc, &context, &items)?;
+    let Courses { ids, configs, .. } = read_courses(alloc, &context, &items)?;
     let Configs { subparts, .. } = configs;
     let Subparts { classes, .. } = subparts;
     let Classes { ids: class_ids, .. } = classes;
@@ -249,23 +249,23 @@ pub struct Linked {
 // The parts of a problem, and the ids that were read with them.
 fn linked_with(
     shape: &Shape<'_>,
-    rooms: Campus,
-    tree: Tree,
+    rooms: Rooms,
+    tree: Courses,
     rules: Row<Rule>,
     students: Row<StudentPart>,
 ) -> Linked
     ensures parts { result.parts
-        ≡ parts_of_all (shape_read shape.now) (rooms_read rooms) (tree_read tree) rules students }
+        ≡ parts_of_all (shape_read shape.now) (rooms_read rooms) (courses_read tree) rules students }
     ensures room_ids { result.room_ids ≡ rooms.ids }
     ensures course_ids { result.course_ids ≡ tree.ids }
     ensures class_ids { result.class_ids ≡ tree.configs.subparts.classes.ids }
 {
-    let Campus {
+    let Rooms {
         ids: room_ids,
         rooms,
         travel,
     } = rooms;
-    let Tree {
+    let Courses {
         ids: course_ids,
         courses,
         configs,

@@ -20,8 +20,8 @@ use Rattle.tt_tree.specs.declared.context as context
 use Rattle.tt_tree.specs.declared.rooms as rooms
 use Rattle.tt_tree.specs.declared.courses as courses
 use Rattle.tt_tree.specs.Context.{Context}
-use Rattle.tt_tree.specs.Read.{IsTravelAmong, IsCampus, IsClassAmong, AreClasses, IsConfigs, IsTree}
-use Rattle.tt_tree.specs.Tables.{a_travel_entry, a_closed_time, Campus, a_room}
+use Rattle.tt_tree.specs.Read.{IsTravelAmong, IsRooms, IsClassAmong, AreClasses, IsConfigs, IsCourses}
+use Rattle.tt_tree.specs.Tables.{a_travel_entry, a_closed_time, Rooms, a_room}
 
 -- no ids differ
 pub none_distinct : IsDistinct nat_eq []
@@ -31,14 +31,14 @@ none_distinct = tt
 -- ---- rooms
 
 -- the rooms before, and one more of which all but the unavailable times was read
-abbrev pub closed_room : ℕ → List RoomPart → Table → List Time → Result Campus Fault
+abbrev pub closed_room : ℕ → List RoomPart → Table → List Time → Result Rooms Fault
 closed_room id rooms travel closed = Ok (record { rooms = rooms ++ record { id = id; closed = closed } ∷ []; travel = travel })
 
 -- what is left of a room after its travel
-abbrev pub room_rest : Context → ℕ → List RoomPart → Table → Field → Result Campus Fault
+abbrev pub room_rest : Context → ℕ → List RoomPart → Table → Field → Result Rooms Fault
 room_rest c id rooms travel p = or_else [] (a_list 0 1000) (codes "unavailable") p >>= λ unavailable. each_as (a_closed_time c) unavailable >>= closed_room id rooms travel
 
-pub room_is : (c : Context) (s : Campus) (ids more : List ℕ) (from id : ℕ) (p : Field) (now : Table) (entries : List Field)
+pub room_is : (c : Context) (s : Rooms) (ids more : List ℕ) (from id : ℕ) (p : Field) (now : Table) (entries : List Field)
     → an_object p ≡ Ok p → required (a_number 0 4294967295) (codes "id") p ≡ Ok id → new_id id ids p ≡ Ok more
     → or_else [] (a_list 0 4000) (codes "travel") p ≡ Ok entries → each (a_travel_entry c from) entries s.travel ≡ Ok now
     → ids ≡ room_ids s.rooms → length s.rooms ≡ from → a_room c p s ≡ room_rest c id s.rooms now p
@@ -51,8 +51,8 @@ room_is c s ids more from id p now entries object number new travels read same c
     (then (each (a_travel_entry c (length s.rooms)) entries s.travel) now _ _ (ap (λ (n : ℕ). each (a_travel_entry c n) entries s.travel) count ∙ read)
     refl))))
 
-pub rooms_push : (c : context.Context.Context) (count : ℕ) (s t : rooms.Campus.Campus) (r : RoomPart) → IsCampus c count s → t.rooms.items ≡ s.rooms.items ++ r ∷ []
-    → t.ids.keys ≡ s.ids.keys ++ r.id ∷ [] → IsDistinct nat_eq t.ids.keys → IsTravelAmong c count t.travel → IsValidRoom c.nr_days c.nr_weeks r → IsCampus c count t
+pub rooms_push : (c : context.Context.Context) (count : ℕ) (s t : rooms.Rooms.Rooms) (r : RoomPart) → IsRooms c count s → t.rooms.items ≡ s.rooms.items ++ r ∷ []
+    → t.ids.keys ≡ s.ids.keys ++ r.id ∷ [] → IsDistinct nat_eq t.ids.keys → IsTravelAmong c count t.travel → IsValidRoom c.nr_days c.nr_weeks r → IsRooms c count t
 rooms_push c count s t r so_far pushed added distinct travel good = record {
   travel = travel;
   ids = added ∙ ap (λ (l : List ℕ). l ++ r.id ∷ []) so_far.ids ∙ sym (map-append (λ (x : RoomPart). x.id) s.rooms.items (r ∷ [])) ∙ ap (λ (l : List RoomPart). room_ids l) (sym pushed);
@@ -91,10 +91,10 @@ spans_few spans count h = omega (arith, covers_few spans 0 count h)
 
 -- ---- courses
 
-pub tree_push : (c : context.Context.Context) (s t : courses.Tree.Tree) (x : CoursePart) → IsTree c s → t.courses.items ≡ s.courses.items ++ x ∷ []
+pub courses_push : (c : context.Context.Context) (s t : courses.Courses.Courses) (x : CoursePart) → IsCourses c s → t.courses.items ≡ s.courses.items ++ x ∷ []
     → t.ids.keys ≡ s.ids.keys ++ x.id ∷ [] → IsDistinct nat_eq t.ids.keys → IsConfigs c t.configs
-    → x.configs ≡ record { first = length s.configs.spans.items; after = length t.configs.spans.items } → length s.configs.spans.items < length t.configs.spans.items → IsTree c t
-tree_push c s t x so_far pushed added distinct configs is more = record {
+    → x.configs ≡ record { first = length s.configs.spans.items; after = length t.configs.spans.items } → length s.configs.spans.items < length t.configs.spans.items → IsCourses c t
+courses_push c s t x so_far pushed added distinct configs is more = record {
   configs = configs;
   courses = subst (λ (l : List Span). Covers l (length t.configs.spans.items))
       (sym (ap (λ (l : List CoursePart). map (λ (y : CoursePart). y.configs) l) pushed ∙ map-append (λ (y : CoursePart). y.configs) s.courses.items (x ∷ [])

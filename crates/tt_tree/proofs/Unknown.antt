@@ -10,7 +10,7 @@ use Rattle.tt_fields.specs.Answer.{Field}
 use Rattle.tt_fields.specs.Kinds.{a_number, a_truth, an_object, a_list, a_reference, place_of, required, or_else, optional, new_id, each, each_as}
 use Rattle.tt_fields.proofs.Alike.{Alike, Any, equal_alike, then_alike, after_alike, same_alike, required_alike, optional_alike, place_alike, reference_alike, each_alike, each_as_alike, ids_push}
 use Rattle.tt_tree.specs.Context.{Context}
-use Rattle.tt_tree.specs.Tables.{time_in, a_time_choice, a_closed_time, a_travel_entry, Campus, a_room, rooms_in, a_room_choice, rooms_where, rooms_of, a_class, Subparts, a_subpart, no_limit, Configs, a_config, Tree, a_course, no_tree, courses_in}
+use Rattle.tt_tree.specs.Tables.{time_in, a_time_choice, a_closed_time, a_travel_entry, Rooms, a_room, rooms_in, a_room_choice, rooms_where, rooms_of, a_class, Subparts, a_subpart, no_limit, Configs, a_config, Courses, a_course, no_courses, courses_in}
 
 -- the same term, with no ids known
 abbrev pub unknown : Context → Context
@@ -37,7 +37,7 @@ closed_alike c p =
 -- ---- rooms
 
 -- the rooms have the same ids
-abbrev pub SameRooms : Campus → Campus → Type 0
+abbrev pub SameRooms : Rooms → Rooms → Type 0
 SameRooms s t = room_ids s.rooms ≡ room_ids t.rooms
 
 entry_alike : (c : Context) (from other : ℕ) (p : Field) (s t : Table) → Alike Any (a_travel_entry c from p s) (a_travel_entry (unknown c) other p t)
@@ -48,7 +48,7 @@ entry_alike c from other p s t =
     (required_alike Any (a_reference c.rooms) (a_reference None) (reference_alike c.rooms) (codes "room") o) (λ to place k.
     after_alike Any (required (a_number 0 65535) (codes "value") o) _ _ (λ slots. tt)))
 
-room_alike : (c : Context) (p : Field) (s t : Campus) → SameRooms s t → Alike SameRooms (a_room c p s) (a_room (unknown c) p t)
+room_alike : (c : Context) (p : Field) (s t : Rooms) → SameRooms s t → Alike SameRooms (a_room c p s) (a_room (unknown c) p t)
 unfolding a_room
 room_alike c p s t same =
     after_alike SameRooms (an_object p) _ _ (λ o.
@@ -65,7 +65,7 @@ room_alike c p s t same =
 pub rooms_alike : (c : Context) (items : List Field) → Alike SameRooms (rooms_in c items) (rooms_in (unknown c) items)
 unfolding rooms_in
 rooms_alike c items =
-    let none : Campus = record { rooms = []; travel = no_travel (length items) } in
+    let none : Rooms = record { rooms = []; travel = no_travel (length items) } in
     each_alike SameRooms (a_room c) (a_room (unknown c)) (room_alike c) items none none refl
 
 -- ---- classes
@@ -137,21 +137,21 @@ config_alike c p s t same =
     (each_alike SameSubparts (a_subpart c) (a_subpart (unknown c)) (subpart_alike c) items s.subparts t.subparts same) (λ subparts others k. k)))
 
 -- the courses and their classes have the same ids
-pub record SameTree (s t : Tree) : Type 0 where
+pub record SameCourses (s t : Courses) : Type 0 where
   pub courses : course_ids s.courses ≡ course_ids t.courses
   pub classes : class_ids s.configs.subparts.classes ≡ class_ids t.configs.subparts.classes
 
-course_alike : (c : Context) (p : Field) (s t : Tree) → SameTree s t → Alike SameTree (a_course c p s) (a_course (unknown c) p t)
+course_alike : (c : Context) (p : Field) (s t : Courses) → SameCourses s t → Alike SameCourses (a_course c p s) (a_course (unknown c) p t)
 unfolding a_course
 course_alike c p s t same =
-    after_alike SameTree (an_object p) _ _ (λ o.
-    after_alike SameTree (required (a_number 0 4294967295) (codes "id") o) _ _ (λ id.
-    same_alike SameTree (new_id id (course_ids s.courses) o) (new_id id (course_ids t.courses) o) _ _ (ap (λ (l : List ℕ). new_id id l o) same.courses) (λ ids.
-    after_alike SameTree (required (a_list 1 no_limit) (codes "configs") o) _ _ (λ items.
-    then_alike SameConfigs SameTree (each (a_config c) items s.configs) (each (a_config (unknown c)) items t.configs) _ _
+    after_alike SameCourses (an_object p) _ _ (λ o.
+    after_alike SameCourses (required (a_number 0 4294967295) (codes "id") o) _ _ (λ id.
+    same_alike SameCourses (new_id id (course_ids s.courses) o) (new_id id (course_ids t.courses) o) _ _ (ap (λ (l : List ℕ). new_id id l o) same.courses) (λ ids.
+    after_alike SameCourses (required (a_list 1 no_limit) (codes "configs") o) _ _ (λ items.
+    then_alike SameConfigs SameCourses (each (a_config c) items s.configs) (each (a_config (unknown c)) items t.configs) _ _
     (each_alike SameConfigs (a_config c) (a_config (unknown c)) (config_alike c) items s.configs t.configs same.classes) (λ configs others k.
     record { courses = ids_push (λ (x : CoursePart). x.id) s.courses t.courses _ _ same.courses refl; classes = k })))))
 
-pub courses_alike : (c : Context) (items : List Field) → Alike SameTree (courses_in c items) (courses_in (unknown c) items)
+pub courses_alike : (c : Context) (items : List Field) → Alike SameCourses (courses_in c items) (courses_in (unknown c) items)
 unfolding courses_in
-courses_alike c items = each_alike SameTree (a_course c) (a_course (unknown c)) (course_alike c) items no_tree no_tree (record { courses = refl; classes = refl })
+courses_alike c items = each_alike SameCourses (a_course c) (a_course (unknown c)) (course_alike c) items no_courses no_courses (record { courses = refl; classes = refl })

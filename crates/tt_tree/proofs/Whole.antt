@@ -18,7 +18,7 @@ use Rattle.tt_fields.specs.Answer.{Field, Fault, fault}
 use Rattle.tt_fields.specs.Kinds.{a_number, an_object, a_list, a_reference, optional, each_as, or_wrong, counted, items_at, required, value_at, new_id, each}
 use Rattle.tt_tree.specs.Context.{Context}
 use Rattle.tt_problem.specs.Valid.{class_ids, course_ids}
-use Rattle.tt_tree.specs.Tables.{span, no_limit, a_time_choice, rooms_of, a_class, Subparts, a_subpart, Configs, a_config, a_course, Tree, no_tree, courses_in}
+use Rattle.tt_tree.specs.Tables.{span, no_limit, a_time_choice, rooms_of, a_class, Subparts, a_subpart, Configs, a_config, a_course, Courses, no_courses, courses_in}
 use Rattle.tt_tree.specs.declared.courses as courses
 use Rattle.tt_tree.specs.Read.{subparts_read, configs_read}
 use Rattle.tt_tree.specs.Whole.{HasClasses}
@@ -172,11 +172,11 @@ abbrev configs_at : Field → ℕ
 configs_at p = sum_by subparts_at (list_at (codes "configs") p)
 
 -- n courses, with m classes
-record AreCourses (n m : ℕ) (t : Tree) : Type 0 where
+record AreCourses (n m : ℕ) (t : Courses) : Type 0 where
   count : length t.courses ≡ n
   classes : length t.configs.subparts.classes ≡ m
 
-course_keeps : (c : Context) (n m : ℕ) (p : Field) (s : Tree) → AreCourses n m s → IfOk (a_course c p s) (AreCourses (n + 1) (m + configs_at p))
+course_keeps : (c : Context) (n m : ℕ) (p : Field) (s : Courses) → AreCourses n m s → IfOk (a_course c p s) (AreCourses (n + 1) (m + configs_at p))
 unfolding a_course
 course_keeps c n m p s h =
     after (AreCourses (n + 1) (m + configs_at p)) (an_object p) _ (λ o is.
@@ -191,10 +191,10 @@ course_keeps c n m p s h =
       classes = omega (arith, grown, these, h.classes);
     })))))
 
-courses_are : (c : Context) (items : List Field) (t : Tree) → courses_in c items ≡ Ok t → AreCourses (0 + length items) (0 + sum_by configs_at items) t
+courses_are : (c : Context) (items : List Field) (t : Courses) → courses_in c items ≡ Ok t → AreCourses (0 + length items) (0 + sum_by configs_at items) t
 unfolding courses_in
 courses_are c items t is = IfOk-at_ok (AreCourses (0 + length items) (0 + sum_by configs_at items)) is
-    (each_keeps (a_course c) AreCourses configs_at (course_keeps c) items 0 0 no_tree (record { count = refl; classes = refl }))
+    (each_keeps (a_course c) AreCourses configs_at (course_keeps c) items 0 0 no_courses (record { count = refl; classes = refl }))
 
 -- ---- what readers cite
 
@@ -213,11 +213,11 @@ pub more_configs : (c : Context) (path : List ℕ) (vs : List Value) (s t : cour
 more_configs c path vs s t read = omega (arith, (configs_are c (items_at path 0 (items_view vs)) (configs_read s) (configs_read t) read).count, items_length path 0 vs)
 
 -- as many courses are read as there are items
-pub courses_count : (c : Context) (path : List ℕ) (vs : List Value) (t : Tree) → courses_in c (items_at path 0 (items_view vs)) ≡ Ok t → length t.courses ≡ length vs
+pub courses_count : (c : Context) (path : List ℕ) (vs : List Value) (t : Courses) → courses_in c (items_at path 0 (items_view vs)) ≡ Ok t → length t.courses ≡ length vs
 courses_count c path vs t read = omega (arith, (courses_are c (items_at path 0 (items_view vs)) t read).count, items_length path 0 vs)
 
 -- the classes of a list of courses are as many as their ids, whatever ids are known
-pub classes_whole : (c : Context) (items : List Field) (t : Tree) (ids : List ℕ) → courses_in c items ≡ Ok t → ids ≡ class_ids t.configs.subparts.classes → HasClasses items (length ids)
+pub classes_whole : (c : Context) (items : List Field) (t : Courses) (ids : List ℕ) → courses_in c items ≡ Ok t → ids ≡ class_ids t.configs.subparts.classes → HasClasses items (length ids)
 classes_whole c items t ids is same = record {
   count = λ d u also.
       (courses_are d items u also).classes ∙ sym (courses_are c items t is).classes

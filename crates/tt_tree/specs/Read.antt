@@ -13,10 +13,10 @@ use Rattle.tt_problem.specs.Valid.{IsValidTime, IsValidRoom, room_ids, class_ids
 use Rattle.tt_fields.specs.declared.references.Known.{Known}
 use Rattle.tt_fields.specs.List.{IsAmong}
 use Rattle.tt_tree.specs.Context.{HasIds}
-use Rattle.tt_tree.specs.Tables.{Campus, Subparts, Configs, Tree}
+use Rattle.tt_tree.specs.Tables.{Rooms, Subparts, Configs, Courses}
 
 -- the rooms that the code has read
-abbrev pub rooms_read : rooms.Campus.Campus → Campus
+abbrev pub rooms_read : rooms.Rooms.Rooms → Rooms
 rooms_read s = record { rooms = s.rooms.items; travel = s.travel }
 
 -- the classes that the code has read
@@ -32,8 +32,8 @@ abbrev pub configs_read : courses.Configs.Configs → Configs
 configs_read s = record { spans = s.spans.items; subparts = subparts_read s.subparts }
 
 -- the courses that the code has read
-abbrev pub tree_read : courses.Tree.Tree → Tree
-tree_read t = record { courses = t.courses.items; configs = configs_read t.configs }
+abbrev pub courses_read : courses.Courses.Courses → Courses
+courses_read t = record { courses = t.courses.items; configs = configs_read t.configs }
 
 -- a table of travel between so many rooms, which are no fewer than the ids among which rooms are looked up
 pub record IsTravelAmong (c : context.Context.Context) (count : ℕ) (t : Table) : Type 0 where
@@ -43,7 +43,7 @@ pub record IsTravelAmong (c : context.Context.Context) (count : ℕ) (t : Table)
   pub known : HasIds c.rooms count
 
 -- the rooms are valid and have these ids, which differ, and there is the travel between `count` rooms
-pub record IsCampus (c : context.Context.Context) (count : ℕ) (s : rooms.Campus.Campus) : Type 0 where
+pub record IsRooms (c : context.Context.Context) (count : ℕ) (s : rooms.Rooms.Rooms) : Type 0 where
   pub travel : IsTravelAmong c count s.travel
   pub ids : s.ids.keys ≡ room_ids s.rooms.items
   pub distinct : IsDistinct nat_eq s.ids.keys
@@ -83,7 +83,7 @@ pub record IsConfigs (c : context.Context.Context) (s : courses.Configs.Configs)
   pub spans : Covers s.spans.items (length s.subparts.spans.items)
 
 -- the courses cover the configurations, and have these ids, which differ
-pub record IsTree (c : context.Context.Context) (t : courses.Tree.Tree) : Type 0 where
+pub record IsCourses (c : context.Context.Context) (t : courses.Courses.Courses) : Type 0 where
   pub configs : IsConfigs c t.configs
   pub courses : Covers (map (λ c. c.configs) t.courses.items) (length t.configs.spans.items)
   pub ids : t.ids.keys ≡ course_ids t.courses.items

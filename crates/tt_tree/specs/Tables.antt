@@ -62,12 +62,12 @@ a_travel_entry c from p table = do
   Ok (with_travel table from to slots)
 
 -- the rooms that have been read, and the travel between all rooms as far as it has been read
-pub record Campus : Type 0 where
+pub record Rooms : Type 0 where
   pub rooms : List RoomPart
   pub travel : Table
 
 -- a room, after those that have been read
-unfoldable pub a_room : Context → Field → Campus → Result Campus Fault
+unfoldable pub a_room : Context → Field → Rooms → Result Rooms Fault
 a_room c p s = do
   o ← an_object p
   id ← required (a_number 0 most_id) (codes "id") o
@@ -79,7 +79,7 @@ a_room c p s = do
   Ok (record { rooms = s.rooms ++ record { id = id; closed = closed } ∷ []; travel = travel })
 
 -- all rooms of a list, and the travel between them
-unfoldable pub rooms_in : Context → List Field → Result Campus Fault
+unfoldable pub rooms_in : Context → List Field → Result Rooms Fault
 rooms_in c items = each (a_room c) items (record { rooms = []; travel = no_travel (length items) })
 
 -- ---- courses
@@ -151,12 +151,12 @@ a_config c p s = do
   Ok (record { spans = s.spans ++ span (length s.subparts.spans) (length subparts.spans) ∷ []; subparts = subparts })
 
 -- the courses that have been read with all that is in them
-pub record Tree : Type 0 where
+pub record Courses : Type 0 where
   pub courses : List CoursePart
   pub configs : Configs
 
 -- a course, after those that have been read
-unfoldable pub a_course : Context → Field → Tree → Result Tree Fault
+unfoldable pub a_course : Context → Field → Courses → Result Courses Fault
 a_course c p s = do
   o ← an_object p
   id ← required (a_number 0 most_id) (codes "id") o
@@ -166,9 +166,9 @@ a_course c p s = do
   Ok (record { courses = s.courses ++ record { id = id; configs = span (length s.configs.spans) (length configs.spans) } ∷ []; configs = configs })
 
 -- no course has been read
-abbrev pub no_tree : Tree
-no_tree = record { courses = []; configs = record { spans = []; subparts = record { spans = []; classes = [] } } }
+abbrev pub no_courses : Courses
+no_courses = record { courses = []; configs = record { spans = []; subparts = record { spans = []; classes = [] } } }
 
 -- all courses of a list
-unfoldable pub courses_in : Context → List Field → Result Tree Fault
-courses_in c items = each (a_course c) items no_tree
+unfoldable pub courses_in : Context → List Field → Result Courses Fault
+courses_in c items = each (a_course c) items no_courses

@@ -7,8 +7,8 @@ ghost use Rattle.tt_problem.specs.declared.parts.ClassPart.{ClassPart as ClassSe
 ghost use Rattle.tt_fields.specs.Answer.{Reads, Gives, part_of};
 ghost use Rattle.tt_fields.specs.List.{items_of};
 ghost use Rattle.tt_tree.specs.Context.{context_of, IsContext};
-ghost use Rattle.tt_tree.specs.Read.{classes_read, subparts_read, configs_read, tree_read, IsChoiceAmong, AreClasses, IsSubparts, IsConfigs, IsTree};
-ghost use Rattle.tt_tree.specs.Tables.{a_room_choice, rooms_where, rooms_of, a_class, span, a_subpart, a_config, a_course, courses_in, Subparts as SubpartsSeen, Configs as ConfigsSeen, Tree as TreeSeen};
+ghost use Rattle.tt_tree.specs.Read.{classes_read, subparts_read, configs_read, courses_read, IsChoiceAmong, AreClasses, IsSubparts, IsConfigs, IsCourses};
+ghost use Rattle.tt_tree.specs.Tables.{a_room_choice, rooms_where, rooms_of, a_class, span, a_subpart, a_config, a_course, courses_in, Subparts as SubpartsSeen, Configs as ConfigsSeen, Courses as CoursesSeen};
 ghost use Rattle.tt_tree.specs.Whole.{HasClasses};
 
 use crate::context::Context;
@@ -45,7 +45,7 @@ pub struct Configs {
 
 /// The courses that have been read with all that is in them, and their ids.
 #[derive(Drop)]
-pub struct Tree {
+pub struct Courses {
     pub ids: IndexSet<u32>,
     pub courses: Vec<CoursePart>,
     pub configs: Configs,
@@ -266,24 +266,24 @@ struct CourseTable<'a> {
     context: &'a Context<'a>,
 }
 
-impl NextTable<Tree> for CourseTable<'_> {
-    ghost Seen = { TreeSeen };
+impl NextTable<Courses> for CourseTable<'_> {
+    ghost Seen = { CoursesSeen };
 
-    ghost seen = { tree_read };
+    ghost seen = { courses_read };
 
     ghost reads = { λ t. a_course (context_of t.context.now) };
 
     ghost most = { λ t. 2 ^ 64 };
 
-    ghost valid = { λ t place tree. IsContext t.context.now × IsTree t.context.now tree };
+    ghost valid = { λ t place tree. IsContext t.context.now × IsCourses t.context.now tree };
 
-    #[tactic(auto, using(crate::proofs::Whole::more_configs, crate::proofs::Pushed::tree_push), unfolding(crate::specs::Tables::a_course))]
+    #[tactic(auto, using(crate::proofs::Whole::more_configs, crate::proofs::Pushed::courses_push), unfolding(crate::specs::Tables::a_course))]
     fn read_next(
         &self,
         alloc: Global,
         _place: usize,
         item: &Field<'_>,
-        before: &mut Tree,
+        before: &mut Courses,
     ) -> Result<(), FileFault> {
         as_object(item)?;
         let id = number(&*item, "id", 0, u32::MAX)?;
@@ -312,11 +312,11 @@ pub fn read_courses(
     alloc: Global,
     context: &Context<'_>,
     items: &PartList<'_>,
-) -> Result<Tree, FileFault>
+) -> Result<Courses, FileFault>
     requires { IsContext context.now }
-    ensures reads { Gives tree_read result
+    ensures reads { Gives courses_read result
         (courses_in (context_of context.now) (items_of items.now)) }
-    ensures tree { IfOk result (λ tree. IsTree context.now tree) }
+    ensures tree { IfOk result (λ tree. IsCourses context.now tree) }
     ensures count { IfOk result (λ tree. length tree.courses.items ≡ length items.now.values.now) }
     ensures classes { IfOk result
         (λ tree. HasClasses (items_of items.now) (length tree.configs.subparts.classes.ids.keys)) }
@@ -333,7 +333,7 @@ pub fn read_courses(
         spans: Vec::new(alloc),
         subparts,
     };
-    let mut tree = Tree {
+    let mut tree = Courses {
         ids: IndexSet::new(alloc),
         courses: Vec::new(alloc),
         configs,

@@ -10,5 +10,5 @@ mod rooms;
 mod times;
 
 pub use context::Context;
-pub use courses::{Classes, Configs, Subparts, Tree, read_courses};
-pub use rooms::{Campus, read_rooms};
+pub use courses::{Classes, Configs, Courses, Subparts, read_courses};
+pub use rooms::{Rooms, read_rooms};

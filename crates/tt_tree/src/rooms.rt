@@ -6,8 +6,8 @@ ghost use Rattle.tt_travel.specs.Table.{Table};
 ghost use Rattle.tt_fields.specs.Answer.{Reads, Gives, part_of};
 ghost use Rattle.tt_fields.specs.List.{items_of};
 ghost use Rattle.tt_tree.specs.Context.{context_of, IsContext, HasIds};
-ghost use Rattle.tt_tree.specs.Read.{rooms_read, IsTravelAmong, IsCampus};
-ghost use Rattle.tt_tree.specs.Tables.{a_travel_entry, a_room, rooms_in, Campus as CampusSeen};
+ghost use Rattle.tt_tree.specs.Read.{rooms_read, IsTravelAmong, IsRooms};
+ghost use Rattle.tt_tree.specs.Tables.{a_travel_entry, a_room, rooms_in, Rooms as RoomsSeen};
 
 use crate::context::Context;
 use crate::times::ClosedTable;
@@ -24,7 +24,7 @@ use tt_travel::Travel;
 /// The rooms that have been read, their ids, and the travel between all rooms as far as it has been
 /// read.
 #[derive(Drop)]
-pub struct Campus {
+pub struct Rooms {
     pub ids: IndexSet<u32>,
     pub rooms: Vec<RoomPart>,
     pub travel: Travel,
@@ -89,8 +89,8 @@ struct RoomTable<'a> {
     count: u32,
 }
 
-impl NextTable<Campus> for RoomTable<'_> {
-    ghost Seen = { CampusSeen };
+impl NextTable<Rooms> for RoomTable<'_> {
+    ghost Seen = { RoomsSeen };
 
     ghost seen = { rooms_read };
 
@@ -98,7 +98,7 @@ impl NextTable<Campus> for RoomTable<'_> {
 
     ghost most = { λ t. t.count };
 
-    ghost valid = { λ t place s. IsContext t.context.now × IsCampus t.context.now t.count s × (length s.rooms.items ≡ place) };
+    ghost valid = { λ t place s. IsContext t.context.now × IsRooms t.context.now t.count s × (length s.rooms.items ≡ place) };
 
     #[tactic(auto, using(crate::proofs::Pushed::rooms_push), unfolding(crate::specs::Tables::a_room))]
     fn read_next(
@@ -106,7 +106,7 @@ impl NextTable<Campus> for RoomTable<'_> {
         alloc: Global,
         place: usize,
         item: &Field<'_>,
-        before: &mut Campus,
+        before: &mut Rooms,
     ) -> Result<(), FileFault> {
         let entries = EntryTable {
             context: self.context,
@@ -137,18 +137,18 @@ pub fn read_rooms(
     alloc: Global,
     context: &Context<'_>,
     items: &PartList<'_>,
-) -> Result<Campus, FileFault>
+) -> Result<Rooms, FileFault>
     requires context { IsContext context.now }
     requires few { length items.now.values.now ≤ most_rooms }
     requires known { HasIds context.now.rooms (length items.now.values.now) }
     ensures reads { Gives rooms_read result
         (rooms_in (context_of context.now) (items_of items.now)) }
     ensures rooms { IfOk result
-        (λ rooms. IsCampus context.now (length items.now.values.now) rooms) }
+        (λ rooms. IsRooms context.now (length items.now.values.now) rooms) }
     ensures count { IfOk result (λ rooms. length rooms.rooms.items ≡ length items.now.values.now) }
 {
     let count = items.len() as u32;
-    let mut rooms = Campus {
+    let mut rooms = Rooms {
         ids: IndexSet::new(alloc),
         rooms: Vec::new(alloc),
         travel: Travel::new(alloc, count)?,

@@ -10,7 +10,7 @@ use Rattle.tt_tree.specs.Context.{context_of}
 use Rattle.tt_tree.specs.Read.{rooms_read}
 use Rattle.tt_tree.specs.Tables.{a_room, a_closed_time}
 use Rattle.tt_tree.proofs.Pushed.{closed_room, room_is, rooms_push}
-use Rattle.tt_tree.proofs.rooms.RoomTableNextTableCampus.read_next.Goals as goal
+use Rattle.tt_tree.proofs.rooms.RoomTableNextTableRooms.read_next.Goals as goal
 
 pub returns-in_err-unavailable-clause-reads : goal.returns-in_err-unavailable-clause-reads
 returns-in_err-unavailable-clause-reads c =
