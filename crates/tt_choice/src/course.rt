@@ -9,7 +9,7 @@ ghost use Rattle.tt_choice.specs.Ahead.{AreSure, IsSure};
 ghost use Rattle.tt_problem.specs.Spans.{IsSpanWithin};
 ghost use Rattle.tt_choice.specs.Tables.{AreTables};
 ghost use Rattle.tt_choice.specs.Choices.{choices_at, choices_of, choices_of_course};
-ghost use Rattle.tt_choice.specs.Ready.{HasRoom, HasRoomFor};
+ghost use Rattle.tt_choice.specs.Ready.{HasRoomToChoose, HasRoomFor};
 ghost use Rattle.tt_choice.specs.Situations.{situation_of};
 ghost use Rattle.tt_choice.specs.Standings.{situation_in};
 ghost use Rattle.tt_choice.specs.Found.{chosen, chosen_by, has_fewer, IsFoundIn, IsInVain};
@@ -146,7 +146,7 @@ fn keep(
 // Passes all choices of a configuration of these subparts, and keeps the best. `front` has the
 // classes chosen so far, `class` is the next to be tried. A class with which the front leads on to
 // no better choice is passed over.
-fn pass(
+fn best_choice(
     standing: &Standing,
     subparts: &[Span],
     buffers: &mut ChoiceBuffers,
@@ -206,8 +206,8 @@ fn pass(
 }
 
 // Passes all choices of a configuration, and keeps the best. Where a subpart has no class that could
-// be in a choice, there is none to pass.
-fn pass_open(
+// be in a choice, there is none.
+fn best_if_open(
     standing: &Standing,
     subparts: &[Span],
     buffers: &mut ChoiceBuffers,
@@ -228,7 +228,7 @@ fn pass_open(
         return found;
     }
     look_ahead(standing, subparts, buffers.ahead.as_mut_slice());
-    pass(standing, subparts, buffers, found)
+    best_choice(standing, subparts, buffers, found)
 }
 
 // How many pairs a front adds, from how many it adds together with one more class.
@@ -262,7 +262,7 @@ fn least_choice(
     for place in course.first..course.after {
         let config = configs[place as usize];
         let parts = &subparts[config.first as usize..config.after as usize];
-        found = pass_open(standing, parts, buffers, found);
+        found = best_if_open(standing, parts, buffers, found);
     }
     match found {
         None => None,
@@ -297,8 +297,8 @@ pub fn least_of_course(
     requires student { student < length state.now.problem.students }
     requires course { course < length state.now.problem.courses }
     requires few_already { length already.now ≤ most_already }
-    requires room { HasRoom state.now.problem buffers.old }
-    ensures room { HasRoom state.now.problem buffers.new }
+    requires room { HasRoomToChoose state.now.problem buffers.old }
+    ensures room { HasRoomToChoose state.now.problem buffers.new }
     ensures choice { chosen_by buffers.new.best.items result
         ≡ least_choice
         (situation_of state.now.problem state.now.present student wanting.now already.now)

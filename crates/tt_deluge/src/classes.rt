@@ -1,6 +1,6 @@
 //! Rounds on classes: a class gets a free value, or exchanges places with another class.
 
-ghost use Rattle.std.specs.Prelude.{◌≡◌, ◌+◌, ◌∷◌, ◌<◌, ◌≤◌, ◌^◌, [], None, Some, IfNone, IfOk, IfSome, OnOk, cond, false, length, true};
+ghost use Rattle.std.specs.Prelude.{◌≡◌, ◌+◌, ◌∷◌, ◌<◌, ◌≤◌, ◌^◌, [], None, Some, IfNone, IfOk, IfSome, OnOk, if◌then◌else◌, false, length, true};
 ghost use Rattle.tt_base.specs.Limits.{most_values};
 ghost use Rattle.tt_plan.specs.Domain.{IsOfDomain, domain_of};
 ghost use Rattle.tt_state.specs.History.{IsWithinStep, earlier, trail, with_taken};
@@ -158,7 +158,7 @@ pub(crate) fn class_round(
     ensures made { IfOk result (λ made.
         made_within state.old.problem level
         (class_change state.old.problem state.old.present kind class place)
-        ≡ cond made (Some state.new.present) None) }
+        ≡ (if made then Some state.new.present else None)) }
     ensures same { IfOk result (λ made. made ≡ false → state.new.present ≡ state.old.present) }
     ensures still { IfOk result (λ made. made ≡ false → trail state.new ≡ trail state.old) }
     ensures trail { OnOk result (BeginsWith (trail state.old) (trail state.new)) }

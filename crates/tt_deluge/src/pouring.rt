@@ -97,7 +97,7 @@ fn moment_now(state: &State, changed: u32) -> Moment
 }
 
 // The later moment, where its total is below that of the earlier one, and otherwise the earlier one.
-fn better(best: Moment, now: Moment) -> Moment
+fn lower_moment(best: Moment, now: Moment) -> Moment
     ensures { result ≡ (if nat_lt now.total best.total then now else best) }
 {
     if now.total < best.total { now } else { best }
@@ -234,7 +234,7 @@ fn pour<W: Watcher>(
         let level = level_at(start.total, rounds, made, now.total);
         let changes = make_round(state, work, &mut random, level)?;
         now = moment_now(state, now.changed + u32::from(changes));
-        best = better(best, now);
+        best = lower_moment(best, now);
         watcher.tell(Progress::Rounds {
             made: made + 1,
             of: rounds,

@@ -1,6 +1,6 @@
 //! Rounds on students: a drawn choice of a course replaces a student's own.
 
-ghost use Rattle.std.specs.Prelude.{◌≡◌, ◌<◌, ◌≤◌, ◌++◌, [], All, None, Some, IfNone, IfOk, IfSome, OnOk, cond, false, length, nat_le, slice_get};
+ghost use Rattle.std.specs.Prelude.{◌≡◌, ◌<◌, ◌≤◌, ◌++◌, [], All, None, Some, IfNone, IfOk, IfSome, OnOk, if◌then◌else◌, false, length, nat_le, slice_get};
 ghost use Rattle.tt_base.specs.Limits.{most_classes};
 ghost use Rattle.rand_core.specs.Stream.{next_u32};
 ghost use Rattle.tt_problem.specs.ListLengths.{spans_at};
@@ -122,7 +122,7 @@ fn draw_classes(
     ensures choice { IfOk result (λ found.
         drawn_choice problem.now rest.now [] (spans_at problem.now.subparts config)
         (random_of random.old)
-        ≡ (cond found (Some choice.new.items) None, random_of random.new)) }
+        ≡ ((if found then Some choice.new.items else None), random_of random.new)) }
     ensures below { OnOk result
         (All (λ class. class < length problem.now.classes) choice.new.items) }
     ensures few { OnOk result (length choice.new.items ≤ most_classes) }
@@ -252,7 +252,7 @@ fn replace(
     ensures made { IfOk result (λ made.
         made_within state.old.problem level (replaced state.old.problem state.old.present student
         buffers.old.rest.items buffers.old.own.items buffers.old.choice.items)
-        ≡ cond made (Some state.new.present) None) }
+        ≡ (if made then Some state.new.present else None)) }
     ensures same { IfOk result (λ made. made ≡ false → state.new.present ≡ state.old.present) }
     ensures trail { OnOk result (BeginsWith (trail state.old) (trail state.new)) }
     ensures stands { OnOk result (StandsAs state.old.problem state.old.present state.new.present) }
@@ -295,7 +295,7 @@ pub(crate) fn student_round(
     ensures made { IfOk result (λ made.
         made_within state.old.problem level (choice_drawn state.old.problem state.old.present
         (Course choice.student choice.course) (random_of random.old)).0
-        ≡ cond made (Some state.new.present) None) }
+        ≡ (if made then Some state.new.present else None)) }
     ensures same { IfOk result (λ made. made ≡ false → state.new.present ≡ state.old.present) }
     ensures trail { OnOk result (BeginsWith (trail state.old) (trail state.new)) }
     ensures stands { OnOk result (StandsAs state.old.problem state.old.present state.new.present) }

@@ -1,12 +1,12 @@
 //! The enrolment of all students who have a course and no class.
 
-ghost use Rattle.std.specs.Prelude.{◌≡◌, ◌+◌, ◌<◌, ◌≤◌, [], ℕ, None, Some, IfOk, IsSome, OnOk, OnErr, cond, false, true, length};
+ghost use Rattle.std.specs.Prelude.{◌≡◌, ◌+◌, ◌<◌, ◌≤◌, [], ℕ, None, Some, IfOk, IsSome, OnOk, OnErr, if◌then◌else◌, false, true, length};
 ghost use Rattle.tt_state.specs.Desk.{stepped};
 ghost use Rattle.tt_state.specs.History.{IsWithinStep, desk_of, earlier};
 ghost use Rattle.tt_state.specs.Snapshots.{StaysLocked};
 ghost use Rattle.tt_state.specs.Sound.{lacks_classes};
 ghost use Rattle.tt_enrol.specs.Enrolled.{enrolled, all_enrolled, with_student};
-ghost use Rattle.tt_enrol.specs.Ready.{HasRoom};
+ghost use Rattle.tt_enrol.specs.Ready.{HasRoomToEnrol};
 ghost use Rattle.tt_enrol.specs.Steps.{with_counts};
 
 use crate::enrolling::{Buffers, find};
@@ -27,12 +27,12 @@ pub struct Enrolled {
 fn enrol_one(state: &mut State, buffers: &mut Buffers, student: u32) -> Result<bool, AllocError>
     requires student { student < length state.old.problem.students }
     requires step { 0 < length (earlier state.old) }
-    requires room { HasRoom state.old.problem buffers.old }
+    requires room { HasRoomToEnrol state.old.problem buffers.old }
     ensures now { IfOk result (λ found.
         enrolled state.old.problem state.old.present student
-        ≡ cond found (Some state.new.present) None) }
+        ≡ (if found then Some state.new.present else None)) }
     ensures same { IfOk result (λ found. found ≡ false → state.new.present ≡ state.old.present) }
-    ensures room { HasRoom state.old.problem buffers.new }
+    ensures room { HasRoomToEnrol state.old.problem buffers.new }
     ensures step { IsWithinStep state.old state.new }
     ensures memory { OnErr result (IsSome (enrolled state.old.problem state.old.present student)) }
     ensures err { OnErr result (state.new ≡ state.old) }
@@ -59,14 +59,14 @@ fn enrol_next(
 ) -> Result<Enrolled, AllocError>
     requires student { student < length state.old.problem.students }
     requires step { 0 < length (earlier state.old) }
-    requires room { HasRoom state.old.problem buffers.old }
+    requires room { HasRoomToEnrol state.old.problem buffers.old }
     requires few { so_far.enrolled + so_far.left ≤ student }
     ensures next { IfOk result (λ n.
         with_counts state.new.present n.enrolled n.left
         ≡ with_student state.old.problem
         (with_counts state.old.present so_far.enrolled so_far.left) student) }
     ensures few { IfOk result (λ n. n.enrolled + n.left ≤ student + 1) }
-    ensures room { HasRoom state.old.problem buffers.new }
+    ensures room { HasRoomToEnrol state.old.problem buffers.new }
     ensures step { IsWithinStep state.old state.new }
     ensures lacking { OnErr result
         (lacks_classes state.old.problem state.old.present student ≡ true) }
@@ -97,7 +97,7 @@ fn enrol_each<W: Watcher>(
     watcher: &mut W,
 ) -> Result<Enrolled, AllocError>
     requires step { 0 < length (earlier state.old) }
-    requires room { HasRoom state.old.problem buffers.old }
+    requires room { HasRoomToEnrol state.old.problem buffers.old }
     ensures all { IfOk result (λ n.
         with_counts state.new.present n.enrolled n.left
         ≡ all_enrolled state.old.problem state.old.present) }

@@ -2,7 +2,7 @@
 
 ghost use Rattle.std.specs.Prelude.{◌≡◌, ◌<◌, ◌≤◌, IfOk, IfSome, length};
 ghost use Rattle.tt_choice.specs.Found.{chosen_by};
-ghost use Rattle.tt_enrol.specs.Ready.{HasRoom};
+ghost use Rattle.tt_enrol.specs.Ready.{HasRoomToEnrol};
 ghost use Rattle.tt_enrol.specs.Students.{classes_found};
 
 use crate::student::take_courses;
@@ -22,7 +22,7 @@ impl Buffers {
     /// Room for each student of a problem. A student has 40 courses at most.
     #[tactic(auto, using(tt_problem::proofs::SpanLemmas::few_subparts))]
     pub fn new(alloc: Global, problem: &Problem) -> Result<Buffers, AllocError>
-        ensures { IfOk result (HasRoom problem.now) }
+        ensures { IfOk result (HasRoomToEnrol problem.now) }
     {
         problem.validity();
         let subparts = problem.parts().subparts.len();
@@ -38,11 +38,11 @@ impl Buffers {
 #[tactic(auto, unfolding(crate::specs::Students::classes_found))]
 pub fn find(state: &State, student: u32, buffers: &mut Buffers) -> Option<usize>
     requires student { student < length state.now.problem.students }
-    requires room { HasRoom state.now.problem buffers.old }
+    requires room { HasRoomToEnrol state.now.problem buffers.old }
     ensures found { chosen_by buffers.new.already.items result
         ≡ classes_found state.now.problem state.now.present student }
     ensures within { IfSome result (λ count. count ≤ length buffers.new.already.items) }
-    ensures room { HasRoom state.now.problem buffers.new }
+    ensures room { HasRoomToEnrol state.now.problem buffers.new }
 {
     take_courses(
         state,

@@ -2,7 +2,7 @@
 
 ghost use Rattle.std.specs.Prelude.{◌≡◌, ◌+◌, ◌*◌, ◌<◌, ◌≤◌, ◌++◌, [], length, map, take, IfSome};
 ghost use Rattle.tt_choice.specs.Choices.{choices_at};
-ghost use Rattle.tt_choice.specs.Ready.{HasRoom};
+ghost use Rattle.tt_choice.specs.Ready.{HasRoomToChoose};
 ghost use Rattle.tt_choice.specs.Situations.{courses_of, situation_of};
 ghost use Rattle.tt_enrol.specs.Students.{taken_in};
 ghost use Rattle.tt_choice.specs.Found.{chosen_by};
@@ -29,13 +29,13 @@ pub fn take_courses(
     already: &mut [u32],
 ) -> Option<usize>
     requires student { student < length state.now.problem.students }
-    requires room { HasRoom state.now.problem choices.old }
+    requires room { HasRoomToChoose state.now.problem choices.old }
     requires already { 40 * length state.now.problem.subparts ≤ length already.old }
     ensures found { chosen_by already.new result
         ≡ taken_in (situation_of state.now.problem state.now.present student [])
         (map (choices_at state.now.problem) (courses_of state.now.problem student)) }
     ensures within { IfSome result (λ count. count ≤ length already.new) }
-    ensures room { HasRoom state.now.problem choices.new }
+    ensures room { HasRoomToChoose state.now.problem choices.new }
 {
     let problem = state.problem();
     problem.validity();

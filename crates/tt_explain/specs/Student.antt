@@ -46,6 +46,6 @@ student_lines p s student = class_lines p (list_in s student) ++ pair_lines p (s
 -- ---- the sums
 
 -- A student's pairs are the conflicts in the student's list, and those of all students are the student conflicts of these totals.
-pub record AreCounted (p : Parts) (s : Snapshot) (student : ℕ) (totals : Totals) : Type 0 where
+pub record PairsAreCounted (p : Parts) (s : Snapshot) (student : ℕ) (totals : Totals) : Type 0 where
   pub own : length (student_pairs p s student) ≡ conflicts_in p.travel (spots_of p s.plan) (list_in s student)
   pub all : all_pairs p s ≡ totals.student

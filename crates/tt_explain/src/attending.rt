@@ -4,7 +4,7 @@ ghost use Rattle.std.specs.Prelude.{◌≡◌, ◌++◌, ◌<◌, [], OnOk, drop
 ghost use Rattle.tt_score.specs.Totals.{totals_of};
 ghost use Rattle.tt_state.specs.Snapshots.{list_in};
 ghost use Rattle.tt_verify.specs.Pairs.{pairs_with};
-ghost use Rattle.tt_explain.specs.Student.{AreCounted, class_line, class_lines, conflict_between, pair_line, pair_lines, student_lines, student_pairs};
+ghost use Rattle.tt_explain.specs.Student.{PairsAreCounted, class_line, class_lines, conflict_between, pair_line, pair_lines, student_lines, student_pairs};
 
 use crate::now::conflict_between;
 use std::alloc::AllocError;
@@ -114,7 +114,7 @@ fn add_pair_lines(out: &mut Reply, state: &State, student: u32) -> Result<(), Al
 
 // The pairs of a student are those that are counted, and those of all students add up.
 fn pairs_add_up(state: &State, student: u32)
-    ensures { AreCounted state.now.problem state.now.present student (totals_of state.now.problem
+    ensures { PairsAreCounted state.now.problem state.now.present student (totals_of state.now.problem
         state.now.present.closures state.now.present.plan state.now.present.lists) }
 {
     state.soundness();
@@ -128,7 +128,7 @@ pub fn student(state: &State, student: u32, out: &mut Reply) -> Result<(), Alloc
     requires { student < length state.now.problem.students }
     ensures lines { OnOk result
         (out.new ≡ out.old ++ student_lines state.now.problem state.now.present student) }
-    ensures pairs { AreCounted state.now.problem state.now.present student (totals_of
+    ensures pairs { PairsAreCounted state.now.problem state.now.present student (totals_of
         state.now.problem state.now.present.closures state.now.present.plan
         state.now.present.lists) }
 {

@@ -1,6 +1,6 @@
 //! In how many conflicting pairs each class is, counted in one pass over the lists of the students.
 
-ghost use Rattle.std.specs.Prelude.{◌≡◌, ℕ, ◌+◌, ◌<◌, ◌≤◌, ◌==◌, cond, IfOk, length, slice_index, sum_by};
+ghost use Rattle.std.specs.Prelude.{◌≡◌, ℕ, ◌+◌, ◌<◌, ◌≤◌, ◌==◌, if◌then◌else◌, IfOk, length, slice_index, sum_by};
 ghost use Rattle.std.specs.List.{range_with_len};
 ghost use Rattle.tt_roster.specs.Lists.{Ascends};
 ghost use Rattle.tt_verify.specs.Pairs.{pairs_with};
@@ -22,8 +22,9 @@ fn count_pair(counts: &mut [u64], state: &State, class: u32, other: u32)
     ensures { (x : ℕ)
         → slice_index counts.new x
         ≡ slice_index counts.old x
-        + cond (conflict_between state.now.problem state.now.present class other)
-        (cond (class == x) 1 0 + cond (other == x) 1 0) 0 }
+        + (if conflict_between state.now.problem state.now.present class other
+        then (if class == x then 1 else 0) + (if other == x then 1 else 0)
+        else 0) }
 {
     if conflict_between(state, class, other) {
         counts[class as usize] += 1;

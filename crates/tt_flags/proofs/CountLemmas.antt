@@ -7,7 +7,7 @@ use Rattle.std.specs.List.{filter, range_with_len}
 use Rattle.std.proofs.lemmas.Bool.Decides.{eqb_tells, leb_tells}
 use Rattle.std.proofs.lemmas.List.{length-replicate, length-set, get_or_past, get_or-set_same, get_or-set_other}
 use Rattle.tt_flags.specs.Places.{is_set, set_places}
-use Rattle.tt_flags.specs.Counted.{set_among, AreCounted}
+use Rattle.tt_flags.specs.Counted.{set_among, FlagsAreCounted}
 
 -- what passes of the numbers from a up to b, by whether a passes
 pub next_of_range : (f : ℕ → Bool) (a b : ℕ) → a < b → filter f (range_with_len a (b - a)) ≡ (if f a then a ∷ filter f (range_with_len (a + 1) (b - (a + 1))) else filter f (range_with_len (a + 1) (b - (a + 1))))
@@ -151,7 +151,7 @@ same_zero (suc n) zero = refl
 same_zero (suc n) (suc k) = same_zero n k
 
 -- with no flag set all counts are 0
-pub none_counted : (flags : List Bool) (counts : List ℕ) (n m : ℕ) → flags ≡ replicate n false → counts ≡ replicate m 0 → n < 2 ^ 32 → n ≤ m * 128 → m * 128 ≤ n + 128 → AreCounted flags counts 0
+pub none_counted : (flags : List Bool) (counts : List ℕ) (n m : ℕ) → flags ≡ replicate n false → counts ≡ replicate m 0 → n < 2 ^ 32 → n ≤ m * 128 → m * 128 ≤ n + 128 → FlagsAreCounted flags counts 0
 unfolding set_among
 none_counted flags counts n m is zeros few reach tight =
     let whole : length (replicate m zero) ≡ m = length-replicate m zero in
@@ -194,7 +194,7 @@ beyond_by : (block own c : ℕ) → own ≡ c / 128 → block ≢ own → ((leb 
 beyond_by block own c is differ (inl before) = inr (omega (arith, is, differ, before.1))
 beyond_by block own c is differ (inr after) = inl (omega (arith, is, after.1))
 
-count_by_cases : (flags : List Bool) (counts : List ℕ) (count number n m : ℕ) (new : Bool) → AreCounted flags counts count → number < length flags → number / 128 < length counts
+count_by_cases : (flags : List Bool) (counts : List ℕ) (count number n m : ℕ) (new : Bool) → FlagsAreCounted flags counts count → number < length flags → number / 128 < length counts
     → m ≡ set_among (slice_set flags number new) (number / 128 * 128) 128
     → (block : ℕ) → block < length counts → ((nat_eq block (number / 128) ≡ true) × (block ≡ number / 128)) ⊎ ((nat_eq block (number / 128) ≡ false) × (block ≢ number / 128))
     → slice_index_or (slice_set counts (number / 128) m) block 0 ≡ set_among (slice_set flags number new) (block * 128) 128
@@ -206,17 +206,17 @@ count_by_cases flags counts count number n m new kept within own is block below 
     ∙ sym (changed_beyond flags (block * 128) 128 number new (beyond_by block (number / 128) number refl other.1 (leb_tells block (number / 128))))
 
 -- the block of a flag has a count
-pub own_block : (flags : List Bool) (counts : List ℕ) (count number : ℕ) → AreCounted flags counts count → number < length flags → number / 128 < length counts
+pub own_block : (flags : List Bool) (counts : List ℕ) (count number : ℕ) → FlagsAreCounted flags counts count → number < length flags → number / 128 < length counts
 own_block flags counts count number kept within = omega (arith, kept.reach, within)
 
-own_change : (flags : List Bool) (counts : List ℕ) (count number n : ℕ) (old new : Bool) → AreCounted flags counts count → number < length flags → slice_index_or counts (number / 128) 0 ≡ n → is_set flags number ≡ old
+own_change : (flags : List Bool) (counts : List ℕ) (count number n : ℕ) (old new : Bool) → FlagsAreCounted flags counts count → number < length flags → slice_index_or counts (number / 128) 0 ≡ n → is_set flags number ≡ old
     → set_among (slice_set flags number new) (number / 128 * 128) 128 + flag old ≡ n + flag new
 own_change flags counts count number n old new kept within at is =
     let change = rw is at (changed_within flags (number / 128 * 128) 128 number new within (omega arith) (omega arith)) in
     let here = sym at ∙ kept.blocks (number / 128) (own_block flags counts count number kept within) in
     omega (arith, change, here)
 
-whole_change : (flags : List Bool) (counts : List ℕ) (count number : ℕ) (old new : Bool) → AreCounted flags counts count → number < length flags → is_set flags number ≡ old
+whole_change : (flags : List Bool) (counts : List ℕ) (count number : ℕ) (old new : Bool) → FlagsAreCounted flags counts count → number < length flags → is_set flags number ≡ old
     → length (set_places (slice_set flags number new)) + flag old ≡ count + flag new
 unfolding set_among
 whole_change flags counts count number old new kept within is =
@@ -224,16 +224,16 @@ whole_change flags counts count number old new kept within is =
     rw (length-set flags number new) (omega (arith, change, kept.whole))
 
 -- the count of a flag's block is above what the flag adds
-pub less_in_block : (flags : List Bool) (counts : List ℕ) (count number n x : ℕ) (old : Bool) → AreCounted flags counts count → number < length flags → slice_index_or counts (number / 128) 0 ≡ n → is_set flags number ≡ old → x ≡ from_bool old → x ≤ n
+pub less_in_block : (flags : List Bool) (counts : List ℕ) (count number n x : ℕ) (old : Bool) → FlagsAreCounted flags counts count → number < length flags → slice_index_or counts (number / 128) 0 ≡ n → is_set flags number ≡ old → x ≡ from_bool old → x ≤ n
 less_in_block flags counts count number n x old kept within at is told =
     omega (arith, own_change flags counts count number n old false kept within at is, flag_of old x told)
 
-pub less_in_all : (flags : List Bool) (counts : List ℕ) (count number x : ℕ) (old : Bool) → AreCounted flags counts count → number < length flags → is_set flags number ≡ old → x ≡ from_bool old → x ≤ count
+pub less_in_all : (flags : List Bool) (counts : List ℕ) (count number x : ℕ) (old : Bool) → FlagsAreCounted flags counts count → number < length flags → is_set flags number ≡ old → x ≡ from_bool old → x ≤ count
 less_in_all flags counts count number x old kept within is told =
     omega (arith, whole_change flags counts count number old false kept within is, flag_of old x told)
 
 -- and a block's count is no more than its flags
-pub few_in_block : (flags : List Bool) (counts : List ℕ) (count number n : ℕ) → AreCounted flags counts count → number < length flags → slice_index_or counts (number / 128) 0 ≡ n → n ≤ 128
+pub few_in_block : (flags : List Bool) (counts : List ℕ) (count number n : ℕ) → FlagsAreCounted flags counts count → number < length flags → slice_index_or counts (number / 128) 0 ≡ n → n ≤ 128
 few_in_block flags counts count number n kept within at =
     omega (arith, sym at ∙ kept.blocks (number / 128) (own_block flags counts count number kept within), few_set flags (number / 128 * 128) 128)
 
@@ -241,8 +241,8 @@ pub told_small : (b : Bool) (x : ℕ) → x ≡ from_bool b → x ≤ 1
 told_small b x is = omega (arith, flag_of b x is, flag_small b)
 
 -- the counts once a flag is changed
-pub set_flag : (flags : List Bool) (counts : List ℕ) (count number n x y : ℕ) (old new : Bool) → AreCounted flags counts count → number < length flags → slice_index_or counts (number / 128) 0 ≡ n → is_set flags number ≡ old → x ≡ from_bool old → y ≡ from_bool new
-    → AreCounted (slice_set flags number new) (slice_set counts (number / 128) (n - x + y)) (count - x + y)
+pub set_flag : (flags : List Bool) (counts : List ℕ) (count number n x y : ℕ) (old new : Bool) → FlagsAreCounted flags counts count → number < length flags → slice_index_or counts (number / 128) 0 ≡ n → is_set flags number ≡ old → x ≡ from_bool old → y ≡ from_bool new
+    → FlagsAreCounted (slice_set flags number new) (slice_set counts (number / 128) (n - x + y)) (count - x + y)
 set_flag flags counts count number n x y old new kept within at is told_old told_new =
     let own = own_block flags counts count number kept within in
     let m : n - x + y ≡ set_among (slice_set flags number new) (number / 128 * 128) 128 =
@@ -255,7 +255,7 @@ set_flag flags counts count number n x y old new kept within at is told_old told
       whole = omega (arith, whole_change flags counts count number old new kept within is, less_in_all flags counts count number x old kept within is told_old, flag_of old x told_old, flag_of new y told_new);
     }
 
-pub few_in_all : (flags : List Bool) (counts : List ℕ) (count : ℕ) → AreCounted flags counts count → count ≤ length flags
+pub few_in_all : (flags : List Bool) (counts : List ℕ) (count : ℕ) → FlagsAreCounted flags counts count → count ≤ length flags
 unfolding set_among
 few_in_all flags counts count kept = omega (arith, kept.whole, few_set flags 0 (length flags))
 

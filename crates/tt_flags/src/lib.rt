@@ -20,13 +20,13 @@ pub struct Flags {
 
 impl Model for Flags {
     ghost use Rattle.std.specs.Prelude.{List, Bool};
-    ghost use Rattle.tt_flags.specs.Counted.{AreCounted};
+    ghost use Rattle.tt_flags.specs.Counted.{FlagsAreCounted};
 
     ghost Value = { List Bool };
 
     ghost view = { λ f. f.flags.items };
 
-    ghost invariant = { λ f. AreCounted f.flags.items f.counts.items f.count };
+    ghost invariant = { λ f. FlagsAreCounted f.flags.items f.counts.items f.count };
 }
 
 // The number of the flag at a place among those that are set from one flag on.

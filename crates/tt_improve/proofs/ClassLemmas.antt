@@ -21,7 +21,7 @@ use Rattle.tt_score.specs.Totals.{totals_of}
 use Rattle.tt_state.specs.Snapshots.{Snapshot, StaysLocked, is_locked_in, may_lock, value_in, with_value}
 use Rattle.tt_state.specs.Values.{blocked_of, conflict_set_of, total_with}
 use Rattle.tt_improve.specs.declared.classes.Best.{Best}
-use Rattle.tt_improve.specs.Below.{better, passed, nothing_below}
+use Rattle.tt_improve.specs.Below.{lower_of, lowest_after, nothing_below}
 use Rattle.tt_improve.specs.Classes.{is_free, total_of, least_value, at_lower, changed_class}
 use Rattle.tt_improve.specs.Standing.{IsLower, IsMovable, IsNoWorse}
 use Rattle.tt_improve.proofs.BelowLemmas.{least_below}
@@ -36,7 +36,7 @@ pub record IsBestBelow (Of : Value → Type 0) (free : Value → Bool) (total : 
 pub best_nothing : (Of : Value → Type 0) (free : Value → Bool) (total : Value → ℕ) (bound : ℕ) → IsBestBelow Of free total bound (nothing_below bound)
 best_nothing Of free total bound = record { low = omega arith; found = tt }
 
-pub best_next : (Of : Value → Type 0) (free : Value → Bool) (total : Value → ℕ) (bound : ℕ) (best : Best) (v : Value) → Of v → IsBestBelow Of free total bound best → IsBestBelow Of free total bound (better free total best v)
+pub best_next : (Of : Value → Type 0) (free : Value → Bool) (total : Value → ℕ) (bound : ℕ) (best : Best) (v : Value) → Of v → IsBestBelow Of free total bound best → IsBestBelow Of free total bound (lower_of free total best v)
 best_next Of free total bound best v of h = by (nat_lt (total v) best.total) (free v) refl refl
   where
     by : (low is : Bool) → nat_lt (total v) best.total ≡ low → free v ≡ is → IsBestBelow Of free total bound (cond (low && is) (record { total = total v; value = Some v }) best)
@@ -57,7 +57,7 @@ none_within n = by (nat_le n 0) (n == 0) refl refl
     by false true p q = grind (arith, nat_tests)
 
 -- the value that the class has is no better: with it the total is the present one
-pub own_no_better : (p : Parts) (s : Snapshot) (class : ℕ) (v : Value) (best : Best) → value_in s class ≡ Some v → best.total ≤ total_of p s → best ≡ better (is_free p s class) (total_with p s class) best v
+pub own_no_better : (p : Parts) (s : Snapshot) (class : ℕ) (v : Value) (best : Best) → value_in s class ≡ Some v → best.total ≤ total_of p s → best ≡ lower_of (is_free p s class) (total_with p s class) best v
 unfolding total_with
 own_no_better p s class v best is low =
     let same : slice_set s.plan class (Some v) ≡ s.plan = ap (slice_set s.plan class) (sym is) ∙ set-get_or s.plan class None in
@@ -66,13 +66,13 @@ own_no_better p s class v best is low =
     rw high refl
 
 -- the walk goes on over the values that are left
-pub walk_next : (free : Value → Bool) (total : Value → ℕ) (domain : List Value) (k : ℕ) (v : Value) (start best now : Best) → slice_get domain k ≡ Some v → now ≡ better free total best v
-    → passed free total best (drop k domain) ≡ passed free total start domain → passed free total now (drop (k + 1) domain) ≡ passed free total start domain
+pub walk_next : (free : Value → Bool) (total : Value → ℕ) (domain : List Value) (k : ℕ) (v : Value) (start best now : Best) → slice_get domain k ≡ Some v → now ≡ lower_of free total best v
+    → lowest_after free total best (drop k domain) ≡ lowest_after free total start domain → lowest_after free total now (drop (k + 1) domain) ≡ lowest_after free total start domain
 walk_next free total domain k v start best now is step so_far =
-    ap (λ (b : Best). passed free total b (drop (k + 1) domain)) step ∙ ap (passed free total best) (sym (drop_at domain k v is)) ∙ so_far
+    ap (λ (b : Best). lowest_after free total b (drop (k + 1) domain)) step ∙ ap (lowest_after free total best) (sym (drop_at domain k v is)) ∙ so_far
 
 -- what the walk finds is where the round takes the class
-pub walk_found : (p : Parts) (s : Snapshot) (class : ℕ) (found : Option Value) → found ≡ (passed (is_free p s class) (total_with p s class) (nothing_below (total_of p s)) (domain_of p class)).value
+pub walk_found : (p : Parts) (s : Snapshot) (class : ℕ) (found : Option Value) → found ≡ (lowest_after (is_free p s class) (total_with p s class) (nothing_below (total_of p s)) (domain_of p class)).value
     → changed_class p s class ≡ option_map (λ v. with_value s class (Some v)) found
 unfolding changed_class least_value
 walk_found p s class found is =
@@ -132,7 +132,7 @@ lower_of p s class best h = by best.value h.found
     by (Some v) found = record { domain = found.0; free = found.1; lower = found.2 }
 
 -- a whole walk
-pub walk_done : (free : Value → Bool) (total : Value → ℕ) (domain : List Value) (k : ℕ) (start best : Best) → length domain ≤ k → passed free total best (drop k domain) ≡ passed free total start domain → best.value ≡ (passed free total start domain).value
+pub walk_done : (free : Value → Bool) (total : Value → ℕ) (domain : List Value) (k : ℕ) (start best : Best) → length domain ≤ k → lowest_after free total best (drop k domain) ≡ lowest_after free total start domain → best.value ≡ (lowest_after free total start domain).value
 walk_done free total domain k start best past so_far =
     let none : drop k domain ≡ [] = drop_all k domain past in
-    ap (λ (b : Best). b.value) (sym (ap (passed free total best) none) ∙ so_far)
+    ap (λ (b : Best). b.value) (sym (ap (lowest_after free total best) none) ∙ so_far)

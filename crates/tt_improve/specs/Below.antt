@@ -4,13 +4,13 @@ use Rattle.tt_bits.specs.declared.times.Value.{Value}
 use Rattle.tt_improve.specs.declared.classes.Best.{Best}
 
 -- a value that is better than the best so far takes its place
-abbrev pub better : (Value → Bool) → (Value → ℕ) → Best → Value → Best
-better free total best v =
+abbrev pub lower_of : (Value → Bool) → (Value → ℕ) → Best → Value → Best
+lower_of free total best v =
     if nat_lt (total v) best.total && free v then record { total = total v; value = Some v } else best
 
 -- the best once these values are passed, one after another
-abbrev pub passed : (Value → Bool) → (Value → ℕ) → Best → List Value → Best
-passed free total best values = fold (better free total) best values
+abbrev pub lowest_after : (Value → Bool) → (Value → ℕ) → Best → List Value → Best
+lowest_after free total best values = fold (lower_of free total) best values
 
 -- nothing is found yet, and only a number below this one is better
 abbrev pub nothing_below : ℕ → Best

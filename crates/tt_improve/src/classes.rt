@@ -1,13 +1,13 @@
 //! Rounds on classes: a class gets the best of its free values.
 
-ghost use Rattle.std.specs.Prelude.{◌≡◌, ◌↔◌, ◌<◌, ◌≤◌, [], IsTrue, None, Some, IfOk, IfSome, OnOk, cond, false, length};
+ghost use Rattle.std.specs.Prelude.{◌≡◌, ◌↔◌, ◌<◌, ◌≤◌, [], IsTrue, None, Some, IfOk, IfSome, OnOk, if◌then◌else◌, false, length};
 ghost use Rattle.std.specs.Option.{option_map};
 ghost use Rattle.tt_plan.specs.Domain.{IsOfDomain};
 ghost use Rattle.tt_state.specs.History.{IsWithinStep, earlier, with_taken};
 ghost use Rattle.tt_state.specs.Snapshots.{value_in, with_value};
 ghost use Rattle.tt_state.specs.Values.{total_with, without_of};
 ghost use Rattle.tt_improve.specs.Classes.{changed_class, is_free, total_of};
-ghost use Rattle.tt_improve.specs.Below.{better};
+ghost use Rattle.tt_improve.specs.Below.{lower_of};
 ghost use Rattle.tt_improve.specs.Standing.{IsLower, IsMovable, IsNoWorse};
 
 use std::alloc::AllocError;
@@ -42,7 +42,7 @@ fn look_at(state: &mut State, class: u32, value: Value, without: Without, best: 
     ensures present { state.new.present ≡ state.old.present }
     ensures entries { state.new.entries ≡ state.old.entries }
     ensures better { result
-        ≡ better (is_free state.old.problem state.old.present class)
+        ≡ lower_of (is_free state.old.problem state.old.present class)
         (total_with state.old.problem state.old.present class) best value }
 {
     if has_value(state, class, value) {
@@ -94,7 +94,7 @@ pub(crate) fn change_class(state: &mut State, class: u32) -> Result<bool, AllocE
     ensures step { IsWithinStep (with_taken state.old []) (with_taken state.new []) }
     ensures changes { IfOk result (λ changes.
         changed_class state.old.problem state.old.present class
-        ≡ cond changes (Some state.new.present) None) }
+        ≡ (if changes then Some state.new.present else None)) }
     ensures same { IfOk result
         (λ changes. changes ≡ false → state.new.present ≡ state.old.present) }
     ensures no_worse { OnOk result

@@ -1,10 +1,10 @@
 //! Rounds on students: the least choice of a course replaces a student's own.
 
-ghost use Rattle.std.specs.Prelude.{◌≡◌, ◌<◌, ◌≤◌, ◌++◌, [], None, Some, IfOk, IfSome, OnOk, cond, false, length, take};
+ghost use Rattle.std.specs.Prelude.{◌≡◌, ◌<◌, ◌≤◌, ◌++◌, [], None, Some, IfOk, IfSome, OnOk, if◌then◌else◌, false, length, take};
 ghost use Rattle.std.specs.Option.{option_map};
 ghost use Rattle.tt_state.specs.History.{IsWithinStep, earlier};
 ghost use Rattle.tt_state.specs.Snapshots.{classes_in_order, list_in, with_list};
-ghost use Rattle.tt_choice.specs.Ready.{HasRoom};
+ghost use Rattle.tt_choice.specs.Ready.{HasRoomToChoose};
 ghost use Rattle.tt_choice.specs.Seating.{MayGet};
 ghost use Rattle.tt_improve.specs.Courses.{changed_student, own_of, replaced_by, rest_of};
 ghost use Rattle.tt_improve.specs.Standing.{IsNoWorse, IsSeatedIn};
@@ -65,8 +65,8 @@ fn fewer_pairs(
     requires rest { rest.now
         ≡ rest_of state.now.problem course (list_in state.now.present student) }
     requires own { own.now ≡ own_of state.now.problem course (list_in state.now.present student) }
-    requires room { HasRoom state.now.problem buffers.old }
-    ensures room { HasRoom state.now.problem buffers.new }
+    requires room { HasRoomToChoose state.now.problem buffers.old }
+    ensures room { HasRoomToChoose state.now.problem buffers.new }
     ensures within { IfSome result (λ size. size ≤ length buffers.new.best.items) }
     ensures choice { replaced_by state.now.problem state.now.present student course rest.now own.now
         ≡ option_map
@@ -105,12 +105,12 @@ pub(crate) fn change_student(
 ) -> Result<bool, AllocError>
     requires target { IsSeatedIn state.old.problem state.old.present student course }
     requires step { 0 < length (earlier state.old) }
-    requires room { HasRoom state.old.problem buffers.old }
-    ensures room { HasRoom state.old.problem buffers.new }
+    requires room { HasRoomToChoose state.old.problem buffers.old }
+    ensures room { HasRoomToChoose state.old.problem buffers.new }
     ensures step { IsWithinStep state.old state.new }
     ensures changes { IfOk result (λ changes.
         changed_student state.old.problem state.old.present student course
-        ≡ cond changes (Some state.new.present) None) }
+        ≡ (if changes then Some state.new.present else None)) }
     ensures same { IfOk result
         (λ changes. changes ≡ false → state.new.present ≡ state.old.present) }
     ensures no_worse { OnOk result

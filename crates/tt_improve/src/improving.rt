@@ -1,10 +1,10 @@
 //! The descent: its rounds, and `improve`.
 
-ghost use Rattle.std.specs.Prelude.{◌≡◌, ℕ, ◌+◌, ◌<◌, ◌≤◌, ◌^◌, ◌∷◌, [], None, Some, IfOk, OnOk, OnErr, cond, false, length};
+ghost use Rattle.std.specs.Prelude.{◌≡◌, ℕ, ◌+◌, ◌<◌, ◌≤◌, ◌^◌, ◌∷◌, [], None, Some, IfOk, OnOk, OnErr, if◌then◌else◌, false, length};
 ghost use Rattle.tt_state.specs.Desk.{stepped};
 ghost use Rattle.tt_state.specs.History.{IsWithinStep, desk_of, earlier, with_taken};
 ghost use Rattle.tt_state.specs.Snapshots.{StaysLocked};
-ghost use Rattle.tt_choice.specs.Ready.{HasRoom};
+ghost use Rattle.tt_choice.specs.Ready.{HasRoomToChoose};
 ghost use Rattle.tt_improve.specs.Classes.{totals_in};
 ghost use Rattle.tt_improve.specs.Idle.{KnowsIdle, changed_at, targets_in};
 ghost use Rattle.tt_improve.specs.Targets.{targets_of};
@@ -49,7 +49,7 @@ impl Descent {
         ensures whole { IfOk result (λ descent. IsTableOf state.now.problem descent.touched) }
         ensures idle { IfOk result (λ descent.
             KnowsIdle state.now.problem state.now.present descent.targets descent.touched 1) }
-        ensures room { IfOk result (λ descent. HasRoom state.now.problem descent.buffers) }
+        ensures room { IfOk result (λ descent. HasRoomToChoose state.now.problem descent.buffers) }
     {
         let targets = Targets::new(alloc, state)?;
         let touched = Touched::new(alloc, state.problem())?;
@@ -72,12 +72,12 @@ fn make_round(
 ) -> Result<bool, AllocError>
     requires target { IsTargetOf state.old.problem state.old.present target }
     requires step { 0 < length (earlier state.old) }
-    requires room { HasRoom state.old.problem buffers.old }
-    ensures room { HasRoom state.old.problem buffers.new }
+    requires room { HasRoomToChoose state.old.problem buffers.old }
+    ensures room { HasRoomToChoose state.old.problem buffers.new }
     ensures step { IsWithinStep (with_taken state.old []) (with_taken state.new []) }
     ensures changes { IfOk result (λ changes.
         changed_by state.old.problem state.old.present target
-        ≡ cond changes (Some state.new.present) None) }
+        ≡ (if changes then Some state.new.present else None)) }
     ensures same { IfOk result
         (λ changes. changes ≡ false → state.new.present ≡ state.old.present) }
     ensures no_worse { OnOk result
@@ -107,19 +107,19 @@ fn make_round_at(
     requires idle { KnowsIdle state.old.problem state.old.present descent.old.targets
         descent.old.touched stage }
     requires step { 0 < length (earlier state.old) }
-    requires room { HasRoom state.old.problem descent.old.buffers }
-    ensures room { HasRoom state.old.problem descent.new.buffers }
+    requires room { HasRoomToChoose state.old.problem descent.old.buffers }
+    ensures room { HasRoomToChoose state.old.problem descent.new.buffers }
     ensures whole { IsTableOf state.old.problem descent.new.touched }
     ensures step { IsWithinStep (with_taken state.old []) (with_taken state.new []) }
     ensures targets { targets_in descent.new.targets ≡ targets_in descent.old.targets }
     ensures changes { IfOk result (λ changes.
         changed_at state.old.problem state.old.present (targets_in descent.old.targets) place
-        ≡ cond changes (Some state.new.present) None) }
+        ≡ (if changes then Some state.new.present else None)) }
     ensures same { IfOk result
         (λ changes. changes ≡ false → state.new.present ≡ state.old.present) }
     ensures idle { IfOk result (λ changes.
         KnowsIdle state.old.problem state.new.present descent.new.targets descent.new.touched
-        (stage + cond changes 1 0)) }
+        (stage + (if changes then 1 else 0))) }
     ensures no_worse { OnOk result
         (IsNoWorse state.old.problem state.old.present state.new.present) }
 {
@@ -143,7 +143,7 @@ fn make_round_at(
 
 // Makes rounds in the last step, until so many are made or there is no target. The watcher is told of
 // each.
-fn descend<W: Watcher>(
+fn make_rounds<W: Watcher>(
     alloc: Global,
     state: &mut State,
     descent: &mut Descent,
@@ -157,7 +157,7 @@ fn descend<W: Watcher>(
     requires whole { IsTableOf state.old.problem descent.old.touched }
     requires idle { KnowsIdle state.old.problem state.old.present descent.old.targets
         descent.old.touched 1 }
-    requires room { HasRoom state.old.problem descent.old.buffers }
+    requires room { HasRoomToChoose state.old.problem descent.old.buffers }
     requires step { 0 < length (earlier state.old) }
     ensures step { IsWithinStep (with_taken state.old []) (with_taken state.new []) }
     ensures end { IfOk result (λ n.
@@ -205,7 +205,7 @@ fn improve_in_step<W: Watcher>(
 {
     let mut descent = Descent::new(alloc, state)?;
     state.begin()?;
-    match descend(alloc, state, &mut descent, rounds, seed, watcher) {
+    match make_rounds(alloc, state, &mut descent, rounds, seed, watcher) {
         Ok(improved) => Ok(improved),
         Err(error) => {
             state.take_back();

@@ -1,6 +1,6 @@
 //! The stage of the last change that touched each class, each student and each course.
 
-ghost use Rattle.std.specs.Prelude.{◌≡◌, ℕ, ◌<◌, cond, IfOk, IfSome, Some, length, slice_get, slice_index};
+ghost use Rattle.std.specs.Prelude.{◌≡◌, ℕ, ◌<◌, if◌then◌else◌, IfOk, IfSome, Some, length, slice_get, slice_index};
 ghost use Rattle.std.specs.List.{AllByRecursion};
 ghost use Rattle.tt_base.specs.Lists.{is_listed};
 ghost use Rattle.tt_problem.specs.Places.{course_of};
@@ -20,7 +20,7 @@ fn note_classes(table: &mut [u32], places: Attendance<'_>, stage: u32)
     ensures whole { length table.new ≡ length table.old }
     ensures stages { (place : ℕ)
         → slice_index table.new place
-        ≡ cond (is_listed place places.entry) stage (slice_index table.old place) }
+        ≡ (if is_listed place places.entry then stage else slice_index table.old place) }
 {
     for place in places {
         table[place as usize] = stage;
@@ -33,7 +33,7 @@ fn note_students(table: &mut [u32], places: Items<'_>, stage: u32)
     ensures whole { length table.new ≡ length table.old }
     ensures stages { (place : ℕ)
         → slice_index table.new place
-        ≡ cond (is_listed place places.entry) stage (slice_index table.old place) }
+        ≡ (if is_listed place places.entry then stage else slice_index table.old place) }
 {
     for place in places {
         table[place as usize] = stage;

@@ -10,7 +10,7 @@ use Rattle.tt_bits.specs.Pairs.{is_one_room}
 use Rattle.tt_bits.specs.Spots.{spot_at, IsEmptyAt, placed}
 use Rattle.tt_bits.proofs.TimeLemmas.{overlaps-sym}
 use Rattle.tt_bits.proofs.SpotLemmas.{set_back, set_empty, emptied, full_within, length-placed, count-placed-set}
-use Rattle.tt_occupancy.specs.Kept.{AreCounted}
+use Rattle.tt_occupancy.specs.Kept.{ClashesAreCounted}
 use Rattle.tt_occupancy.specs.Clashes.{clash, clash_pairs, clash_count}
 
 is_one_room-sym : (a b : Option ℕ) → is_one_room a b ≡ is_one_room b a
@@ -58,24 +58,24 @@ few_clashes h few =
     let product : length h * (length h - 1) ≤ 4294967295 * 4294967295 = grind arith in omega (arith, twice-pairs clash (placed h) (length h) (length-placed h), product)
 
 -- what is kept where nobody is placed
-pub AreCounted-new : (n : ℕ) → n < 2 ^ 32 → AreCounted (replicate n None) 0
-AreCounted-new n all = record {
+pub ClashesAreCounted-new : (n : ℕ) → n < 2 ^ 32 → ClashesAreCounted (replicate n None) 0
+ClashesAreCounted-new n all = record {
   few = omega (arith, length-replicate {A = Option Spot} n None);
   counted = sym (clash_pairs-empty n);
 }
 
 -- what is kept when a class comes
-pub AreCounted-put : (h : List (Option Spot)) (p clashes more : ℕ) (x : Spot) → more ≡ clash_count h x p
-    → AreCounted h clashes → IsEmptyAt h p → (clashes + more < 2 ^ 64) × AreCounted (slice_set h p (Some x)) (clashes + more)
-AreCounted-put h p clashes more x is kept empty =
+pub ClashesAreCounted-put : (h : List (Option Spot)) (p clashes more : ℕ) (x : Spot) → more ≡ clash_count h x p
+    → ClashesAreCounted h clashes → IsEmptyAt h p → (clashes + more < 2 ^ 64) × ClashesAreCounted (slice_set h p (Some x)) (clashes + more)
+ClashesAreCounted-put h p clashes more x is kept empty =
     let now : clashes + more ≡ clash_pairs (slice_set h p (Some x)) = omega (arith, kept.counted, is, clash_count-empty h p x empty, clash_pairs-set h p x empty) in
     let few : length (slice_set h p (Some x)) < 2 ^ 32 = omega (arith, kept.few, length-set h p (Some x)) in
     (omega (arith, now, few_clashes (slice_set h p (Some x)) few), record { few = few; counted = now })
 
 -- what is kept when a class goes
-pub AreCounted-take : (h : List (Option Spot)) (p clashes less : ℕ) (x : Spot) → less ≡ clash_count h x p
-    → AreCounted h clashes → spot_at h p ≡ Some x → (less ≤ clashes) × AreCounted (slice_set h p None) (clashes - less)
-AreCounted-take h p clashes less x is kept full =
+pub ClashesAreCounted-take : (h : List (Option Spot)) (p clashes less : ℕ) (x : Spot) → less ≡ clash_count h x p
+    → ClashesAreCounted h clashes → spot_at h p ≡ Some x → (less ≤ clashes) × ClashesAreCounted (slice_set h p None) (clashes - less)
+ClashesAreCounted-take h p clashes less x is kept full =
     let all = clash_pairs-full h p x full in (
       omega (arith, kept.counted, is, all),
       record {

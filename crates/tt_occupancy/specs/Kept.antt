@@ -13,13 +13,13 @@ abbrev pub occupied : Inside → Occupied
 occupied o = record { spots = o.spots.items; rooms = o.rooms }
 
 -- the clashes are counted, and there are no more classes than a number of 32 bits counts
-pub record AreCounted (spots : List (Option Spot)) (clashes : ℕ) : Type 0 where
+pub record ClashesAreCounted (spots : List (Option Spot)) (clashes : ℕ) : Type 0 where
   pub few : length spots < 2 ^ 32
   pub counted : clashes ≡ clash_pairs spots
 
 -- the counts and the lists are those of the spots, and each room has a list, and one for each day
-pub record IsKept (o : Inside) : Type 0 where
-  pub counted : AreCounted o.spots.items o.clashes
+pub record OccupancyIsKept (o : Inside) : Type 0 where
+  pub counted : ClashesAreCounted o.spots.items o.clashes
   pub listed : AreListed o.spots.items o.by_room
   pub rooms : length o.by_room.lists ≡ o.rooms
   pub on_days : AreOnDays o.spots.items o.by_day

@@ -34,11 +34,11 @@ impl Model for Occupancy {
 
     ghost Value = { Occupied };
 
-    ghost use Rattle.tt_occupancy.specs.Kept.{occupied, IsKept};
+    ghost use Rattle.tt_occupancy.specs.Kept.{occupied, OccupancyIsKept};
 
     ghost view = { occupied };
 
-    ghost invariant = { IsKept };
+    ghost invariant = { OccupancyIsKept };
 }
 
 impl Occupancy {

@@ -8,7 +8,7 @@ use Rattle.tt_bits.specs.declared.times.Spot.{Spot}
 use Rattle.tt_travel.specs.Table.{Table, IsRoomOf}
 use Rattle.tt_bits.specs.Spots.{spot_at, IsEmptyAt}
 use Rattle.tt_bits.proofs.SpotLemmas.{set_back, emptied, full_within}
-use Rattle.tt_pair.specs.ViolatedPairs.{violated_pairs, violated_with, IsKept}
+use Rattle.tt_pair.specs.ViolatedPairs.{violated_pairs, violated_with, PairAmountIsKept}
 use Rattle.tt_pair.specs.PairLaws.{violated_pairs-empty, violated_pairs-set}
 
 -- the pairs with a spot don't depend on what its place has
@@ -17,9 +17,9 @@ pub violated_with-set : (kind : PairKind) (t : Table) (h : List (Option Spot)) (
 violated_with-set kind t h p s x = rw (take-set, drop-set-lt (suc p) h p s (omega arith)) refl
 
 -- what a group keeps when a member gets a spot
-pub IsKept-put : (kind : PairKind) (t : Table) (h : List (Option Spot)) (p amount more : ℕ) (x : Spot) → more ≡ violated_with kind t h p x
-    → IsKept kind t h amount → IsEmptyAt h p → IsRoomOf t x.room → IsKept kind t (slice_set h p (Some x)) (amount + more)
-IsKept-put kind t h p amount more x is kept empty room = record {
+pub PairAmountIsKept-put : (kind : PairKind) (t : Table) (h : List (Option Spot)) (p amount more : ℕ) (x : Spot) → more ≡ violated_with kind t h p x
+    → PairAmountIsKept kind t h amount → IsEmptyAt h p → IsRoomOf t x.room → PairAmountIsKept kind t (slice_set h p (Some x)) (amount + more)
+PairAmountIsKept-put kind t h p amount more x is kept empty room = record {
   counted = omega (arith, is, violated_pairs-set kind t h p x empty, kept.counted);
   rooms = All-set (λ s. IfSome s (λ y. IsRoomOf t y.room)) h p (Some x) room kept.rooms;
 }
@@ -34,9 +34,9 @@ violated_pairs-full kind t h p x full =
     ∙ ap (λ n. violated_pairs kind t (slice_set h p None) + n) (violated_with-set kind t h p None x)
 
 -- what a group keeps when a member loses its spot
-pub IsKept-take : (kind : PairKind) (t : Table) (h : List (Option Spot)) (p amount less : ℕ) (x : Spot) → less ≡ violated_with kind t h p x
-    → IsKept kind t h amount → spot_at h p ≡ Some x → (less ≤ amount) × IsKept kind t (slice_set h p None) (amount - less)
-IsKept-take kind t h p amount less x is kept full =
+pub PairAmountIsKept-take : (kind : PairKind) (t : Table) (h : List (Option Spot)) (p amount less : ℕ) (x : Spot) → less ≡ violated_with kind t h p x
+    → PairAmountIsKept kind t h amount → spot_at h p ≡ Some x → (less ≤ amount) × PairAmountIsKept kind t (slice_set h p None) (amount - less)
+PairAmountIsKept-take kind t h p amount less x is kept full =
     let all = violated_pairs-full kind t h p x full in (
       omega (arith, is, all, kept.counted),
       record {
@@ -46,8 +46,8 @@ IsKept-take kind t h p amount less x is kept full =
     )
 
 -- a new group keeps what it should for each table
-pub IsKept-new : (kind : PairKind) (t : Table) (n : ℕ) → IsKept kind t (replicate n None) 0
-IsKept-new kind t n = record {
+pub PairAmountIsKept-new : (kind : PairKind) (t : Table) (n : ℕ) → PairAmountIsKept kind t (replicate n None) 0
+PairAmountIsKept-new kind t n = record {
   counted = sym (violated_pairs-empty kind t n);
   rooms = All-replicate (λ s. IfSome s (λ x. IsRoomOf t x.room)) n None tt;
 }

@@ -4,7 +4,7 @@ use Rattle.tt_bits.specs.declared.times.Spot.{Spot}
 use Rattle.tt_travel.specs.Table.{Table}
 use Rattle.tt_pair.specs.declared.PairGroup.{PairGroup}
 use Rattle.tt_pair.specs.PairShapes.{pair_shape}
-use Rattle.tt_pair.specs.ViolatedPairs.{IsKept}
+use Rattle.tt_pair.specs.ViolatedPairs.{PairAmountIsKept}
 
 -- what each member has, a spot or none
 abbrev pub held_of : PairGroup → List (Option Spot)
@@ -16,4 +16,4 @@ shape_of g = pair_shape g.kind (length g.held.items)
 
 -- what is kept is what the definitions give for the spots held and the table
 abbrev pub IsOfTable : PairGroup → Table → Type 0
-IsOfTable g t = IsKept g.kind t g.held.items g.amount
+IsOfTable g t = PairAmountIsKept g.kind t g.held.items g.amount

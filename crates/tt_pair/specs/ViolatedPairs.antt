@@ -22,6 +22,6 @@ violated_with kind t h p x =
     count_by (λ y. is_violated kind t y x) (placed (take p h)) + count_by (is_violated kind t x) (placed (drop (suc p) h))
 
 -- what is kept for a table: the number of pairs that break the rule, of spots whose rooms are the table's
-pub record IsKept (kind : PairKind) (t : Table) (h : List (Option Spot)) (amount : ℕ) : Type 0 where
+pub record PairAmountIsKept (kind : PairKind) (t : Table) (h : List (Option Spot)) (amount : ℕ) : Type 0 where
   pub counted : amount ≡ violated_pairs kind t h
   pub rooms : AreRoomsOf t h

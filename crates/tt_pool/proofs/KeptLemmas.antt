@@ -12,7 +12,7 @@ use Rattle.tt_pool.specs.declared.chain.Node.{Node}
 use Rattle.tt_pool.specs.declared.chain.Chain.{Chain}
 use Rattle.tt_pool.specs.declared.places.Place.{Place}
 use Rattle.tt_pool.specs.Chains.{no_link, item_of, after, chain_of, uses, IsPlace, LeadsBack}
-use Rattle.tt_pool.specs.Pools.{chains_of, lists_of, no_chain, chain_at, place_in, IsPool, IsBacked, IsFresh, IsKept, node_bound}
+use Rattle.tt_pool.specs.Pools.{chains_of, lists_of, no_chain, chain_at, place_in, IsPool, IsBacked, IsFresh, PoolIsKept, node_bound}
 use Rattle.tt_pool.proofs.Paths.{on_way, path-get_or}
 use Rattle.tt_pool.proofs.Search.{item-get_or, found_at}
 use Rattle.tt_pool.proofs.EndLemmas.{list_is_chain, node_place}
@@ -21,7 +21,7 @@ use Rattle.tt_pool.proofs.OrderLemmas.{ascends-insert, ascends-remove, ascends-s
 
 -- a pool whose lists are seen, and the number of one of them
 pub record IsSeen (nodes : List Node) (lists : List Chain) (backs : List Link) (free : Chain) (ordered : Bool) (seen : List (List ℕ)) (l : ℕ) : Type 0 where
-  pub kept : IsKept nodes lists backs free ordered
+  pub kept : PoolIsKept nodes lists backs free ordered
   pub is : lists_of nodes lists ≡ seen
   pub within : l < length seen
 
@@ -53,12 +53,12 @@ all_ascend : (nodes : List Node) (lists : List Chain) (backs : List Link) (free 
     → IsSeen nodes lists backs free ordered seen l → ordered ≡ true → (m : ℕ) → IsNonDecreasing (slice_index_or seen m [])
 all_ascend nodes lists backs free ordered seen l s up m = rw (sym s.is) (s.kept.order up m)
 
-pub IsKept-put : (nodes new : List Node) (lists new_lists : List Chain) (backs new_backs : List Link) (free rest : Chain) (ordered : Bool)
+pub PoolIsKept-put : (nodes new : List Node) (lists new_lists : List Chain) (backs new_backs : List Link) (free rest : Chain) (ordered : Bool)
     (seen : List (List ℕ)) (l item : ℕ) → IsSeen nodes lists backs free ordered seen l
     → IsPool new new_lists rest → IsBacked new_backs (length new) (chains_of new new_lists)
     → lists_of new new_lists ≡ slice_set seen l (insert (slice_index_or seen l []) (position_or_len (nat_lt item) (slice_index_or seen l [])) item)
-    → IsKept new new_lists new_backs rest ordered
-IsKept-put nodes new lists new_lists backs new_backs free rest ordered seen l item s pool backed are = record {
+    → PoolIsKept new new_lists new_backs rest ordered
+PoolIsKept-put nodes new lists new_lists backs new_backs free rest ordered seen l item s pool backed are = record {
   pool = pool;
   backed = backed;
   order = λ up m.
@@ -66,12 +66,12 @@ IsKept-put nodes new lists new_lists backs new_backs free rest ordered seen l it
       rw are (ascends-set seen l _ s.within all (ascends-insert item (slice_index_or seen l []) (all l)) m);
 }
 
-pub IsKept-taken : (nodes new : List Node) (lists new_lists : List Chain) (backs new_backs : List Link) (free rest : Chain) (ordered : Bool)
+pub PoolIsKept-taken : (nodes new : List Node) (lists new_lists : List Chain) (backs new_backs : List Link) (free rest : Chain) (ordered : Bool)
     (seen : List (List ℕ)) (l at : ℕ) → IsSeen nodes lists backs free ordered seen l
     → IsPool new new_lists rest → IsBacked new_backs (length new) (chains_of new new_lists)
     → lists_of new new_lists ≡ slice_set seen l (remove (slice_index_or seen l []) at) → at < length (slice_index_or seen l [])
-    → IsKept new new_lists new_backs rest ordered
-IsKept-taken nodes new lists new_lists backs new_backs free rest ordered seen l at s pool backed are lt = record {
+    → PoolIsKept new new_lists new_backs rest ordered
+PoolIsKept-taken nodes new lists new_lists backs new_backs free rest ordered seen l at s pool backed are lt = record {
   pool = pool;
   backed = backed;
   order = λ up m.
@@ -95,9 +95,9 @@ chains_of-empty nodes (suc n) = ap (λ (t : List (List ℕ)). [] ∷ t) (chains_
 leads-empty : (n end : ℕ) → LeadsBack (replicate n no_link) end []
 leads-empty n end = ap (λ (link : Link). link.0 ∷ []) (get_or-replicate_default n end no_link)
 
-pub IsKept-fresh : (nodes : List Node) (n lists : ℕ) → IsFresh nodes n → n < node_bound
-    → IsKept nodes (replicate lists no_chain) (replicate (n + lists) no_link) (record { first = record { 0 = 0 }; len = n }) true
-IsKept-fresh nodes n lists s few = record {
+pub PoolIsKept-fresh : (nodes : List Node) (n lists : ℕ) → IsFresh nodes n → n < node_bound
+    → PoolIsKept nodes (replicate lists no_chain) (replicate (n + lists) no_link) (record { first = record { 0 = 0 }; len = n }) true
+PoolIsKept-fresh nodes n lists s few = record {
   pool = IsPool-fresh nodes n lists s few;
   backed = record {
     count =

@@ -26,7 +26,7 @@ pub struct Chain {
 
 /// The node that is so many steps from the first.
 #[tactic(auto, using(crate::proofs::Paths::after_more))]
-pub fn walk(nodes: &[Node], first: Link, steps: u32) -> Link
+pub fn node_after(nodes: &[Node], first: Link, steps: u32) -> Link
     requires { (k : ℕ) → k ≤ steps → after nodes.now k first.0 < length nodes.now }
     ensures { result.0 ≡ after nodes.now steps first.0 }
 {

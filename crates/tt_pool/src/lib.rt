@@ -14,7 +14,7 @@ mod chain;
 mod order;
 mod places;
 
-use chain::{Chain, Link, Node, put, take, walk};
+use chain::{Chain, Link, Node, node_after, put, take};
 pub use order::place_in_order;
 use places::{Place, next_place, place_at, place_to_put, place_to_take};
 use std::alloc::{AllocError, Global};
@@ -38,7 +38,7 @@ impl Model for Pool {
 
     ghost Value = { Pooled };
 
-    ghost use Rattle.tt_pool.specs.Pools.{chains_of, lists_of, IsKept};
+    ghost use Rattle.tt_pool.specs.Pools.{chains_of, lists_of, PoolIsKept};
 
     ghost view = { λ p. record {
       lists = lists_of p.nodes.items p.lists.items;
@@ -46,7 +46,7 @@ impl Model for Pool {
       spare = p.free.len;
     } };
 
-    ghost invariant = { λ p. IsKept p.nodes.items p.lists.items p.backs.items p.free p.ordered };
+    ghost invariant = { λ p. PoolIsKept p.nodes.items p.lists.items p.backs.items p.free p.ordered };
 }
 
 impl Pool {
@@ -157,7 +157,7 @@ impl Pool {
         let nodes = self.nodes.as_mut_slice();
         let lists = self.lists.as_mut_slice();
         let backs = self.backs.as_mut_slice();
-        let node = walk(nodes, lists[list as usize].first, at);
+        let node = node_after(nodes, lists[list as usize].first, at);
         let (free, item) = take(nodes, lists, backs, self.free, list, node);
         self.free = free;
         item

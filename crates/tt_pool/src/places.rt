@@ -5,7 +5,7 @@ ghost use Rattle.std.specs.List.{remove, position_or_len};
 ghost use Rattle.std.specs.List.Sorted.{IsNonDecreasing};
 ghost use Rattle.tt_pool.specs.Chains.{chain_of, uses, item_of, IsChain, IsPlace, StandsAt, LeadsBack};
 
-use crate::chain::{Chain, Link, Node, walk};
+use crate::chain::{Chain, Link, Node, node_after};
 
 /// A place in a chain: so many nodes stand before it, and the last of them, where there is one.
 #[derive(Clone, Copy)]
@@ -27,7 +27,7 @@ pub fn place_at(nodes: &[Node], chain: Chain, at: u32) -> Place
             before: chain.first,
         };
     }
-    let before = walk(nodes, chain.first, at - 1);
+    let before = node_after(nodes, chain.first, at - 1);
     Place { at, before }
 }
 

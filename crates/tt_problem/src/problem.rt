@@ -32,9 +32,9 @@ impl Model for Problem {
 
     ghost view = { λ p. p.parts };
 
-    ghost use Rattle.tt_problem.specs.Kept.{IsKept};
+    ghost use Rattle.tt_problem.specs.Kept.{ProblemIsKept};
 
-    ghost invariant = { IsKept };
+    ghost invariant = { ProblemIsKept };
 }
 
 #[tactic(auto, using(crate::proofs::SpanLemmas::span_within, crate::proofs::SpanLemmas::course_within))]

@@ -13,8 +13,8 @@ use Rattle.tt_state.specs.Snapshots.{Snapshot}
 use Rattle.tt_state.specs.Values.{total_with}
 
 -- there is room for the values of each class
-abbrev pub HasRoom : Parts → LeastValues → Type 0
-HasRoom p l = (class : ℕ) → class < length p.classes → length (domain_of p class) ≤ vec_capacity l.values
+abbrev pub HasRoomForValues : Parts → LeastValues → Type 0
+HasRoomForValues p l = (class : ℕ) → class < length p.classes → length (domain_of p class) ≤ vec_capacity l.values
 
 -- these are the items of a list that are least, and the numbers of these, where there is one
 pub record AreLeastBy {A : Type 0} (numbers : A → List ℕ) (xs : List A) (least : Option (List ℕ)) (found : List A) : Type 0 where

@@ -5,7 +5,7 @@ use Rattle.tt_published.specs.Timetable.{Timetable}
 use Rattle.tt_state.specs.Snapshots.{Snapshot}
 use Rattle.tt_search.specs.declared.way.Way.{Way}
 use Rattle.tt_search.specs.Drawing.{AreCandidates}
-use Rattle.tt_search.specs.LeastNow.{HasRoom}
+use Rattle.tt_search.specs.LeastNow.{HasRoomForValues}
 use Rattle.tt_search.specs.MovedNow.{AreMoved}
 use Rattle.tt_search.specs.Numbers.{rank_numbers}
 use Rattle.tt_search.specs.Searched.{rank_of}
@@ -14,7 +14,7 @@ use Rattle.tt_search.specs.Searched.{rank_of}
 pub record IsWayAt (p : Parts) (aim : Option Timetable) (s : Snapshot) (w : Way) : Type 0 where
   pub candidates : AreCandidates p s w.candidates []
   pub moved : AreMoved p aim s.plan w.moved []
-  pub room : HasRoom p w.least
+  pub room : HasRoomForValues p w.least
 
 -- the same at the first moment of a way, which is the best so far
 pub record BeginsAt (p : Parts) (aim : Option Timetable) (s : Snapshot) (w : Way) : Type 0 where

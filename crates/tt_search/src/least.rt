@@ -7,7 +7,7 @@ ghost use Rattle.tt_plan.specs.Domain.{IsOfDomain, domain_of};
 ghost use Rattle.tt_state.specs.Values.{total_with, without_of};
 ghost use Rattle.tt_search.specs.Numbers.{price_numbers};
 ghost use Rattle.tt_search.specs.PlaceTurns.{all_least};
-ghost use Rattle.tt_search.specs.LeastNow.{AreKept, AreLightest, HasRoom, total_numbers};
+ghost use Rattle.tt_search.specs.LeastNow.{AreKept, AreLightest, HasRoomForValues, total_numbers};
 
 use crate::price::Price;
 use std::alloc::{AllocError, Global};
@@ -88,7 +88,7 @@ fn total_up_to(
 impl LeastValues {
     // No value.
     pub(crate) fn new(alloc: Global, state: &State) -> Result<LeastValues, AllocError>
-        ensures { IfOk result (HasRoom state.now.problem) }
+        ensures { IfOk result (HasRoomForValues state.now.problem) }
     {
         let most = most_values(state.problem());
         let values = Vec::with_capacity(alloc, most as usize)?;

@@ -9,7 +9,7 @@ ghost use Rattle.tt_search.specs.Least.{IsFirstLeast};
 ghost use Rattle.tt_search.specs.Searched.{rank_of};
 ghost use Rattle.tt_search.specs.PlaceTurns.{all_placed, place_end, place_turn, place_way, places_after};
 ghost use Rattle.tt_search.specs.Drawing.{AreCandidates};
-ghost use Rattle.tt_search.specs.LeastNow.{HasRoom};
+ghost use Rattle.tt_search.specs.LeastNow.{HasRoomForValues};
 ghost use Rattle.tt_search.specs.Numbers.{MayMake};
 ghost use Rattle.tt_search.specs.UnderWay.{IsUnderWay};
 ghost use Rattle.tt_search.specs.WayNow.{BeginsAt};
@@ -39,11 +39,11 @@ fn next_turn(
 ) -> Option<Turn>
     requires candidates { AreCandidates state.old.problem state.old.present candidates.now [] }
     requires whole { length weights.now.outs.items ≡ length state.old.problem.classes }
-    requires room { HasRoom state.old.problem least.old }
+    requires room { HasRoomForValues state.old.problem least.old }
     ensures problem { state.new.problem ≡ state.old.problem }
     ensures present { state.new.present ≡ state.old.present }
     ensures entries { state.new.entries ≡ state.old.entries }
-    ensures room { HasRoom state.old.problem least.new }
+    ensures room { HasRoomForValues state.old.problem least.new }
     ensures turn { (outs : List ℕ)
         → CountsOuts state.old.problem outs weights.now
         → place_turn state.old.problem (record { class = class_word; value = value_word })
@@ -62,7 +62,7 @@ fn next_turn(
 
 // Makes turns in the last step, until so many are made or there is no candidate. The watcher is told
 // of each. The answer is the number of turns. Want of memory comes only where a turn is made.
-fn walk<W: Watcher>(
+fn make_place_turns<W: Watcher>(
     state: &mut State,
     way: &mut Way,
     weights: &mut ClassWeights,
@@ -125,7 +125,7 @@ fn place_on<W: Watcher>(
     let mut way = Way::new(alloc, state, &Aim::none())?;
     let mut weights = ClassWeights::new(alloc, state)?;
     state.begin()?;
-    let made = walk(state, &mut way, &mut weights, turns, seed, watcher);
+    let made = make_place_turns(state, &mut way, &mut weights, turns, seed, watcher);
     way.end(state, made)
 }
 

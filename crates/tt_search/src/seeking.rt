@@ -22,7 +22,7 @@ use tt_watch::Watcher;
 
 // Makes turns in the last step, until so many are made or there is no candidate. The watcher is told
 // of each. The answer is the number of turns. Want of memory comes only where a turn is made.
-fn walk<W: Watcher>(
+fn make_turns<W: Watcher>(
     state: &mut State,
     aim: &Aim,
     way: &mut Way,
@@ -76,7 +76,7 @@ fn seek<W: Watcher>(
 {
     let mut way = Way::new(alloc, state, aim)?;
     state.begin()?;
-    let made = walk(state, aim, &mut way, turns, seed, watcher);
+    let made = make_turns(state, aim, &mut way, turns, seed, watcher);
     way.end(state, made)
 }
 

@@ -7,7 +7,7 @@ ghost use Rattle.tt_published.specs.Aim.{IsAimOf};
 ghost use Rattle.tt_plan.specs.Domain.{IsOfDomain};
 ghost use Rattle.tt_search.specs.Turns.{available_values, chosen_value, is_available, turn_of};
 ghost use Rattle.tt_search.specs.Drawing.{AreCandidates};
-ghost use Rattle.tt_search.specs.LeastNow.{AreLightest, HasRoom};
+ghost use Rattle.tt_search.specs.LeastNow.{AreLightest, HasRoomForValues};
 ghost use Rattle.tt_search.specs.Numbers.{IsAvailable, MayMake, after_making, prices_of};
 
 use crate::drawing::Candidates;
@@ -55,11 +55,11 @@ fn look_at(state: &mut State, aim: &Aim, class: u32, value: Value, least: &mut L
 fn find_lightest(state: &mut State, aim: &Aim, class: u32, least: &mut LeastValues)
     requires belongs { IsAimOf state.old.problem aim.now }
     requires class { class < length state.old.problem.classes }
-    requires room { HasRoom state.old.problem least.old }
+    requires room { HasRoomForValues state.old.problem least.old }
     ensures problem { state.new.problem ≡ state.old.problem }
     ensures present { state.new.present ≡ state.old.present }
     ensures entries { state.new.entries ≡ state.old.entries }
-    ensures room { HasRoom state.old.problem least.new }
+    ensures room { HasRoomForValues state.old.problem least.new }
     ensures lightest { AreLightest (prices_of state.old.problem aim.now state.old.present class)
         (available_values state.old.problem state.old.present class) least.new }
 {
@@ -74,11 +74,11 @@ fn find_lightest(state: &mut State, aim: &Aim, class: u32, least: &mut LeastValu
 fn best_value(state: &mut State, aim: &Aim, class: u32, least: &mut LeastValues) -> Option<Value>
     requires belongs { IsAimOf state.old.problem aim.now }
     requires class { class < length state.old.problem.classes }
-    requires room { HasRoom state.old.problem least.old }
+    requires room { HasRoomForValues state.old.problem least.old }
     ensures problem { state.new.problem ≡ state.old.problem }
     ensures present { state.new.present ≡ state.old.present }
     ensures entries { state.new.entries ≡ state.old.entries }
-    ensures room { HasRoom state.old.problem least.new }
+    ensures room { HasRoomForValues state.old.problem least.new }
     ensures value { result ≡ chosen_value state.old.problem aim.now state.old.present class }
     ensures available { IfSome result (IsAvailable state.old.problem state.old.present class) }
 {
@@ -99,8 +99,8 @@ pub(crate) fn next_turn(
 ) -> Option<Turn>
     requires belongs { IsAimOf state.old.problem aim.now }
     requires candidates { AreCandidates state.old.problem state.old.present candidates.now [] }
-    requires room { HasRoom state.old.problem least.old }
-    ensures room { HasRoom state.old.problem least.new }
+    requires room { HasRoomForValues state.old.problem least.old }
+    ensures room { HasRoomForValues state.old.problem least.new }
     ensures problem { state.new.problem ≡ state.old.problem }
     ensures present { state.new.present ≡ state.old.present }
     ensures entries { state.new.entries ≡ state.old.entries }

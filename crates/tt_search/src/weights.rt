@@ -5,7 +5,7 @@ ghost use Rattle.tt_base.specs.Limits.{most_classes, most_values};
 ghost use Rattle.std.specs.List.{filter, sum_by};
 ghost use Rattle.tt_plan.specs.Domain.{IsOfDomain};
 ghost use Rattle.tt_search.specs.Turns.{available_values, is_available};
-ghost use Rattle.tt_search.specs.LeastNow.{AreLightest, HasRoom};
+ghost use Rattle.tt_search.specs.LeastNow.{AreLightest, HasRoomForValues};
 ghost use Rattle.tt_search.specs.PlacingNow.{CountsOuts, prices_by, taken_by, weight_by};
 
 use crate::least::LeastValues;
@@ -114,11 +114,11 @@ impl ClassWeights {
     pub(crate) fn find_lightest(&self, state: &mut State, class: u32, least: &mut LeastValues)
         requires whole { length self.now.outs.items ≡ length state.old.problem.classes }
         requires class { class < length state.old.problem.classes }
-        requires room { HasRoom state.old.problem least.old }
+        requires room { HasRoomForValues state.old.problem least.old }
         ensures problem { state.new.problem ≡ state.old.problem }
         ensures present { state.new.present ≡ state.old.present }
         ensures entries { state.new.entries ≡ state.old.entries }
-        ensures room { HasRoom state.old.problem least.new }
+        ensures room { HasRoomForValues state.old.problem least.new }
         ensures few { length least.new.values.items ≤ most_values }
         ensures lightest { AreLightest
             (prices_by state.old.problem state.old.present self.now.outs.items class)

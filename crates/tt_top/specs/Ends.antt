@@ -85,7 +85,7 @@ outside_of holds asked is_open left faults written failed files files' out out' 
 -- The count of failed calls is one more where the phase ended by this end, and else as it was.
 pub record HasEndCause {T : Type 0} (which : End) (before now : ℕ) (result : Result T End) : Type 0 where
   pub rose : result ≡ Err which → now ≡ one_more before
-  pub same : (result ≡ Err which → ⊥) → now ≡ before
+  pub same : result ≢ Err which → now ≡ before
 
 -- ---- what each phase leaves
 

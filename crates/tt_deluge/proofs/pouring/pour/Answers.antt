@@ -92,7 +92,7 @@ loop-made-preserved g c =
       moment = moment;
       still = still;
       stands = all;
-      way = rw c.better-best.ensures (pour-on p s after.present (trail before) (trail after) (moments_after p o first rounds (rounds - (i + 1)) (i + 1) (moment_of after.present kept.changed left)) c.loop-made.best kept left end way done.round.front moment all still);
+      way = rw c.lower_moment-best.ensures (pour-on p s after.present (trail before) (trail after) (moments_after p o first rounds (rounds - (i + 1)) (i + 1) (moment_of after.present kept.changed left)) c.loop-made.best kept left end way done.round.front moment all still);
     }
 
 pub returns-clause-way : goal.returns-clause-way

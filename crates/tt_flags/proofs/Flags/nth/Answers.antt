@@ -1,12 +1,12 @@
 use Rattle.std.proofs.Common.{◌≡◌, ◌≤◌, ◌-◌, ◌*◌, length, refl, sym, ◌∙◌, ap, arith}
 use Rattle.std.specs.Prelude.{slice_get}
-use Rattle.tt_flags.specs.Counted.{AreCounted}
+use Rattle.tt_flags.specs.Counted.{FlagsAreCounted}
 use Rattle.tt_flags.proofs.CountLemmas.{to_the_end, skip_block}
 use Rattle.tt_flags.proofs.Flags.nth.Goals as goal
 
 pub loop-count-init : goal.loop-count-init
 loop-count-init c =
-    let kept : AreCounted c.args.self.now c.deref-count-items.result.now c.self.inside.count = rw (c.deref-count-items.ensures.value, ← c.self.view_is) c.self.invariant in
+    let kept : FlagsAreCounted c.args.self.now c.deref-count-items.result.now c.self.inside.count = rw (c.deref-count-items.ensures.value, ← c.self.view_is) c.self.invariant in
     let all : length c.args.self.now - 0 ≡ length c.args.self.now = omega arith in
     record {
       first = refl;
@@ -15,7 +15,7 @@ loop-count-init c =
 
 pub returns-then-left-from : goal.returns-then-left-from
 returns-then-left-from c =
-    let kept : AreCounted c.args.self.now c.deref-count-items.result.now c.self.inside.count = rw (c.deref-count-items.ensures.value, ← c.self.view_is) c.self.invariant in
+    let kept : FlagsAreCounted c.args.self.now c.deref-count-items.result.now c.self.inside.count = rw (c.deref-count-items.ensures.value, ← c.self.view_is) c.self.invariant in
     let within : c.loop-count.first ≤ length c.args.self.now = omega (arith, kept.tight, c.loop-count.invariant.first, c.loop-count-test.true) in
     let found = rw (c.deref.ensures.value, c.self.view_is) at c.nth_from.ensures.number in
     record {
@@ -26,12 +26,12 @@ returns-then-left-from c =
 
 pub overflow_add-first : goal.overflow_add-first
 overflow_add-first c =
-    let kept : AreCounted c.args.self.now c.deref-count-items.result.now c.self.inside.count = rw (c.deref-count-items.ensures.value, ← c.self.view_is) c.self.invariant in
+    let kept : FlagsAreCounted c.args.self.now c.deref-count-items.result.now c.self.inside.count = rw (c.deref-count-items.ensures.value, ← c.self.view_is) c.self.invariant in
     omega (arith, kept.tight, kept.few, c.loop-count.invariant.first, c.loop-count-test.true)
 
 pub loop-count-preserved : goal.loop-count-preserved
 loop-count-preserved c =
-    let kept : AreCounted c.args.self.now c.deref-count-items.result.now c.self.inside.count = rw (c.deref-count-items.ensures.value, ← c.self.view_is) c.self.invariant in
+    let kept : FlagsAreCounted c.args.self.now c.deref-count-items.result.now c.self.inside.count = rw (c.deref-count-items.ensures.value, ← c.self.view_is) c.self.invariant in
     let block = rw (← c.loop-count.invariant.first) at (kept.blocks c.loop-count.count-index c.loop-count-test.true) in
     record {
       first = omega (arith, c.loop-count.invariant.first);

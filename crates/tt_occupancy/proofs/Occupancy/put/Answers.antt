@@ -1,14 +1,14 @@
 use Rattle.std.proofs.Common.{◌≡◌, ◌∙◌, ◌<◌, ◌+◌, ◌*◌, ◌^◌, length, Some, arith, rules}
 use Rattle.std.specs.Prelude.{slice_set}
 use Rattle.std.proofs.lemmas.List.{with_items_is}
-use Rattle.tt_occupancy.proofs.ClashLemmas.{AreCounted-put}
+use Rattle.tt_occupancy.proofs.ClashLemmas.{ClashesAreCounted-put}
 use Rattle.tt_occupancy.proofs.RoomDayLemmas.{seven_lists}
 use Rattle.tt_occupancy.proofs.Occupancy.put.Goals as goal
 
 pub overflow_add-self : goal.overflow_add-self
 overflow_add-self c =
     let kept = c.self.inside in
-    let fits : kept.clashes + c.clashes_with-more.result < 2 ^ 64 = (AreCounted-put kept.spots.items c.args.class kept.clashes c.clashes_with-more.result c.args.spot (search rules) c.self.invariant.counted (search rules)).0 in
+    let fits : kept.clashes + c.clashes_with-more.result < 2 ^ 64 = (ClashesAreCounted-put kept.spots.items c.args.class kept.clashes c.clashes_with-more.result c.args.spot (search rules) c.self.invariant.counted (search rules)).0 in
     omega arith
 
 pub enter_days-requires-clause-room : goal.enter_days-requires-clause-room
@@ -23,7 +23,7 @@ invariant_of-self c =
     let spots : c.enter.new.spots ≡ slice_set kept.spots.items c.args.class (Some c.args.spot) = search rules in
     let held : c.as_slice.result.now ≡ kept.spots.items = search rules in
     record {
-      counted = rw (items, spots) (AreCounted-put kept.spots.items c.args.class kept.clashes c.clashes_with-more.result c.args.spot (search rules) c.self.invariant.counted (search rules)).1;
+      counted = rw (items, spots) (ClashesAreCounted-put kept.spots.items c.args.class kept.clashes c.clashes_with-more.result c.args.spot (search rules) c.self.invariant.counted (search rules)).1;
       listed = rw items c.enter.ensures.listed;
       rooms = c.enter.ensures.rooms ∙ c.self.invariant.rooms;
       on_days = rw (items, spots) (rw held at c.enter_days.ensures.listed);

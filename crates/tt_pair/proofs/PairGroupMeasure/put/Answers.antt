@@ -1,6 +1,6 @@
 use Rattle.std.proofs.Common.{arith, length}
 use Rattle.tt_pair.specs.PairLaws.{violated_pairs-most, few_pairs}
-use Rattle.tt_pair.proofs.KeptLemmas.{IsKept-put}
+use Rattle.tt_pair.proofs.KeptLemmas.{PairAmountIsKept-put}
 use Rattle.tt_pair.proofs.PairGroupMeasure.put.Goals as goal
 
 pub overflow_add-self : goal.overflow_add-self
@@ -11,5 +11,5 @@ overflow_add-self c =
 
 pub returns-clause-fits : goal.returns-clause-fits
 returns-clause-fits c =
-    IsKept-put c.args.self.now.kind c.args.travel.now c.args.self.now.held.items c.args.place _ _ c.args.spot
+    PairAmountIsKept-put c.args.self.now.kind c.args.travel.now c.args.self.now.held.items c.args.place _ _ c.args.spot
     c.violated_with.ensures.count c.requires.fits c.requires.place c.requires.room

@@ -4,7 +4,7 @@ use Rattle.std.specs.List.{insert, position_or_len}
 use Rattle.std.proofs.lemmas.List.{with_items_is}
 use Rattle.tt_pool.specs.Pools.{Pooled, chains_of, lists_of}
 use Rattle.tt_pool.proofs.PoolLemmas.{list_chain, seen-items_at}
-use Rattle.tt_pool.proofs.KeptLemmas.{seen_leads, seen_end, seen_order, IsKept-put}
+use Rattle.tt_pool.proofs.KeptLemmas.{seen_leads, seen_end, seen_order, PoolIsKept-put}
 use Rattle.tt_pool.proofs.Pool.insert_in_order.Goals as goal
 
 pub place_to_put-place-requires-clause-chain : goal.place_to_put-place-requires-clause-chain
@@ -74,7 +74,7 @@ invariant_of-self c =
       with_items_is c.self.inside.lists c.put-self-inside.new.lists (c.put-self-inside.auto.lists ∙ c.as_mut_slice-lists.ensures.len),
       with_items_is c.self.inside.backs c.put-self-inside.new.backs (c.put-self-inside.auto.backs ∙ c.as_mut_slice-backs.ensures.len),
     )
-    (IsKept-put _ c.put-self-inside.new.nodes _ c.put-self-inside.new.lists _ c.put-self-inside.new.backs _ _ _ c.args.self.now.lists c.args.list c.args.item
+    (PoolIsKept-put _ c.put-self-inside.new.nodes _ c.put-self-inside.new.lists _ c.put-self-inside.new.backs _ _ _ c.args.self.now.lists c.args.list c.args.item
     (record {
       kept = c.self.invariant;
       is = ap (λ (p : Pooled). p.lists) c.self.view_is;

@@ -4,7 +4,7 @@ use Rattle.std.specs.List.{remove, position_or_len}
 use Rattle.std.proofs.lemmas.List.{with_items_is}
 use Rattle.tt_pool.specs.Chains.{chain_of}
 use Rattle.tt_pool.specs.Pools.{Pooled, chain_at, place_in, chains_of, lists_of}
-use Rattle.tt_pool.proofs.KeptLemmas.{IsKnown, IsKept-taken, known_lt, known_asks, known_place, known_within, known_item}
+use Rattle.tt_pool.proofs.KeptLemmas.{IsKnown, PoolIsKept-taken, known_lt, known_asks, known_place, known_within, known_item}
 use Rattle.tt_pool.proofs.Pool.remove_at_node.Goals as goal
 use Rattle.tt_pool.proofs.Pool.remove_at_node.Goals.{After-as_mut_slice-backs, After-take}
 
@@ -73,6 +73,6 @@ invariant_of-self c =
       with_items_is c.self.inside.lists c.take.new.lists (c.take.auto.lists ∙ c.as_mut_slice-lists.ensures.len),
       with_items_is c.self.inside.backs c.take.new.backs (c.take.auto.backs ∙ c.as_mut_slice-backs.ensures.len),
     )
-    (IsKept-taken _ c.take.new.nodes _ c.take.new.lists _ c.take.new.backs _ _ _ c.args.self.now.lists c.args.list (position_or_len (λ x. x == c.args.item) (slice_index_or c.args.self.now.lists c.args.list []))
+    (PoolIsKept-taken _ c.take.new.nodes _ c.take.new.lists _ c.take.new.backs _ _ _ c.args.self.now.lists c.args.list (position_or_len (λ x. x == c.args.item) (slice_index_or c.args.self.now.lists c.args.list []))
     (known (goal.at.invariant_of-self c).After-as_mut_slice-backs).seen_is c.take.ensures.pool c.take.ensures.backs (lists_are (goal.at.invariant_of-self c).After-take (at_is (goal.at.invariant_of-self c).After-as_mut_slice-backs))
     (known_lt _ _ _ _ _ _ _ c.args.list c.args.item c.args.node (known (goal.at.invariant_of-self c).After-as_mut_slice-backs)))

@@ -2,7 +2,7 @@ use Rattle.std.proofs.Common.{sym, ◌∙◌}
 use Rattle.tt_choice.specs.Standings.{situation_in}
 use Rattle.tt_choice.specs.Found.{chosen}
 use Rattle.tt_choice.proofs.VainLemmas.{passed-closed}
-use Rattle.tt_choice.proofs.course.pass_open.Goals as goal
+use Rattle.tt_choice.proofs.course.best_if_open.Goals as goal
 
 pub returns-then-not-can_all_be_filled-clause-best : goal.returns-then-not-can_all_be_filled-clause-best
 returns-then-not-can_all_be_filled-clause-best c =

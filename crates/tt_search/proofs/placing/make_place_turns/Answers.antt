@@ -4,7 +4,7 @@ use Rattle.tt_draw.proofs.WordLemmas.{random_from}
 use Rattle.tt_state.proofs.StepLemmas.{within_next, within_same, within_still}
 use Rattle.tt_search.proofs.PlacingLemmas.{all_placing, far_off, next_placing, no_placing, starts_placing, turn_made, two_drawn}
 use Rattle.tt_search.proofs.ListLemmas.{on_err}
-use Rattle.tt_search.proofs.placing.walk.Goals as goal
+use Rattle.tt_search.proofs.placing.make_place_turns.Goals as goal
 
 pub loop-made-init : goal.loop-made-init
 loop-made-init g c =

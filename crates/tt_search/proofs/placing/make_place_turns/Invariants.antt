@@ -4,7 +4,7 @@ use Rattle.rand_pcg.specs.Pcg.{pcg32}
 use Rattle.tt_state.specs.History.{IsWithinStep, trail, with_taken}
 use Rattle.tt_search.specs.WayNow.{IsWayAt}
 use Rattle.tt_search.proofs.PlacingLemmas.{IsPlacing}
-use Rattle.tt_search.proofs.placing.walk.Given as goal
+use Rattle.tt_search.proofs.placing.make_place_turns.Given as goal
 
 abbrev pub invariant-loop-made : goal.invariant-loop-made
 invariant-loop-made g l =

@@ -5,7 +5,7 @@ use Rattle.tt_state.specs.History.{IsWithinStep, trail, with_taken}
 use Rattle.tt_search.specs.Searched.{after_turns, turns_made, rank_of, search_end}
 use Rattle.tt_search.specs.UnderWay.{IsUnderWay}
 use Rattle.tt_search.specs.WayNow.{IsWayAt}
-use Rattle.tt_search.proofs.seeking.walk.Given as goal
+use Rattle.tt_search.proofs.seeking.make_turns.Given as goal
 
 abbrev pub invariant-loop-made : goal.invariant-loop-made
 invariant-loop-made g l =

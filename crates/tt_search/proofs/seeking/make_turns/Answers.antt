@@ -10,7 +10,7 @@ use Rattle.tt_search.specs.Searched.{after_turns, rank_of, search_end}
 use Rattle.tt_state.proofs.StepLemmas.{within_next, within_same, within_still}
 use Rattle.tt_search.proofs.WayLemmas.{made_turn, makes_one, no_turn, no_turn_left, start_way}
 use Rattle.tt_search.proofs.ListLemmas.{on_err}
-use Rattle.tt_search.proofs.seeking.walk.Goals as goal
+use Rattle.tt_search.proofs.seeking.make_turns.Goals as goal
 
 pub loop-made-init : goal.loop-made-init
 unfolding search_end
