@@ -143,7 +143,7 @@ fn draw_classes(
 fn draw_config(problem: &Problem, course: u32, random: &mut Lcg64Xsh32) -> Span
     requires { course < length problem.now.courses }
     ensures config { drawn (next_u32 (random_of random.old)).0
-            (configurations_of problem.now course)
+        (configurations_of problem.now course)
         ≡ Some (spans_at problem.now.subparts result) }
     ensures within { IsSpanWithin (length problem.now.subparts) result }
     ensures random { random_of random.new ≡ (next_u32 (random_of random.old)).1 }

@@ -22,7 +22,7 @@ fn find_lighter(state: &mut State, class: u32, value: Value, least: Option<Price
         ≡ with_taken state.old (conflict_set_of state.old.problem state.old.present class value) }
     ensures heavier { result ≡ false
         → WeighsLess least
-            (length (conflict_set_of state.old.problem state.old.present class value)) }
+        (length (conflict_set_of state.old.problem state.old.present class value)) }
     ensures problem { state.new.problem ≡ state.old.problem }
     ensures present { state.new.present ≡ state.old.present }
     ensures entries { state.new.entries ≡ state.old.entries }
