@@ -11,6 +11,7 @@ use crate::places::{Place, back_from, behind_node, node_at};
 #[derive(Clone, Copy)]
 pub struct Link(pub u32);
 
+/// An item of a chain, and the node that comes next.
 #[derive(Clone, Copy)]
 pub struct Node {
     pub item: u32,
