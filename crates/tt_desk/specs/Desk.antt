@@ -61,7 +61,7 @@ use Rattle.tt_desk.specs.declared.refusal.Outcome.{Outcome}
 use Rattle.tt_desk.specs.declared.refusal.Outcome.TheVariants.{Skipped, Accepted, Refused, Ended}
 use Rattle.tt_script.specs.declared.script.Line.{Line}
 use Rattle.tt_script.specs.declared.script.Line.TheVariants.{Empty, Bad, Good}
-use Rattle.tt_base.specs.Chain.{◌>>=◌, none_or}
+use Rattle.tt_base.specs.Chain.{◌>>=◌, none_or, true_or}
 use Rattle.tt_script.specs.Script.{line_of}
 
 -- a desk, and the published timetable if there is one
@@ -108,10 +108,6 @@ known_time p days start length weeks = ok_or (written_time p days start length w
 abbrev pub may_close : Snapshot → Result (Unit {0}) Refusal
 may_close s = if length s.closures == most_closures then Err TooManyClosures else Ok tt
 
--- some closure of the room isn't lifted
-abbrev pub may_reopen : Snapshot → ℕ → Result (Unit {0}) Refusal
-may_reopen s room = if list_any (is_open_in room) s.closures then Ok tt else Err NothingClosed
-
 -- why there is no such value
 abbrev pub value_refusal : NoValue → Refusal
 value_refusal no_value.Time = NoSuchTime
@@ -120,10 +116,6 @@ value_refusal no_value.Room = RoomNotListed
 -- the value of a class that the number of a time and the id of a room name
 abbrev pub known_value : Parts → ℕ → ℕ → Option ℕ → Result Value Refusal
 known_value p class time room = result_map_both (λ v. v) value_refusal (find_value p class time room)
-
--- the value that a class has
-abbrev pub placed_value : Desk → ℕ → Result Value Refusal
-placed_value d class = ok_or (value_in d.present class) NotPlaced
 
 -- why a class isn't forced to a value
 abbrev pub obstacle_refusal : Parts → Obstacle → Refusal
@@ -135,22 +127,10 @@ abbrev pub lock_refusal : LockFault → Refusal
 lock_refusal lock_fault.NotPlaced = NotPlaced
 lock_refusal lock_fault.Locked = Locked
 
--- the class is locked
-abbrev pub may_unlock : Snapshot → ℕ → Result (Unit {0}) Refusal
-may_unlock s class = if is_locked_in s class then Ok tt else Err NotLocked
-
--- the list is a valid enrolment of the student
-abbrev pub valid_list : Desk → ℕ → List ℕ → Result (Unit {0}) Refusal
-valid_list d student classes = if is_enrolment d.problem student classes then Ok tt else Err NoEnrolment
-
--- the list, where it has a class
-abbrev pub or_not_sectioned : List ℕ → Result (List ℕ) Refusal
-or_not_sectioned [] = Err NotSectioned
-or_not_sectioned (class ∷ classes) = Ok (class ∷ classes)
-
 -- the classes that a student has, of which there is one at least
-abbrev pub sectioned : Desk → ℕ → Result (List ℕ) Refusal
-sectioned d student = or_not_sectioned (list_in d.present student)
+abbrev pub sectioned : List ℕ → Result (List ℕ) Refusal
+sectioned [] = Err NotSectioned
+sectioned (class ∷ classes) = Ok (class ∷ classes)
 
 -- the snapshot in which a student is enrolled anew
 abbrev pub enrolment : Desk → ℕ → Result Snapshot Refusal
@@ -275,7 +255,7 @@ carried_out s (Assign class time room) = do
   Ok (with_step s (with_value s.desk.present c (Some v)) [])
 carried_out s (Unassign class) = do
   c ← known_class s.desk.problem class
-  v ← placed_value s.desk c
+  v ← ok_or (value_in s.desk.present c) NotPlaced
   Ok (with_step s (with_unplaced s.desk.present c) [])
 carried_out s (Force class time room) = do
   c ← known_class s.desk.problem class
@@ -285,12 +265,12 @@ carried_out s (Force class time room) = do
 carried_out s (Section student classes) = do
   list ← known_classes s.desk.problem classes
   i ← known_student s.desk.problem student
-  valid ← valid_list s.desk i list
+  valid ← true_or NoEnrolment (is_enrolment s.desk.problem i list)
   free ← none_or (λ full. NoSeat (class_id s.desk.problem full)) (first_without_seat s.desk.problem s.desk.present.lists i list)
   Ok (with_step s (with_list s.desk.present i (classes_in_order list)) [])
 carried_out s (Drop student) = do
   i ← known_student s.desk.problem student
-  had ← sectioned s.desk i
+  had ← sectioned (list_in s.desk.present i)
   Ok (with_step s (with_list s.desk.present i []) [])
 carried_out s (Enrol student) = do
   i ← known_student s.desk.problem student
@@ -314,7 +294,7 @@ carried_out s (Close room days start length weeks) = do
   Ok (with_step s (with_closed s.desk.present r t) [])
 carried_out s (Reopen room) = do
   r ← known_room s.desk.problem room
-  some ← may_reopen s.desk.present r
+  some ← true_or NothingClosed (list_any (is_open_in r) s.desk.present.closures)
   Ok (with_step s (with_reopened s.desk.present r) [])
 carried_out s (Lock class) = do
   c ← known_class s.desk.problem class
@@ -323,7 +303,7 @@ carried_out s (Lock class) = do
 carried_out s LockAll = Ok (with_all_locked s)
 carried_out s (Unlock class) = do
   c ← known_class s.desk.problem class
-  was ← may_unlock s.desk.present c
+  was ← true_or NotLocked (is_locked_in s.desk.present c)
   Ok (with_step s (with_lock s.desk.present c false) [])
 carried_out s UnlockAll = Ok (with_none_locked s)
 carried_out s Undo = do
