@@ -10,7 +10,7 @@ is_of class e = e.0.class == class
 
 -- the keys of a class with their counts, in the order in which they stand
 abbrev pub of_class : (class : ℕ) → List (Key × ℕ) → List (Key × ℕ)
-of_class class es = filter (λ e. e.0.class == class) es
+of_class class es = filter (is_of class) es
 
 -- what an iterator over the counts of a class has yet to give
 abbrev pub listed : Counts → List (Key × ℕ)

@@ -61,7 +61,7 @@ use Rattle.tt_desk.specs.declared.refusal.Outcome.{Outcome}
 use Rattle.tt_desk.specs.declared.refusal.Outcome.TheVariants.{Skipped, Accepted, Refused, Ended}
 use Rattle.tt_script.specs.declared.script.Line.{Line}
 use Rattle.tt_script.specs.declared.script.Line.TheVariants.{Empty, Bad, Good}
-use Rattle.tt_base.specs.Chain.{◌>>=◌, none_or, true_or}
+use Rattle.tt_base.specs.Chain.{◌>>=◌, none_or}
 use Rattle.tt_script.specs.Script.{line_of}
 
 -- a desk, and the published timetable if there is one
@@ -103,6 +103,10 @@ written_time p days start length weeks =
 -- the same, or its refusal
 abbrev pub known_time : Parts → BitWord → (start length : ℕ) → BitWord → Result Time Refusal
 known_time p days start length weeks = ok_or (written_time p days start length weeks) BadTime
+
+-- it is so, or this is the refusal
+abbrev pub true_or : Refusal → Bool → Result (Unit {0}) Refusal
+true_or refusal is_so = if is_so then Ok tt else Err refusal
 
 -- there are fewer closures than there may be
 abbrev pub may_close : Snapshot → Result (Unit {0}) Refusal

@@ -15,10 +15,13 @@ use Rattle.tt_state.specs.Values.{blocked_of, conflict_set_of, total_with}
 abbrev pub is_free : Parts → Snapshot → (class : ℕ) → Value → Bool
 is_free p s class v = is_none (blocked_of p s.closures class v) && (length (conflict_set_of p s class v) == 0)
 
+-- the free values of a class, in the order of its domain
+abbrev pub free_values : Parts → Snapshot → (class : ℕ) → List Value
+free_values p s class = filter (is_free p s class) (domain_of p class)
+
 -- the first of the free values of a class with which the total is least
 unfoldable pub least_value : Parts → Snapshot → (class : ℕ) → Option Value
-least_value p s class =
-    first_least (λ v. total_with p s class v ∷ []) (filter (is_free p s class) (domain_of p class))
+least_value p s class = first_least (λ v. total_with p s class v ∷ []) (free_values p s class)
 
 -- the totals of a snapshot
 abbrev pub totals_in : Parts → Snapshot → Totals
@@ -35,9 +38,3 @@ at_lower p s class v = if nat_lt (total_with p s class v) (total_of p s) then So
 -- the snapshot after a round on a class, none where it changes nothing
 unfoldable pub changed_class : Parts → Snapshot → (class : ℕ) → Option Snapshot
 changed_class p s class = option_and_then (at_lower p s class) (least_value p s class)
-
--- ---- what the code and the proofs name of these; the theorem reaches none of it
-
--- the free values of a class, in the order of its domain
-abbrev pub free_values : Parts → Snapshot → (class : ℕ) → List Value
-free_values p s class = filter (is_free p s class) (domain_of p class)

@@ -59,12 +59,10 @@ pub record IsSpotOf (p : Parts) (x : Spot) : Type 0 where
   pub room : IfSome x.room (λ room. room < length p.rooms)
   pub weeks : IsBelow p.nr_weeks x
 
--- the spot of each class or none
-abbrev pub spots_of : Parts → List (Option Value) → List (Option Spot)
-spots_of p plan = map (λ v. option_and_then (spot_at_value p v.0) v.1) (enumerate_from 0 plan)
-
--- ---- what the code and the proofs name of these; the theorem reaches none of it
-
 -- the spots of a plan of which the first class is at this place
 abbrev pub spots_from : Parts → ℕ → List (Option Value) → List (Option Spot)
 spots_from p first plan = map (λ v. option_and_then (spot_at_value p v.0) v.1) (enumerate_from first plan)
+
+-- the spot of each class or none
+abbrev pub spots_of : Parts → List (Option Value) → List (Option Spot)
+spots_of p plan = spots_from p 0 plan

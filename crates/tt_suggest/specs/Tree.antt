@@ -34,6 +34,10 @@ placed_without p s class v = with_value (emptied s (conflict_set_of p s class v)
 abbrev pub is_on : List Move → (class : ℕ) → Bool
 is_on path class = list_any (λ m. m.class == class) path
 
+-- the node is the root, and the value is the one that the class has there
+abbrev pub stays_at_root : Snapshot → List Move → (class : ℕ) → Value → Bool
+stays_at_root s path class v = length path == 0 && is_value (value_in s class) v
+
 -- no more classes wait than may be placed, and none of those pushed out was placed on the way
 abbrev pub may_follow : (spare : ℕ) → List Move → (others conflicts : List ℕ) → Bool
 may_follow spare path others conflicts = nat_le (length others + length conflicts) spare && not (list_any (is_on path) conflicts)
@@ -43,7 +47,7 @@ may_follow spare path others conflicts = nat_le (length others + length conflict
 unfoldable pub gives_child : Parts → (spare : ℕ) → Node → (class : ℕ) → (others : List ℕ) → Value → Bool
 gives_child p spare node class others v =
     is_none (obstacle_of p node.snapshot class v)
-    && not (length node.path == 0 && is_value (value_in node.snapshot class) v)
+    && not (stays_at_root node.snapshot node.path class v)
     && may_follow spare node.path others (conflict_set_of p node.snapshot class v)
 
 -- the child of a node by a class at a value
@@ -77,9 +81,3 @@ leaves_of p (suc spare) node = at_first node.waiting (node ∷ []) (λ class oth
 unfoldable pub tries_of : Parts → (left : ℕ) → Node → ℕ
 tries_of p zero node = 0
 tries_of p (suc spare) node = at_first node.waiting 0 (λ class others. length (domain_of p class) + sum_by (tries_of p spare) (children_of p spare node class others))
-
--- ---- what the code and the proofs name of these; the theorem reaches none of it
-
--- the node is the root, and the value is the one that the class has there
-abbrev pub stays_at_root : Snapshot → List Move → (class : ℕ) → Value → Bool
-stays_at_root s path class v = length path == 0 && is_value (value_in s class) v

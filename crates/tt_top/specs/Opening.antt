@@ -43,12 +43,17 @@ published_in p (Some bytes) = do
 abbrev pub opening_session : Parts → Option Timetable → Session
 opening_session p t = record { desk = opening_desk p; published = t }
 
+-- the same by what the published file gives
+abbrev pub started : Parts → Result (Option Timetable) FaultyFile → Result Session FaultyFile
+started p read = do
+  t ← read
+  Ok (opening_session p t)
+
 -- the same by what the files hold, or the first file that has a fault
 unfoldable pub opened : (problem : List ℕ) → (published : Option (List ℕ)) → Result Session FaultyFile
 opened problem published = do
   p ← problem_read (problem_of problem)
-  t ← published_in p published
-  Ok (opening_session p t)
+  started p (published_in p published)
 
 -- ---- what is written
 
@@ -69,11 +74,3 @@ session_pieces s lines = opening_line s.desk.problem ∷ replies_to s lines
 abbrev pub opened_pieces : Result Session FaultyFile → (lines : List (List ℕ)) → List (List ℕ)
 opened_pieces (Err faulty) lines = faulty.line ∷ []
 opened_pieces (Ok s) lines = session_pieces s lines
-
--- ---- what the code and the proofs name of these; the theorem reaches none of it
-
--- the session of a problem, by what its published file gives
-abbrev pub started : Parts → Result (Option Timetable) FaultyFile → Result Session FaultyFile
-started p read = do
-  t ← read
-  Ok (opening_session p t)

@@ -71,12 +71,17 @@ published_phase limit holds names p (Some name) = do
   t ← timetable_phase limit holds names p name
   Ok (Some t)
 
+-- the session of a problem, with what is published for it
+abbrev pub start_phase : (limit : ℕ) → (holds : List ℕ → Option (List ℕ)) → (names : List (List ℕ)) → Parts → Option (List ℕ) → Phase Session
+start_phase limit holds names p published = do
+  t ← published_phase limit holds names p published
+  Ok (opening_session p t)
+
 -- the session that the files before the script open
 abbrev pub session_phase : (limit : ℕ) → (holds : List ℕ → Option (List ℕ)) → FileWords → Phase Session
 session_phase limit holds words = do
   p ← problem_phase limit holds words.problem
-  t ← published_phase limit holds (first_words words) p words.published
-  Ok (opening_session p t)
+  start_phase limit holds (first_words words) p words.published
 
 -- the script, which is empty where none is named
 abbrev pub script_phase : (holds : List ℕ → Option (List ℕ)) → Option (List ℕ) → Phase (List ℕ)
@@ -114,12 +119,21 @@ lines_run limit holds words lines = last_phase (do
 abbrev pub checking : (names : List (List ℕ)) → Parts → Timetable → PlainRun
 checking names p t = record { pieces = verified_text p t ∷ []; status = if length (violations_of p t) == 0 then 0 else 1; names = names }
 
--- the run that checks a solution file
-abbrev pub verify_run : (limit : ℕ) → (holds : List ℕ → Option (List ℕ)) → (problem solution : List ℕ) → Option PlainRun
-verify_run limit holds problem solution = last_phase (do
+-- what is found of the solution of a problem
+abbrev pub solution_phase : (limit : ℕ) → (holds : List ℕ → Option (List ℕ)) → (names : List (List ℕ)) → Parts → (solution : List ℕ) → Phase PlainRun
+solution_phase limit holds names p solution = do
+  t ← timetable_phase limit holds names p solution
+  Ok (checking names p t)
+
+-- the run that checks a solution file, by its phases
+abbrev pub check_phase : (limit : ℕ) → (holds : List ℕ → Option (List ℕ)) → (problem solution : List ℕ) → Phase PlainRun
+check_phase limit holds problem solution = do
   p ← problem_phase limit holds problem
-  t ← timetable_phase limit holds (problem ∷ solution ∷ []) p solution
-  Ok (checking (problem ∷ solution ∷ []) p t))
+  solution_phase limit holds (problem ∷ solution ∷ []) p solution
+
+-- the same as a whole
+abbrev pub verify_run : (limit : ℕ) → (holds : List ℕ → Option (List ℕ)) → (problem solution : List ℕ) → Option PlainRun
+verify_run limit holds problem solution = last_phase (check_phase limit holds problem solution)
 
 -- the script of `demo`
 abbrev pub demo_script : (seed turns : ℕ) → List ℕ
@@ -141,23 +155,3 @@ make_run seed classes = record { pieces = (make_text seed classes ++ codes "\n")
 -- the run of words in no form
 abbrev pub usage_run : PlainRun
 usage_run = record { pieces = usage_line ∷ []; status = 2; names = [] }
-
--- ---- what the code and the proofs name of these; the theorem reaches none of it
-
--- the session of a problem, with what is published for it
-abbrev pub start_phase : (limit : ℕ) → (holds : List ℕ → Option (List ℕ)) → (names : List (List ℕ)) → Parts → Option (List ℕ) → Phase Session
-start_phase limit holds names p published = do
-  t ← published_phase limit holds names p published
-  Ok (opening_session p t)
-
--- what is found of the solution of a problem
-abbrev pub solution_phase : (limit : ℕ) → (holds : List ℕ → Option (List ℕ)) → (names : List (List ℕ)) → Parts → (solution : List ℕ) → Phase PlainRun
-solution_phase limit holds names p solution = do
-  t ← timetable_phase limit holds names p solution
-  Ok (checking names p t)
-
--- the run that checks a solution file, by its phases
-abbrev pub check_phase : (limit : ℕ) → (holds : List ℕ → Option (List ℕ)) → (problem solution : List ℕ) → Phase PlainRun
-check_phase limit holds problem solution = do
-  p ← problem_phase limit holds problem
-  solution_phase limit holds (problem ∷ solution ∷ []) p solution

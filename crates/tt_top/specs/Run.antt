@@ -117,13 +117,17 @@ pub record AsksInOrder (words : FileWords) (o : Outside) (names : List (List ℕ
 abbrev pub AsksScript : FileWords → (names : List (List ℕ)) → Type 0
 AsksScript words names = length (first_words words) < length names
 
+-- the statuses that a run with files can have
+pub record IsStatus (status : ℕ) : Type 0 where
+  pub at_most : status ≤ 8
+  pub no_usage : status ≢ 2
+
 -- What a run does that asks for files, where this is the plain run if the files tell it, and a file has at most so many bytes.
 pub record UsesFiles (words : FileWords) (limit : ℕ) (due : Option PlainRun) (o : Outside) (names : List (List ℕ)) (status : ℕ) : Type 0 where
   pub plain : IfSome due (λ r. Follows r o names status)
   pub asks : AsksInOrder words o names status
   pub causes : HasCauses o status
-  pub at_most : status ≤ 8
-  pub no_usage : status ≢ 2
+  pub statuses : IsStatus status
   -- at most 65,536 bytes beyond the limit are read of any file, also where a read fails
   pub reads : ReadsWithin limit o.holds o.now.left names
 

@@ -34,9 +34,17 @@ class_fault t plan class =
     else if is_none (slice_index_or plan class None) then what.Outside class ∷ []
     else []
 
+-- those among all classes
+abbrev pub class_faults : Parts → Timetable → List (Option Value) → List Violation
+class_faults p t plan = flat_map (class_fault t plan) (range_with_len 0 (length p.classes))
+
 -- a student whose list is no valid enrolment
 unfoldable pub list_fault : Parts → List (List ℕ) → (student : ℕ) → List Violation
 list_fault p lists student = if is_enrolment p student (list_of lists student) then [] else what.Invalid student ∷ []
+
+-- those among all students
+abbrev pub list_faults : Parts → List (List ℕ) → List Violation
+list_faults p lists = flat_map (list_fault p lists) (range_with_len 0 (length p.students))
 
 -- how many students have a class
 abbrev pub student_count : List (List ℕ) → (class : ℕ) → ℕ
@@ -54,6 +62,10 @@ limit_fault_with p class students = option_map_or (λ part. limit_fault class pa
 unfoldable pub limit_fault_at : Parts → List (List ℕ) → (class : ℕ) → List Violation
 limit_fault_at p lists class = limit_fault_with p class (student_count lists class)
 
+-- those among all classes
+abbrev pub limit_faults : Parts → List (List ℕ) → List Violation
+limit_faults p lists = flat_map (limit_fault_at p lists) (range_with_len 0 (length p.classes))
+
 -- ---- rooms
 
 -- the pairs of placed classes that have the same room and overlap, each class with each later one
@@ -63,6 +75,10 @@ clashes_of spots = map (λ c. what.Clash c.0 c.1) (related_pairs (are_related cl
 -- a placed class whose room is closed at an overlapping time, by the file or by a closure that isn't lifted
 unfoldable pub closed_fault : Parts → List Closure → List (Option Spot) → (class : ℕ) → List Violation
 closed_fault p closures spots class = if option_map_or (is_closed p closures) (spot_at spots class) false then what.Closed class ∷ [] else []
+
+-- those among all classes
+abbrev pub closed_faults : Parts → List Closure → List (Option Spot) → List Violation
+closed_faults p closures spots = flat_map (closed_fault p closures spots) (range_with_len 0 (length p.classes))
 
 -- ---- required rules
 
@@ -88,21 +104,19 @@ rule_faults p spots place r = if r.required then kind_faults p spots place r r.k
 unfoldable pub rule_faults_at : Parts → List (Option Spot) → (place : ℕ) → List Violation
 rule_faults_at p spots place = option_map_or (rule_faults p spots place) (slice_get p.rules place) []
 
+-- that of all rules
+abbrev pub all_rule_faults : Parts → List (Option Spot) → List Violation
+all_rule_faults p spots = flat_map (rule_faults_at p spots) (range_with_len 0 (length p.rules))
+
 -- ---- all
 
 -- what is counted as hard, with these closures: clashes, closed rooms and required rules
 unfoldable pub hard_violations : Parts → List Closure → List (Option Spot) → List Violation
-hard_violations p closures spots =
-    clashes_of spots
-    ++ flat_map (closed_fault p closures spots) (range_with_len 0 (length p.classes))
-    ++ flat_map (rule_faults_at p spots) (range_with_len 0 (length p.rules))
+hard_violations p closures spots = clashes_of spots ++ closed_faults p closures spots ++ all_rule_faults p spots
 
 -- what is wrong with the listed classes and with the lists of the students
 unfoldable pub listing_faults : Parts → Timetable → List (Option Value) → List Violation
-listing_faults p t plan =
-    flat_map (class_fault t plan) (range_with_len 0 (length p.classes))
-    ++ flat_map (list_fault p t.lists) (range_with_len 0 (length p.students))
-    ++ flat_map (limit_fault_at p t.lists) (range_with_len 0 (length p.classes))
+listing_faults p t plan = class_faults p t plan ++ list_faults p t.lists ++ limit_faults p t.lists
 
 -- both, where the classes have the values of a plan; there are no closures beside the file's
 unfoldable pub violations_with : Parts → Timetable → List (Option Value) → List Violation
@@ -111,25 +125,3 @@ violations_with p t plan = listing_faults p t plan ++ hard_violations p [] (spot
 -- all that is wrong with a timetable
 abbrev pub violations_of : Parts → Timetable → List Violation
 violations_of p t = violations_with p t (published_plan p t)
-
--- ---- what the code and the proofs name of these; the theorem reaches none of it
-
--- the listed classes without a value of their domain
-abbrev pub class_faults : Parts → Timetable → List (Option Value) → List Violation
-class_faults p t plan = flat_map (class_fault t plan) (range_with_len 0 (length p.classes))
-
--- the students whose lists are no valid enrolments
-abbrev pub list_faults : Parts → List (List ℕ) → List Violation
-list_faults p lists = flat_map (list_fault p lists) (range_with_len 0 (length p.students))
-
--- the classes with more students than their limits
-abbrev pub limit_faults : Parts → List (List ℕ) → List Violation
-limit_faults p lists = flat_map (limit_fault_at p lists) (range_with_len 0 (length p.classes))
-
--- the classes in closed rooms
-abbrev pub closed_faults : Parts → List Closure → List (Option Spot) → List Violation
-closed_faults p closures spots = flat_map (closed_fault p closures spots) (range_with_len 0 (length p.classes))
-
--- what breaks the required rules
-abbrev pub all_rule_faults : Parts → List (Option Spot) → List Violation
-all_rule_faults p spots = flat_map (rule_faults_at p spots) (range_with_len 0 (length p.rules))
