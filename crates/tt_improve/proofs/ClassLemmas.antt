@@ -123,14 +123,6 @@ lower_no_worse p s class v valid whole target lower =
       locked = others_stay s class v target.free;
     }
 
--- what is found is lower
-pub lower_of : (p : Parts) (s : Snapshot) (class : ℕ) (best : Best) → IsBestBelow (IsOfDomain p class) (is_free p s class) (total_with p s class) (total_of p s) best → IfSome best.value (IsLower p s class)
-lower_of p s class best h = by best.value h.found
-  where
-    by : (o : Option Value) → IfSome o (λ v. IsOfDomain p class v × (is_free p s class v ≡ true) × (total_with p s class v < total_of p s)) → IfSome o (IsLower p s class)
-    by None found = tt
-    by (Some v) found = record { domain = found.0; free = found.1; lower = found.2 }
-
 -- a whole walk
 pub walk_done : (free : Value → Bool) (total : Value → ℕ) (domain : List Value) (k : ℕ) (start best : Best) → length domain ≤ k → lowest_after free total best (drop k domain) ≡ lowest_after free total start domain → best.value ≡ (lowest_after free total start domain).value
 walk_done free total domain k start best past so_far =
