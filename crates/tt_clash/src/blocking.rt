@@ -4,13 +4,14 @@ ghost use Rattle.std.specs.Prelude.{◌≡◌, ◌<◌, length, IfSome};
 ghost use Rattle.std.specs.List.{list_any};
 ghost use Rattle.tt_bits.specs.Times.{overlaps};
 ghost use Rattle.tt_bits.specs.Spots.{IsBelow};
+ghost use Rattle.tt_problem.specs.Alone.{exceeds_alone};
 ghost use Rattle.tt_clash.specs.Blocked.{is_closed, blocked_by};
 
 use crate::Block;
 use crate::closures::Closures;
-use crate::rules::rules_of;
+use crate::rules::{is_required_group, rules_of};
 use tt_bits::{Spot, Time};
-use tt_problem::Problem;
+use tt_problem::{DistKind, Problem};
 
 /// Why the spot is blocked for the class, if it is.
 pub fn blocked(problem: &Problem, closures: &Closures, class: u32, spot: Spot) -> Option<Block>
@@ -24,11 +25,20 @@ pub fn blocked(problem: &Problem, closures: &Closures, class: u32, spot: Spot) -
     }
     for with in rules_of(problem, class) {
         let rule = problem.rule(with.rule);
-        if rule.required && rule.kind.exceeds_alone(spot) {
+        if is_required_group(rule) && exceeds_alone(rule.kind, &spot) {
             return Some(Block::Rule(with.rule));
         }
     }
     None
+}
+
+// Whether one class alone at the spot is more than a group type allows. A call of its own, since else
+// its days and weeks are counted at each value, and few rules ask.
+#[inline(never)]
+fn exceeds_alone(kind: DistKind, spot: &Spot) -> bool
+    ensures { result ≡ exceeds_alone kind spot.now }
+{
+    kind.exceeds_alone(*spot)
 }
 
 /// Whether the spot's room is closed at an overlapping time, by the file or by a closure that isn't
