@@ -1,6 +1,7 @@
 //! Classes listed one after another.
 
-ghost use Rattle.std.specs.Prelude.{◌≡◌, ℕ, ◌<◌, ◌≤◌, ◌==◌, ◌||◌, All, IfOk, [], ◌∷◌, ◌++◌, false, length, slice_index_or};
+ghost use Rattle.std.specs.Prelude.{◌≡◌, ℕ, ◌<◌, ◌≤◌, ◌==◌, ◌||◌, All, IfOk, [], ◌∷◌, ◌++◌, false, length, slice_index_or, vec_capacity};
+ghost use Rattle.std.specs.List.{insert};
 ghost use Rattle.tt_base.specs.Lists.{is_listed};
 ghost use Rattle.tt_clash.specs.Listings.{AreInOrder};
 
@@ -72,7 +73,7 @@ impl Listing {
             return;
         }
         let at = place_in_order(self.order.as_slice(), class);
-        self.order.insert(at, class).unwrap();
+        put_at(&mut self.order, at, class);
         self.marks[class as usize] = true;
     }
 
@@ -99,6 +100,20 @@ impl Listing {
         ensures few { result ≤ self.now.classes }
     {
         self.order.len() as u32
+    }
+}
+
+// Puts a class at a place of a list that has room. Most come last, and then nothing is moved.
+fn put_at(list: &mut Vec<u32>, at: usize, class: u32)
+    requires within { at ≤ length list.old.items }
+    requires room { length list.old.items < vec_capacity list.old }
+    ensures items { list.new.items ≡ insert list.old.items at class }
+    ensures room { vec_capacity list.old ≤ vec_capacity list.new }
+{
+    if at == list.len() {
+        list.push(class).unwrap();
+    } else {
+        list.insert(at, class).unwrap();
     }
 }
 
