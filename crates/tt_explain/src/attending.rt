@@ -114,8 +114,9 @@ fn add_pair_lines(out: &mut Reply, state: &State, student: u32) -> Result<(), Al
 
 // The pairs of a student are those that are counted, and those of all students add up.
 fn pairs_add_up(state: &State, student: u32)
-    ensures { PairsAreCounted state.now.problem state.now.present student (totals_of state.now.problem
-        state.now.present.closures state.now.present.plan state.now.present.lists) }
+    ensures { PairsAreCounted state.now.problem state.now.present student (totals_of
+        state.now.problem state.now.present.closures state.now.present.plan
+        state.now.present.lists) }
 {
     state.soundness();
 }
