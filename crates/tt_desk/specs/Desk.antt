@@ -43,7 +43,7 @@ use Rattle.tt_suggest.specs.declared.suggestion.Suggestion.{Suggestion}
 use Rattle.tt_suggest.specs.declared.suggestion.Suggested.{Suggested}
 use Rattle.tt_suggest.specs.Suggestions.{suggested}
 use Rattle.tt_suggest.specs.Tree.{most_tries, root_of, tries_of}
-use Rattle.tt_explain.specs.Names.{value_text}
+use Rattle.tt_explain.specs.Ids.{value_text}
 use Rattle.tt_explain.specs.Explain.{explain_lines}
 use Rattle.tt_explain.specs.Why.{why_lines}
 use Rattle.tt_explain.specs.Stats.{stats_lines}

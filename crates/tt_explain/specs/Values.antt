@@ -10,7 +10,7 @@ use Rattle.tt_state.specs.Values.{conflict_set_of, obstacle_of, total_with}
 use Rattle.tt_state.specs.Tolls.{tolls_of}
 use Rattle.tt_text.specs.Fields.{field}
 use Rattle.tt_explain.specs.declared.pricing.ValueCosts.{ValueCosts}
-use Rattle.tt_explain.specs.Names.{value_text}
+use Rattle.tt_explain.specs.Ids.{value_text}
 use Rattle.tt_explain.specs.Why.{lost_of, obstacle_text, out_lines, trial_line, why_lines}
 
 -- what a class at a value would cost: how many classes it pushes out, what these weigh, and the total with it there and all

@@ -7,7 +7,7 @@ ghost use Rattle.tt_state.specs.History.{with_taken};
 ghost use Rattle.tt_state.specs.Values.{conflict_set_of};
 ghost use Rattle.tt_explain.specs.Values.{IsToldByWhy, costs_text, price_text, priced_line, value_costs, values_lines};
 
-use crate::names::add_value;
+use crate::ids::add_value;
 use crate::trying::add_obstacle;
 use std::alloc::AllocError;
 use tt_bits::Value;

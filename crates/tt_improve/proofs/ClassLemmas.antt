@@ -11,7 +11,7 @@ use Rattle.tt_base.proofs.ListLemmas.{drop_at}
 use Rattle.tt_bits.specs.declared.times.Value.{Value}
 use Rattle.tt_problem.specs.declared.parts.Parts.{Parts}
 use Rattle.tt_problem.specs.Valid.{IsValid}
-use Rattle.tt_plan.specs.Domain.{IsOfDomain, domain_of}
+use Rattle.tt_plan.specs.Domain.{domain_of}
 use Rattle.tt_clash.specs.declared.Block.{Block}
 use Rattle.tt_clash.specs.Amounts.{rule_amounts}
 use Rattle.tt_clash.specs.Blocked.{blocked_by}
