@@ -18,7 +18,7 @@ ghost use Rattle.tt_pair.specs.PairLaws.{violated_pairs-empty, violated_pairs-sp
 ghost use Rattle.tt_measure.proofs.HeldLemmas.{AreBelow-all};
 
 use std::alloc::{AllocError, Global};
-use tt_bits::{PairKind, Spot, holds};
+use tt_bits::{PairKind, Spot, holds_between};
 use tt_measure::Measure;
 use tt_travel::Travel;
 
@@ -186,5 +186,5 @@ fn is_violated(kind: PairKind, travel: &Travel, a: &Spot, b: &Spot) -> bool
     requires second { IsRoomOf travel.now b.now.room }
     ensures { result ≡ is_violated kind travel.now a.now b.now }
 {
-    !holds(kind, *a, *b, travel.between(a.room, b.room))
+    !holds_between(kind, a, b, travel.between(a.room, b.room))
 }

@@ -17,7 +17,7 @@ ghost use Rattle.tt_travel.specs.Table.{IsRoomOf};
 
 use crate::blocks::{breaks_over, long_blocks};
 use std::alloc::{AllocError, Global};
-use tt_bits::{PairKind, Spot, holds};
+use tt_bits::{PairKind, Spot, holds_between};
 use tt_problem::{DistKind, Problem, Rule};
 use tt_travel::Travel;
 
@@ -47,7 +47,7 @@ pub fn is_violated(kind: PairKind, travel: &Travel, a: &Spot, b: &Spot) -> bool
     requires to { IsRoomOf travel.now b.now.room }
     ensures { result ≡ is_violated kind travel.now a.now b.now }
 {
-    !holds(kind, *a, *b, travel.between(a.room, b.room))
+    !holds_between(kind, a, b, travel.between(a.room, b.room))
 }
 
 // How many later spots break a rule on pairs with a spot.
