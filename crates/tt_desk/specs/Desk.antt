@@ -136,10 +136,6 @@ abbrev pub sectioned : List ℕ → Result (List ℕ) Refusal
 sectioned [] = Err NotSectioned
 sectioned (class ∷ classes) = Ok (class ∷ classes)
 
--- the snapshot in which a student is enrolled anew
-abbrev pub enrolment : Desk → ℕ → Result Snapshot Refusal
-enrolment d student = ok_or (enrolled d.problem d.present student) NoEnrolment
-
 -- the desk with the newest of these earlier snapshots as its present one
 abbrev pub stepped_back : Parts → List Snapshot → Result Desk Refusal
 stepped_back p [] = Err NothingToUndo
@@ -152,10 +148,6 @@ not_ready t = NotReady t.unplaced t.unsectioned t.hard
 -- the present snapshot, in which all classes are placed, all students are sectioned, and nothing is in conflict
 abbrev pub ready : Desk → Result Snapshot Refusal
 ready d = if is_ready d.problem d.present then Ok d.present else Err (not_ready (totals_of d.problem d.present.closures d.present.plan d.present.lists))
-
--- the timetable that is published
-abbrev pub published : Session → Result Timetable Refusal
-published s = ok_or s.published NothingPublished
 
 -- there are at most 1,000,000 values to try
 abbrev pub few_tries : ℕ → Result (Unit {0}) Refusal
@@ -278,18 +270,18 @@ carried_out s (Drop student) = do
   Ok (with_step s (with_list s.desk.present i []) [])
 carried_out s (Enrol student) = do
   i ← known_student s.desk.problem student
-  now ← enrolment s.desk i
+  now ← ok_or (enrolled s.desk.problem s.desk.present i) NoEnrolment
   Ok (with_step s now [])
 carried_out s EnrolAll = Ok (with_all_enrolled s (all_enrolled s.desk.problem s.desk.present))
 carried_out s (Search turns seed) = Ok (with_search s (searched s.desk.problem turns seed s.desk.present))
 carried_out s (Repair turns seed) = do
-  t ← published s
+  t ← ok_or s.published NothingPublished
   Ok (with_search s (repaired s.desk.problem t turns seed s.desk.present))
 carried_out s (Place turns seed) = Ok (with_search s (all_placed s.desk.problem turns seed s.desk.present))
 carried_out s (Improve rounds seed) = Ok (with_improvement s (improved s.desk.problem rounds seed s.desk.present))
 carried_out s (Deluge rounds seed) = Ok (with_deluge s (deluged s.desk.problem rounds seed s.desk.present))
 carried_out s Recall = do
-  t ← published s
+  t ← ok_or s.published NothingPublished
   Ok (with_step s (recalled s.desk.problem t s.desk.present) [])
 carried_out s (Close room days start length weeks) = do
   r ← known_room s.desk.problem room

@@ -2,6 +2,7 @@
 use Rattle.std.proofs.Common.{◌≡◌, ◌≢◌, ℕ, zero, suc, Bool, true, false, Option, Some, None, List, [], ◌∷◌, length, refl, ap, sym, subst, ◌∙◌, arith}
 use Rattle.std.specs.Prelude.{All, IfSome, is_none, is_some, map, not, option_map, slice_get, slice_index_or}
 use Rattle.std.specs.List.{best_of, list_any, range_with_len}
+use Rattle.std.specs.Option.{option_map_or}
 use Rattle.std.proofs.lemmas.Bool.{and_parts}
 use Rattle.std.proofs.lemmas.Cmp.{nat_list_cmp_total}
 use Rattle.std.proofs.lemmas.List.{get_or_default}
@@ -20,8 +21,8 @@ use Rattle.tt_state.specs.Snapshots.{Snapshot, StaysLocked, is_locked_in, value_
 use Rattle.tt_state.specs.Values.{obstacle_of}
 use Rattle.tt_state.specs.Forced.{forced}
 use Rattle.tt_state.proofs.FitsLemmas.{forced_locks, forced_stays}
-use Rattle.tt_search.specs.Turns.{after_turn, available_values, candidates, chosen_value, forced_if, has_open_value, is_available, is_candidate, is_unplaced, price_of, turn_of}
-use Rattle.tt_search.specs.Searched.{after_turns, onward, rank_of, search_end, then_on}
+use Rattle.tt_search.specs.Turns.{after_turn, available_values, candidates, chosen_value, forced_if, has_open_value, is_available, is_candidate, price_of, turn_of}
+use Rattle.tt_search.specs.Searched.{after_turns, onward, rank_of, search_end}
 use Rattle.tt_search.specs.PlaceTurns.{PlaceMoment, TurnWords, after_forcing, after_places, all_least, burden_of, least_values, place_end, place_turn, places_after, two_words}
 use Rattle.tt_search.specs.Least.{IsFirstLeast}
 use Rattle.tt_search.specs.Numbers.{IsAvailable}
@@ -51,7 +52,7 @@ unfolding onward
 all_onward P draw turn keep zero random a has = λ k d lt. absurd (omega (arith, lt))
 all_onward {W = W} {A = A} P draw turn keep (suc n) random a has = by (turn (draw random).0 a) refl (all_onward P draw turn keep n (draw random).1)
   where
-    by : (o : Option A) → turn (draw random).0 a ≡ o → ((b : A) → P b → All P (onward draw turn n (draw random).1 b)) → All P (then_on o (onward draw turn n (draw random).1))
+    by : (o : Option A) → turn (draw random).0 a ≡ o → ((b : A) → P b → All P (onward draw turn n (draw random).1 b)) → All P (option_map_or (λ b. b ∷ onward draw turn n (draw random).1 b) o [])
     by None is rest = λ k d lt. absurd (omega (arith, lt))
     by (Some b) is rest =
         let next = keep (draw random).0 a b has is in
@@ -63,7 +64,7 @@ record HasLocksOf (start s : Snapshot) : Type 0 where
   pub stays : (class : ℕ) → StaysLocked start s class
 
 -- a class that is unplaced isn't locked
-unlocked : (start s : Snapshot) (class d : ℕ) → HasLocksOf start s → is_unplaced s.plan class ≡ true → is_locked_in s d ≡ true → d ≢ class
+unlocked : (start s : Snapshot) (class d : ℕ) → HasLocksOf start s → is_none (value_in s class) ≡ true → is_locked_in s d ≡ true → d ≢ class
 unlocked start s class d has unplaced locked same = by (value_in s class) unplaced (has.placed class (rw same at locked))
   where
     by : (o : Option Value) → is_none o ≡ true → is_some o ≡ true → ⊥
@@ -71,7 +72,7 @@ unlocked start s class d has unplaced locked same = by (value_in s class) unplac
     by (Some v) none some = cc
 
 -- forcing an unplaced class to an available value leaves the classes that are locked
-forced_has : (p : Parts) (start s : Snapshot) (class : ℕ) (v : Value) → HasLocksOf start s → is_unplaced s.plan class ≡ true → obstacle_of p s class v ≡ None → HasLocksOf start (forced p s class v)
+forced_has : (p : Parts) (start s : Snapshot) (class : ℕ) (v : Value) → HasLocksOf start s → is_none (value_in s class) ≡ true → obstacle_of p s class v ≡ None → HasLocksOf start (forced p s class v)
 forced_has p start s class v has unplaced none = record {
   placed = λ d locked.
       let before = was d locked in
@@ -86,15 +87,15 @@ forced_has p start s class v has unplaced none = record {
     was d locked = ap (λ (l : List Bool). slice_index_or l d false) (sym (forced_locks p s class v)) ∙ locked
 
 -- and so does forcing it to one, if there is one
-forced_if_has : (p : Parts) (start s : Snapshot) (class : ℕ) (o : Option Value) → HasLocksOf start s → is_unplaced s.plan class ≡ true → IfSome o (λ v. obstacle_of p s class v ≡ None) → HasLocksOf start (forced_if p s class o)
+forced_if_has : (p : Parts) (start s : Snapshot) (class : ℕ) (o : Option Value) → HasLocksOf start s → is_none (value_in s class) ≡ true → IfSome o (λ v. obstacle_of p s class v ≡ None) → HasLocksOf start (forced_if p s class o)
 forced_if_has p start s class None has unplaced none = has
 forced_if_has p start s class (Some v) has unplaced none = forced_has p start s class v has unplaced none
 
 -- a candidate that is drawn is unplaced
-drawn_unplaced : (p : Parts) (s : Snapshot) (word class : ℕ) → drawn word (candidates p s) ≡ Some class → is_unplaced s.plan class ≡ true
+drawn_unplaced : (p : Parts) (s : Snapshot) (word class : ℕ) → drawn word (candidates p s) ≡ Some class → is_none (value_in s class) ≡ true
 drawn_unplaced p s word class from =
     let candidate = each_at (λ c. is_candidate p s c ≡ true) (candidates p s) _ class (filter_passes (is_candidate p s) (range_with_len 0 (length p.classes))) from in
-    (and_parts (is_unplaced s.plan class) (has_open_value p s.closures class) candidate).0
+    (and_parts (is_none (value_in s class)) (has_open_value p s.closures class) candidate).0
 
 -- the chosen value is available
 chosen_free : (p : Parts) (published : Option Timetable) (s : Snapshot) (class : ℕ) (o : Option Value) → chosen_value p published s class ≡ o → IfSome o (λ v. obstacle_of p s class v ≡ None)
