@@ -256,7 +256,7 @@ fn linked_with(
 ) -> Linked
     ensures parts { result.parts
         ≡ parts_of_all (shape_read shape.now) (rooms_read rooms) (courses_read tree) rules
-            students }
+        students }
     ensures room_ids { result.room_ids ≡ rooms.ids }
     ensures course_ids { result.course_ids ≡ tree.ids }
     ensures class_ids { result.class_ids ≡ tree.configs.subparts.classes.ids }
