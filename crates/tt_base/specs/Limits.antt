@@ -1,7 +1,7 @@
 -- Theorem. Limits that several crates share.
 use Rattle.std.specs.Prelude.{ℕ}
 
--- the most classes that a problem has; it has no more subparts
+-- the most classes that a problem has; it has no more subparts, nor configurations
 abbrev pub most_classes : ℕ
 most_classes = 20000
 
@@ -33,11 +33,11 @@ most_limit = 4294967295
 abbrev pub most_rooms : ℕ
 most_rooms = 2500
 
--- the most closures that hold at a time
+-- the most closures of a snapshot, lifted ones among them
 abbrev pub most_closures : ℕ
 most_closures = 10000
 
--- the greatest slot of a day; no time, and no way from one room to another, takes more slots
+-- the greatest slot of a day; no time and no travel takes more slots
 abbrev pub most_slot : ℕ
 most_slot = 65535
 

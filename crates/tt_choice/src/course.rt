@@ -205,8 +205,7 @@ fn best_choice(
     }
 }
 
-// Passes all choices of a configuration, and keeps the best. Where a subpart has no class that could
-// be in a choice, there is none.
+// The same, where each subpart has a class that could be in a choice; else what was found stays.
 fn best_if_open(
     standing: &Standing,
     subparts: &[Span],

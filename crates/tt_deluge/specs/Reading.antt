@@ -6,4 +6,4 @@ use Rattle.rand_pcg.specs.Pcg.{pcg32}
 
 -- the words that a generator will give
 abbrev pub random_of : Lcg → Stream
-random_of random = stream_of (steps_u32 pcg32) random
+random_of generator = stream_of (steps_u32 pcg32) generator

@@ -1,4 +1,5 @@
-//! The questions that are asked of a whole timetable, of each value of a class, and of who has what. They make no step.
+//! The questions that are asked of a whole timetable, of each value of a class, and of who has what.
+//! They make no step.
 
 ghost use Rattle.std.specs.Prelude.{◌≡◌, []};
 ghost use Rattle.tt_desk.specs.Carried.{IsDone};

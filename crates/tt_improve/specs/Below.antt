@@ -3,7 +3,7 @@ use Rattle.std.specs.Prelude.{ℕ, Bool, ◌&&◌, nat_lt, List, Some, None, fol
 use Rattle.tt_bits.specs.declared.times.Value.{Value}
 use Rattle.tt_improve.specs.declared.classes.Best.{Best}
 
--- a value that is better than the best so far takes its place
+-- a free value with a lower total than the best so far takes its place
 abbrev pub lower_of : (Value → Bool) → (Value → ℕ) → Best → Value → Best
 lower_of free total best v =
     if nat_lt (total v) best.total && free v then record { total = total v; value = Some v } else best

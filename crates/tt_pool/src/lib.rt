@@ -1,7 +1,7 @@
 //! Many lists of numbers in one vector of nodes. After any calls each list is what `insert`,
 //! `insert_first`, `insert_in_order`, `remove`, `remove_item` and `remove_at_node` make of it, and
 //! `spare` is how many items more find room (`lists`, `spare`). Where it is told (`nodes`), an item
-//! stands at one node until it goes, and by that goes without a walk. Only `new` takes memory.
+//! stands at one node until it goes, and by that goes with no list gone over. Only `new` takes memory.
 #![tactic(auto)]
 
 ghost use Rattle.std.specs.Prelude.{◌≡◌, ℕ, ◌==◌, ◌+◌, ◌<◌, ◌≤◌, List, [], ◌∷◌, length, map, IfOk, nat_lt, slice_index, slice_set, replicate, count_by};
@@ -184,7 +184,7 @@ impl Pool {
         self.free = free;
     }
 
-    /// The same, where the node of the first of this item is known: no list is walked.
+    /// The same, where the node of the first of this item is known: no list is gone over.
     pub fn remove_at_node(&mut self, list: u32, item: u32, node: u32)
         requires list { list < length self.old.lists }
         requires found { 0 < count_by (λ x. x == item) (list_at self.old list) }

@@ -47,8 +47,8 @@ impl Kept {
     }
 }
 
-// The most values that a class has.
-fn most_values(problem: &Problem) -> u32
+// How many values the largest domain has.
+fn largest_domain(problem: &Problem) -> u32
     ensures { (class : ℕ)
         → class < length problem.now.classes
         → length (domain_of problem.now class) ≤ result }
@@ -90,7 +90,7 @@ impl LeastValues {
     pub(crate) fn new(alloc: Global, state: &State) -> Result<LeastValues, AllocError>
         ensures { IfOk result (HasRoomForValues state.now.problem) }
     {
-        let most = most_values(state.problem());
+        let most = largest_domain(state.problem());
         let values = Vec::with_capacity(alloc, most as usize)?;
         Ok(LeastValues {
             price: None,

@@ -61,8 +61,8 @@ fn empty(state: &mut State, aim: &Aim, moved: u32, classes: &[u32]) -> Result<u3
     Ok(moved)
 }
 
-// Takes some classes out, none of which is locked, and gives another a value, in the last step. The answer is how many
-// published classes are moved then.
+// Takes some classes out, none of which is locked, and gives another a value, in the last step. The
+// answer is how many published classes are moved then.
 fn exchange(
     state: &mut State,
     aim: &Aim,
