@@ -1,0 +1,12 @@
+pub mod BoundLemmas
+pub mod ChoiceLemmas
+pub mod ExchangeLemmas
+pub mod LeafLemmas
+pub mod LeastLemmas
+pub mod NarrowLemmas
+pub mod NodeLemmas
+pub mod OptionLemmas
+pub mod PairLemmas
+pub mod PriceLemmas
+pub mod SeekLemmas
+pub mod SettleLemmas
