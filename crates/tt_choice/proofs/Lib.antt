@@ -9,7 +9,6 @@ pub mod Steps
 pub mod Order
 pub mod CourseLemmas
 pub mod AheadLemmas
-pub mod PriceLemmas
 pub mod LeastLemmas
 pub mod LengthLemmas
 pub mod CountLemmas
@@ -20,3 +19,8 @@ pub mod ParentLemmas
 pub mod SeatingLemmas
 pub mod TableLemmas
 pub mod RoomLemmas
+pub mod BufferLemmas
+pub mod TurnLemmas
+pub mod FirstLemmas
+pub mod BestLemmas
+pub mod SearchedLemmas

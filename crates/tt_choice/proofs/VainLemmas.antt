@@ -69,7 +69,7 @@ pub across-zero : (s : Situation) (front : List ℕ) (rest : List Span) → IsAc
 across-zero s front rest = record { each = all_of (λ choice. list_all s.has_seat choice ≡ true → 0 ≤ pairs_across s front choice) (λ choice e. omega arith) (choices_of rest) }
 
 -- the choice found is what the pairs are compared with
-fewer_is : (s : Situation) (best choice : List ℕ) (found : Option Found) → IfSome found (IsFoundIn s best) → is_fewer s choice (chosen best found) ≡ has_fewer found (pairs_added s choice)
+pub fewer_is : (s : Situation) (best choice : List ℕ) (found : Option Found) → IfSome found (IsFoundIn s best) → is_fewer s choice (chosen best found) ≡ has_fewer found (pairs_added s choice)
 fewer_is s best choice None h = refl
 fewer_is s best choice (Some f) h = ap (nat_lt (pairs_added s choice)) (sym h.counted)
 

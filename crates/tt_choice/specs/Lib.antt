@@ -6,8 +6,8 @@ pub mod Situations
 pub mod Standings
 pub mod Found
 pub mod Ahead
-pub mod Priced
 pub mod Open
 pub mod Tables
+pub mod Searched
 pub mod Ready
 pub mod Seating

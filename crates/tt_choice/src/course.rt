@@ -1,6 +1,6 @@
 //! The least allowed choice of a course.
 
-ghost use Rattle.std.specs.Prelude.{◌≡◌, ℕ, ◌+◌, ◌-◌, ◌<◌, ◌≤◌, ◌++◌, ◌∷◌, [], None, false, length, take, IfNone, IfSome, All};
+ghost use Rattle.std.specs.Prelude.{◌≡◌, ℕ, ◌+◌, ◌-◌, ◌<◌, ◌≤◌, ◌++◌, ◌∷◌, [], None, true, false, length, take, IfNone, IfSome, All};
 ghost use Rattle.tt_base.specs.Limits.{most_classes};
 ghost use Rattle.tt_choice.specs.Limits.{most_added, most_added_with, most_already};
 ghost use Rattle.tt_choice.specs.Least.{pairs_added, least_choice};
@@ -8,17 +8,26 @@ ghost use Rattle.tt_choice.specs.Passed.{better, passed};
 ghost use Rattle.tt_choice.specs.Ahead.{AreSure, IsSure};
 ghost use Rattle.tt_problem.specs.Spans.{IsSpanWithin};
 ghost use Rattle.tt_choice.specs.Tables.{AreTables};
+ghost use Rattle.tt_choice.specs.Searched.{AreInTurn, HasPlaceFor, lacks_none};
+ghost use Rattle.tt_least.specs.Choices.{AreApart};
 ghost use Rattle.tt_choice.specs.Choices.{choices_at, choices_of, choices_of_course};
 ghost use Rattle.tt_choice.specs.Ready.{HasRoomToChoose, HasRoomFor};
 ghost use Rattle.tt_choice.specs.Situations.{situation_of};
 ghost use Rattle.tt_choice.specs.Standings.{situation_in};
-ghost use Rattle.tt_choice.specs.Found.{chosen, chosen_by, has_fewer, IsFoundIn, IsInVain};
+ghost use Rattle.tt_choice.specs.Found.{IfEnded, IsEnded, chosen, chosen_by, has_fewer, IsFoundIn, IsInVain};
 
 use crate::ahead::{can_all_be_filled, look_ahead, may_come, sure_across};
 use crate::buffers::ChoiceBuffers;
+use crate::searched::classes_of;
 use crate::standing::Standing;
 use tt_problem::Span;
 use tt_state::State;
+
+// The most pairs that a choice adds.
+const MOST_ADDED: u64 = 16400000000;
+
+// After so many steps a walk over choices that may be searched is left.
+const MOST_STEPS: u64 = 1000;
 
 /// A choice found: how many classes it has, and how many conflicting pairs it adds.
 #[derive(Clone, Copy)]
@@ -143,15 +152,38 @@ fn keep(
     }
 }
 
-// Passes all choices of a configuration of these subparts, and keeps the best. `front` has the
-// classes chosen so far, `class` is the next to be tried. A class with which the front leads on to
-// no better choice is passed over.
+// How a walk over the choices of a configuration ended.
+enum Walk {
+    // All choices are passed; the best, if there is one.
+    Ended(Option<Found>),
+    // It took all of its steps.
+    Stopped,
+}
+
+// Takes one of the steps that are left, where these are limited; whether one was left.
+fn take_step(steps: &mut Option<u64>) -> bool
+    ensures { steps.old ≡ None → (result ≡ true) × (steps.new ≡ None) }
+{
+    match *steps {
+        None => true,
+        Some(0) => false,
+        Some(left) => {
+            *steps = Some(left - 1);
+            true
+        }
+    }
+}
+
+// Passes all choices of a configuration of these subparts, and keeps the best, or stops where it has
+// made all of its steps, if these are limited. `front` has the classes chosen so far, `class` is the
+// next to be tried. A class with which the front leads on to no better choice is passed over.
 fn best_choice(
     standing: &Standing,
     subparts: &[Span],
     buffers: &mut ChoiceBuffers,
     found: Option<Found>,
-) -> Option<Found>
+    steps: Option<u64>,
+) -> Walk
     requires sure { AreSure (situation_in standing.now) subparts.now buffers.old.ahead.items }
     requires some { 0 < length subparts.now }
     requires spans { All (λ s. s.after ≤ most_classes) subparts.now }
@@ -159,19 +191,28 @@ fn best_choice(
     requires room { HasRoomFor (length subparts.now) buffers.old }
     requires found { IfSome found (IsFoundIn (situation_in standing.now) buffers.old.best.items) }
     ensures room { (count : ℕ) → HasRoomFor count buffers.old → HasRoomFor count buffers.new }
-    ensures best { chosen buffers.new.best.items result
+    ensures ended { IfEnded result (λ best. chosen buffers.new.best.items best
         ≡ passed (situation_in standing.now) (chosen buffers.old.best.items found)
-        (choices_of subparts.now) }
-    ensures found { IfSome result (IsFoundIn (situation_in standing.now) buffers.new.best.items) }
+        (choices_of subparts.now)) }
+    ensures found { IfEnded result
+        (λ best. IfSome best (IsFoundIn (situation_in standing.now) buffers.new.best.items)) }
+    ensures unlimited { steps ≡ None → IsEnded result }
+    ensures long { length buffers.new.best.items ≡ length buffers.old.best.items }
+    ensures before { buffers.new.before.items ≡ buffers.old.before.items }
+    ensures search { buffers.new.search ≡ buffers.old.search }
 {
     let ahead = buffers.ahead.as_slice();
     let front = buffers.front.as_mut_slice();
     let best = buffers.best.as_mut_slice();
     let mut found = found;
+    let mut steps = steps;
     let mut depth = 0;
     let mut pairs = 0;
     let mut class = subparts[0].first;
     'walk: loop {
+        if !take_step(&mut steps) {
+            return Walk::Stopped;
+        }
         if class < subparts[depth].after {
             front[depth] = class;
             match pairs_through(
@@ -195,12 +236,122 @@ fn best_choice(
                 }
             }
         } else if depth == 0 {
-            return found;
+            return Walk::Ended(found);
         } else {
             depth -= 1;
             class = front[depth];
             pairs = pairs_before(standing, &front[..depth], pairs, class);
             class += 1;
+        }
+    }
+}
+
+// Copies a choice found from the front of one buffer to that of another one.
+fn copy_found(from: &[u32], to: &mut [u32], found: Option<Found>)
+    requires from { IfSome found (λ choice. choice.count ≤ length from.now) }
+    requires to { IfSome found (λ choice. choice.count ≤ length to.old) }
+    ensures long { length to.new ≡ length to.old }
+    ensures same { chosen to.new found ≡ chosen from.now found }
+{
+    if let Some(choice) = found {
+        to[..choice.count].copy_from_slice(&from[..choice.count]);
+    }
+}
+
+// The most pairs that are fewer than the best so far adds, or that any choice adds where there is
+// none; `None` where there are none so few.
+fn most_fewer(found: Option<Found>) -> Option<u64>
+    ensures most { IfSome result (λ most. most ≤ most_added) }
+    ensures fewer { IfSome result (λ most. (n : ℕ) → n ≤ most → has_fewer found n ≡ true) }
+    ensures more { IfSome result (λ most. (n : ℕ) → n ≤ most_added → most < n
+        → has_fewer found n ≡ false) }
+    ensures none { result ≡ None → (n : ℕ) → has_fewer found n ≡ false }
+{
+    match found {
+        None => Some(MOST_ADDED),
+        Some(best) if best.pairs == 0 => None,
+        Some(best) => Some((best.pairs - 1).min(MOST_ADDED)),
+    }
+}
+
+// The same by a search, for a configuration of these classes.
+fn best_by_search(
+    standing: &Standing,
+    subparts: &[Span],
+    classes: Span,
+    buffers: &mut ChoiceBuffers,
+    found: Option<Found>,
+) -> Option<Found>
+    requires apart { AreApart classes.first subparts.now classes.after }
+    requires few_classes { classes.after ≤ most_classes }
+    requires few_already { length (situation_in standing.now).already ≤ most_already }
+    requires few { length subparts.now ≤ most_classes }
+    requires lacks { lacks_none (situation_in standing.now) ≡ true }
+    requires room { HasRoomFor (length subparts.now) buffers.old }
+    requires place { HasPlaceFor (length subparts.now) classes buffers.old.search }
+    requires found { IfSome found (IsFoundIn (situation_in standing.now) buffers.old.best.items) }
+    ensures room { (count : ℕ) → HasRoomFor count buffers.old → HasRoomFor count buffers.new }
+    ensures best { chosen buffers.new.best.items result
+        ≡ passed (situation_in standing.now) (chosen buffers.old.best.items found)
+        (choices_of subparts.now) }
+    ensures found { IfSome result (IsFoundIn (situation_in standing.now) buffers.new.best.items) }
+{
+    let Some(most) = most_fewer(found) else {
+        return found;
+    };
+    let Some(pairs) = buffers.search.find(standing, subparts, classes, most) else {
+        return found;
+    };
+    let found = Some(Found {
+        count: subparts.len(),
+        pairs,
+    });
+    copy_found(
+        buffers.search.search.scratch.best.as_slice(),
+        buffers.best.as_mut_slice(),
+        found,
+    );
+    found
+}
+
+// The same by a walk, where it ends soon, and else by a search.
+fn best_by_both(
+    standing: &Standing,
+    subparts: &[Span],
+    classes: Span,
+    buffers: &mut ChoiceBuffers,
+    found: Option<Found>,
+) -> Option<Found>
+    requires sure { AreSure (situation_in standing.now) subparts.now buffers.old.ahead.items }
+    requires some { 0 < length subparts.now }
+    requires spans { All (λ s. s.after ≤ most_classes) subparts.now }
+    requires apart { AreApart classes.first subparts.now classes.after }
+    requires few_classes { classes.after ≤ most_classes }
+    requires few { length subparts.now ≤ most_classes }
+    requires lacks { lacks_none (situation_in standing.now) ≡ true }
+    requires room { HasRoomFor (length subparts.now) buffers.old }
+    requires place { HasPlaceFor (length subparts.now) classes buffers.old.search }
+    requires found { IfSome found (IsFoundIn (situation_in standing.now) buffers.old.best.items) }
+    ensures room { (count : ℕ) → HasRoomFor count buffers.old → HasRoomFor count buffers.new }
+    ensures best { chosen buffers.new.best.items result
+        ≡ passed (situation_in standing.now) (chosen buffers.old.best.items found)
+        (choices_of subparts.now) }
+    ensures found { IfSome result (IsFoundIn (situation_in standing.now) buffers.new.best.items) }
+{
+    copy_found(
+        buffers.best.as_slice(),
+        buffers.before.as_mut_slice(),
+        found,
+    );
+    match best_choice(standing, subparts, buffers, found, Some(MOST_STEPS)) {
+        Walk::Ended(best) => best,
+        Walk::Stopped => {
+            copy_found(
+                buffers.before.as_slice(),
+                buffers.best.as_mut_slice(),
+                found,
+            );
+            best_by_search(standing, subparts, classes, buffers, found)
         }
     }
 }
@@ -212,6 +363,7 @@ fn best_if_open(
     buffers: &mut ChoiceBuffers,
     found: Option<Found>,
 ) -> Option<Found>
+    requires turn { AreInTurn subparts.now }
     requires some { 0 < length subparts.now }
     requires spans { All (λ s. s.after ≤ most_classes) subparts.now }
     requires few { length subparts.now ≤ most_classes }
@@ -227,7 +379,14 @@ fn best_if_open(
         return found;
     }
     look_ahead(standing, subparts, buffers.ahead.as_mut_slice());
-    best_choice(standing, subparts, buffers, found)
+    let classes = classes_of(subparts);
+    if buffers.search.can_search(subparts.len(), classes) && standing.lacks_none() {
+        return best_by_both(standing, subparts, classes, buffers, found);
+    }
+    match best_choice(standing, subparts, buffers, found, None) {
+        Walk::Ended(best) => best,
+        Walk::Stopped => found,
+    }
 }
 
 // How many pairs a front adds, from how many it adds together with one more class.

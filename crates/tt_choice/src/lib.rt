@@ -6,9 +6,11 @@
 mod ahead;
 mod buffers;
 mod course;
+mod searched;
 mod seating;
 mod standing;
 
 pub use buffers::ChoiceBuffers;
 pub use course::{least_of_course, pairs_of};
+pub use searched::SearchRoom;
 pub use seating::seat;

@@ -32,6 +32,7 @@ impl<'a> Standing<'a> {
     ghost use Rattle.tt_state.specs.Seats.{limit_of, others_with};
     ghost use Rattle.tt_choice.specs.Least.{has_parent_with, is_allowed, may_be_taken};
     ghost use Rattle.tt_choice.specs.Situations.{situation_of};
+    ghost use Rattle.tt_choice.specs.Searched.{either_conflicts, has_parent_already, lacks_none, parent_needed};
     ghost use Rattle.tt_choice.specs.Standings.{situation_in};
 
     /// How a student who has taken these classes beforehand stands in the present snapshot. `wanting`
@@ -113,6 +114,43 @@ impl<'a> Standing<'a> {
             (Some(spot), Some(there)) => conflict(travel, spot, there),
             _ => false,
         }
+    }
+
+    /// Whether two classes are the same, or conflict, the lower one asked.
+    pub fn either_conflicts(&self, class: u32, other: u32) -> bool
+        ensures { result ≡ either_conflicts (situation_in self.now) class other }
+    {
+        class == other || self.conflicts(class.min(other), class.max(other))
+    }
+
+    /// The parent of a class, if it has one that isn't already taken.
+    pub fn parent_needed(&self, class: u32) -> Option<u32>
+        ensures { result ≡ parent_needed (situation_in self.now) class }
+    {
+        match self.parent_of(class) {
+            Some(parent) if !self.already.contains(&parent) => Some(parent),
+            _ => None,
+        }
+    }
+
+    // Whether the parent of a class, where it has one, is already taken.
+    #[tactic(auto, using(tt_base::proofs::ListLemmas::listed_turned))]
+    fn has_parent_already(&self, class: u32) -> bool
+        ensures { result ≡ has_parent_already (situation_in self.now) class }
+    {
+        match self.parent_of(class) {
+            None => true,
+            Some(parent) => self.already.contains(&parent),
+        }
+    }
+
+    /// Whether no class whose parent may be missing lacks it.
+    pub fn lacks_none(&self) -> bool
+        ensures { result ≡ lacks_none (situation_in self.now) }
+    {
+        self.wanting
+            .iter()
+            .all(|class| self.has_parent_already(*class))
     }
 
     /// How many classes already taken conflict with a class.
