@@ -38,9 +38,11 @@ fn table_of<'a>(
     conflicts: &'a [bool; 16],
 ) -> Table<'a>
     requires apart { AreApart 0 subparts.now 4 }
-    requires both_ways { (j k : ℕ) → j < 4 → k < 4 → slice_index_or conflicts.now (j * 4 + k) false
+    requires both_ways { (j k : ℕ) → j < 4 → k < 4
+        → slice_index_or conflicts.now (j * 4 + k) false
         ≡ slice_index_or conflicts.now (k * 4 + j) false }
-    requires itself { (k : ℕ) → k < 4 → slice_index_or conflicts.now (k * 4 + k) false ≡ true }
+    requires itself { (k : ℕ) → k < 4
+        → slice_index_or conflicts.now (k * 4 + k) false ≡ true }
     ensures table { IsTable result }
     ensures size { result.size ≡ 4 }
     ensures parts { length result.subparts.now ≡ 2 }

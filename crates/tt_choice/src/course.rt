@@ -262,7 +262,8 @@ fn copy_found(from: &[u32], to: &mut [u32], found: Option<Found>)
 // none; `None` where there are none so few.
 fn most_fewer(found: Option<Found>) -> Option<u64>
     ensures most { IfSome result (λ most. most ≤ most_added) }
-    ensures fewer { IfSome result (λ most. (n : ℕ) → n ≤ most → has_fewer found n ≡ true) }
+    ensures fewer { IfSome result (λ most. (n : ℕ) → n ≤ most
+        → has_fewer found n ≡ true) }
     ensures more { IfSome result (λ most. (n : ℕ) → n ≤ most_added → most < n
         → has_fewer found n ≡ false) }
     ensures none { result ≡ None → (n : ℕ) → has_fewer found n ≡ false }

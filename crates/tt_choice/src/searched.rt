@@ -30,7 +30,8 @@ fn fill_weights(standing: &Standing, weights: &mut [u64], first: u32, count: usi
     requires few { first + count ≤ most_classes }
     ensures long { length weights.new ≡ length weights.old }
     ensures each { (k : ℕ) → k < count
-        → slice_index_or weights.new k 0 ≡ already_pairs (situation_in standing.now) (first + k) }
+        → slice_index_or weights.new k 0
+        ≡ already_pairs (situation_in standing.now) (first + k) }
 {
     for place in 0..count {
         weights[place] = standing.pairs_with_already(first + place as u32) as u64;
@@ -153,15 +154,18 @@ impl SearchRoom {
         requires few { first + count ≤ most_classes }
         ensures room { HasRoomToFill self.new }
         ensures size { length self.new.weights.items ≡ length self.old.weights.items }
-        ensures levels { length self.new.search.levels.items ≡ length self.old.search.levels.items }
+        ensures levels { length self.new.search.levels.items
+            ≡ length self.old.search.levels.items }
         ensures weights { (k : ℕ) → k < count → slice_index_or self.new.weights.items k 0
             ≡ already_pairs (situation_in standing.now) (first + k) }
         ensures parents { (k : ℕ) → k < count → slice_index_or self.new.parents.items k None
             ≡ parent_needed (situation_in standing.now) (first + k) }
-        ensures seats { (k : ℕ) → k < count → slice_index_or self.new.search.left.items k false
+        ensures seats { (k : ℕ) → k < count
+            → slice_index_or self.new.search.left.items k false
             ≡ (situation_in standing.now).has_seat (first + k) }
         ensures conflicts { (j k : ℕ) → j < count → k < count
-            → slice_index_or self.new.conflicts.items (j * length self.new.weights.items + k) false
+            → slice_index_or self.new.conflicts.items
+            (j * length self.new.weights.items + k) false
             ≡ either_conflicts (situation_in standing.now) (first + j) (first + k) }
     {
         let size = self.weights.len();

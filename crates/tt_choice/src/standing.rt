@@ -155,7 +155,8 @@ impl<'a> Standing<'a> {
 
     /// How many classes already taken conflict with a class.
     pub fn pairs_with_already(&self, class: u32) -> usize
-        ensures { result ≡ count_by ((situation_in self.now).conflicts class) self.now.already.now }
+        ensures { result
+            ≡ count_by ((situation_in self.now).conflicts class) self.now.already.now }
     {
         self.already
             .iter()

@@ -1,5 +1,5 @@
 -- What the choices of a node cost at least, by prices of groups of classes.
-use Rattle.std.proofs.Common.{◌≡◌, ℕ, suc, ◌+◌, ◌-◌, ◌<◌, ◌≤◌, Bool, true, false, cond, ◌&&◌, List, [], ◌∷◌, length, get_or, sum, sum_by, take, All, Some, arith, refl, sym, ap, ◌∙◌, inl, inr, ◌⊎◌, get_or-set_other, get_or-set_same}
+use Rattle.std.proofs.Common.{◌≡◌, ℕ, suc, ◌+◌, ◌-◌, ◌<◌, ◌≤◌, Bool, true, false, cond, ◌&&◌, List, [], ◌∷◌, length, get_or, sum, sum_by, take, All, None, Some, arith, refl, sym, ap, ◌∙◌, inl, inr, ◌⊎◌, get_or-set_other, get_or-set_same}
 use Rattle.std.specs.Prelude.{nat_le, nat_lt, slice_get, slice_index_or, slice_set, IfSome}
 use Rattle.std.proofs.Math.Seq.{take-set-lt}
 use Rattle.std.proofs.lemmas.Bool.{and_parts, cases_eq}
@@ -16,8 +16,9 @@ use Rattle.tt_least.specs.Judged.{IsIn, IsTable, conflict_in, is_flagged, pairs_
 use Rattle.tt_least.specs.Nodes.{HasPlaces, IsNode, IsOf, pair_to_come, weight_at}
 use Rattle.tt_least.specs.Prices.{AreGroups, AreLeast, IsBound, group_in, owed_of, priced_at}
 use Rattle.tt_least.specs.Results.{IsInVain}
-use Rattle.tt_least.proofs.ChoiceLemmas.{choice-at, choice-in, choice-long, span-within}
-use Rattle.tt_least.proofs.PriceLemmas.{price_of, prices-paid}
+use Rattle.tt_least.proofs.ChoiceLemmas.{choice-at, choice-in, choice-long, span-within, spans-ordered}
+use Rattle.tt_least.proofs.OptionLemmas.{if-some}
+use Rattle.tt_least.proofs.PriceLemmas.{owed-few, price_of, prices-paid}
 
 -- no class of the subpart at a place that is left costs less than so much
 abbrev pub IsLeastAt : Table → Groups → Level → (k c least : ℕ) → Type 0
@@ -35,6 +36,30 @@ least-more t g l leasts i least within before here k c below = by_place (cases_e
     by_place (inr ne) =
         let old : get_or (slice_set leasts i least) k 0 ≡ get_or leasts k 0 = get_or-set_other leasts i k least 0 ne in
         rw old (before k c (omega arith))
+
+-- no class of the subpart at a place that is left costs less than is written for it
+abbrev pub IsCostAt : Table → Groups → Level → List ℕ → (k c : ℕ) → Type 0
+IsCostAt t g l costs k c = IfSome (slice_get t.subparts.now k) (λ s. s.first ≤ c → c < s.after → is_flagged t l.left.items c ≡ true → get_or costs (c - t.first) 0 ≤ priced_at t g l c)
+
+-- what is written for the classes of earlier subparts, and for those of one more, where nothing before its span changes
+pub costs-more : (t : Table) (g : Groups) (l : Level) (old new : List ℕ) (i : ℕ) (s : Span) → IsTable t → slice_get t.subparts.now i ≡ Some s
+    → ((k c : ℕ) → k < i → get_or l.chosen.items k None ≡ None → IsCostAt t g l old k c)
+    → ((j : ℕ) → j < s.first - t.first → get_or new j 0 ≡ get_or old j 0)
+    → ((c : ℕ) → s.first ≤ c → c < s.after → is_flagged t l.left.items c ≡ true → get_or new (c - t.first) 0 ≤ priced_at t g l c)
+    → (k c : ℕ) → k < i + 1 → get_or l.chosen.items k None ≡ None → IsCostAt t g l new k c
+costs-more t g l old new i s table there before kept here k c below come = by_place (cases_eq k i)
+  where
+    earlier : k < i → (r : Span) → slice_get t.subparts.now k ≡ Some r → r.first ≤ c → c < r.after → is_flagged t l.left.items c ≡ true → get_or new (c - t.first) 0 ≤ priced_at t g l c
+    earlier less r at from end left =
+        let was = rw at at (before k c less come) in
+        let ordered = spans-ordered t.first (t.first + t.count) t.subparts.now k i r s table.apart at there less in
+        let within = span-within t.first (t.first + t.count) t.subparts.now k r table.apart at in
+        let same : get_or new (c - t.first) 0 ≡ get_or old (c - t.first) 0 = kept (c - t.first) (omega (arith, ordered, within.0, from, end)) in
+        rw same (was from end left)
+
+    by_place : (k ≡ i) ⊎ (k ≡ i → ⊥) → IsCostAt t g l new k c
+    by_place (inl e) = rw (e, there) (λ from end left. here c from end left)
+    by_place (inr ne) = if-some (slice_get t.subparts.now k) (λ r. r.first ≤ c → c < r.after → is_flagged t l.left.items c ≡ true → get_or new (c - t.first) 0 ≤ priced_at t g l c) (earlier (omega (arith, ne, below)))
 
 -- the span of a subpart lies within the table
 pub span-there : (t : Table) → IsTable t → (k : ℕ) → k < length t.subparts.now
@@ -189,7 +214,7 @@ dear t g l b limit k c s table places groups node bound there above choice of is
     let old = b.leasts.now in
     let new = slice_set old k (f (get_or choice k 0)) in
     let n = length choice in
-    let within : n ≤ length old = omega (arith, long, table.few, bound.long) in
+    let within : n ≤ length old = omega (arith, long, table.few, bound.leasts.long) in
     let each = set-below f old choice k (omega (arith, long, below, within)) (least-under t g l old bound.leasts choice of) in
     let leasts : sum (take n new) ≤ sum_by f choice = front-below f new choice each in
     let put : sum (take n new) + get_or old k 0 ≡ sum (take n old) + f (get_or choice k 0) = front-set old n k (f (get_or choice k 0)) (omega (arith, long, below)) within in
@@ -197,3 +222,7 @@ dear t g l b limit k c s table places groups node bound there above choice of is
     let whole : sum (take (length t.subparts.now) old) ≡ sum (take n old) = rw long refl in
     let price : f (get_or choice k 0) ≡ f c = ap f is in
     omega (arith, above, leasts, put, has, whole, price, choice-priced t g l table groups node choice of, bound.sum, bound.owed)
+
+-- what is owed for the prices of a table's groups is small
+pub owed-small : (t : Table) (g : Groups) → IsTable t → AreGroups t g → owed_of g.prices.items ≤ 1099494850560
+owed-small t g table groups = omega (arith, owed-few g.prices.items groups.few, groups.room.prices, table.sized.small)

@@ -40,6 +40,17 @@ span-within first after (r ∷ subparts) (suc k) s apart at =
     let later = span-within r.after after subparts k s apart.2 at in
     (omega (arith, apart.0, apart.1, later.0), later.1, later.2)
 
+-- a span ends before a later one begins
+pub spans-ordered : (first after : ℕ) (subparts : List Span) (j k : ℕ) (r s : Span) → AreApart first subparts after → slice_get subparts j ≡ Some r
+    → slice_get subparts k ≡ Some s → j < k → r.after ≤ s.first
+spans-ordered first after [] j k r s apart here there less = absurd (cc here)
+spans-ordered first after (x ∷ subparts) j zero r s apart here there less = absurd (omega (arith, less))
+spans-ordered first after (x ∷ subparts) zero (suc k) r s apart here there less =
+    let same : x ≡ r = cc in
+    subst (λ (y : Span). y.after ≤ s.first) same (span-within x.after after subparts k s apart.2 there).0
+spans-ordered first after (x ∷ subparts) (suc j) (suc k) r s apart here there less =
+    spans-ordered x.after after subparts j k r s apart.2 here there (omega (arith, less))
+
 -- a span that is read at a place lies within the table
 pub span-at : (t : Table) (k : ℕ) (d : Span) → IsTable t → k < length t.subparts.now
     → (t.first ≤ (slice_index_or t.subparts.now k d).first) × ((slice_index_or t.subparts.now k d).first ≤ (slice_index_or t.subparts.now k d).after)

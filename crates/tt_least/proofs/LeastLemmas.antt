@@ -25,6 +25,7 @@ ready-after t old new before ready levels deep left trial = record {
     levels = levels;
     deep = omega (arith, before.room.deep, deep);
     groups = λ k d below. (ready.groups k d below).room;
+    costs = ready.costs;
     leasts = ready.leasts;
     front = ready.front;
     best = ready.best;

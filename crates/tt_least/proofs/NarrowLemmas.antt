@@ -1,5 +1,5 @@
 -- Nodes with fewer classes left.
-use Rattle.std.proofs.Common.{◌≡◌, ◌≢◌, ◌∙◌, ℕ, zero, suc, ◌+◌, ◌-◌, ◌<◌, Bool, true, false, List, [], ◌∷◌, Some, length, arith, refl, sym, ap, subst, inl, inr, get_or-set_other, length-set}
+use Rattle.std.proofs.Common.{◌≡◌, ◌≢◌, ◌∙◌, ℕ, zero, suc, ◌+◌, ◌-◌, ◌<◌, ◌≤◌, Bool, true, false, List, [], ◌∷◌, None, Some, length, arith, refl, sym, ap, subst, inl, inr, get_or-set_other, length-set}
 use Rattle.std.specs.Prelude.{All, slice_get, slice_index_or, slice_set}
 use Rattle.std.specs.List.{list_all}
 use Rattle.std.proofs.lemmas.Bool.{and_parts, cases_Bool, cases_eq}
@@ -14,9 +14,10 @@ use Rattle.tt_least.specs.declared.narrow.Bound.{Bound}
 use Rattle.tt_least.specs.declared.table.Table.{Table}
 use Rattle.tt_least.specs.Judged.{IsIn, IsTable, has_parent, is_allowed, is_flagged, pairs_in, parent_in}
 use Rattle.tt_least.specs.Nodes.{HasPlaces, IsLeft, IsNode, IsOf}
-use Rattle.tt_least.specs.Prices.{IsBound}
+use Rattle.tt_least.specs.Prices.{AreGroups, IsBound, priced_at}
 use Rattle.tt_least.specs.Results.{IsNarrowed}
-use Rattle.tt_least.proofs.ChoiceLemmas.{choice-in, choice-only}
+use Rattle.tt_least.proofs.BoundLemmas.{dear}
+use Rattle.tt_least.proofs.ChoiceLemmas.{choice-in, choice-only, within-span}
 
 -- a node of which nothing is taken out is narrowed
 pub narrowed-refl : (t : Table) (limit : ℕ) (l : Level) → IsNarrowed t limit l l
@@ -141,8 +142,12 @@ pub bound-out : (t : Table) (g : Groups) (c : ℕ) (old new : Level) (b : Bound)
 bound-out t g c old new b same out bound =
     let fewer : Level = record old { left = new.left } in
     let still : IsBound t g fewer b = record {
-      long = bound.long;
+      costs = record {
+        long = bound.costs.long;
+        each = λ k d come. IfSome_then (slice_get t.subparts.now k) (bound.costs.each k d come) (λ s h from below flagged. h from below (flag-kept old.left.items (c - t.first) (d - t.first) (rw out at flagged)));
+      };
       leasts = record {
+        long = bound.leasts.long;
         each = λ k d. IfSome_then (slice_get t.subparts.now k) (bound.leasts.each k d) (λ s h from below flagged. h from below (flag-kept old.left.items (c - t.first) (d - t.first) (rw out at flagged)));
       };
       sum = bound.sum;
@@ -175,3 +180,16 @@ listed-at t left choice k c s table h at inside listed =
     let there : is_in (slice_index_or choice place.0 0) s ≡ true = rw place.2 inside in
     let only = choice-only t.first (t.first + t.count) t.subparts.now choice k place.0 s table.apart h.one_of_each at place.1 there in
     rw only at place.2
+
+-- a class that costs so much more than the cheapest of its subpart that the bound is above the limit is in no choice that is sought
+pub too-dear : (t : Table) (g : Groups) (l : Level) (b : Bound) (limit k c : ℕ) (s : Span) → IsTable t → HasPlaces t.size l → AreGroups t g → IsNode t l → IsBound t g l b
+    → b.sum ≤ limit + b.owed → slice_get t.subparts.now k ≡ Some s → slice_index_or l.chosen.items k None ≡ None → s.first ≤ c → c < s.after
+    → slice_index_or b.leasts.now k 0 + (limit + b.owed - b.sum) < slice_index_or b.costs.now (c - t.first) 0 → IsUseless t l limit c
+too-dear t g l b limit k c s table places groups node bound within there come from below more = record {
+  each = λ choice h allowed listed.
+      let flagged : is_flagged t l.left.items c ≡ true = listed-passes (is_flagged t l.left.items) c choice h.is_left.are_left listed in
+      let costs = rw there at (bound.costs.each k c come) in
+      let cost : slice_index_or b.costs.now (c - t.first) 0 ≤ priced_at t g l c = costs from below flagged in
+      let above : limit < ((b.sum - slice_index_or b.leasts.now k 0) + priced_at t g l c) - b.owed = omega (arith, cost, more, within) in
+      dear t g l b limit k c s table places groups node bound there above choice h (listed-at t l.left.items choice k c s table h.is_left there (within-span c s from below) listed);
+}

@@ -1,5 +1,5 @@
 -- What prices of groups make sure of, and the sums of the numbers up to a price.
-use Rattle.std.proofs.Common.{◌≡◌, ℕ, suc, zero, ◌+◌, ◌*◌, ◌/◌, ◌<◌, ◌≤◌, Bool, true, cond, List, [], ◌∷◌, length, get_or, count_by, sum_by, arith, refl, sym, ap, inl, inr, ◌⊎◌, get_or-set_other, get_or-set_same}
+use Rattle.std.proofs.Common.{◌≡◌, ℕ, suc, zero, ◌+◌, ◌*◌, ◌/◌, ◌<◌, ◌≤◌, All, Bool, true, cond, List, [], ◌∷◌, length, get_or, count_by, sum_by, arith, refl, sym, ap, inl, inr, ◌⊎◌, get_or-set_other, get_or-set_same}
 use Rattle.std.specs.Prelude.{slice_set}
 use Rattle.std.proofs.Math.Nat.{mul-le-mul}
 use Rattle.std.proofs.lemmas.Bool.{cases_lt, cases_eq}
@@ -70,3 +70,11 @@ half-product n = omega (arith, twice-numbers n)
 -- the numbers up to a price come to no more than those up to the highest
 pub numbers-few : (n m : ℕ) → n ≤ m → numbers_up_to n + numbers_up_to n ≤ m * (m + 1)
 numbers-few n m le = omega (arith, twice-numbers n, mul-le-mul {n₁ = n} {m₁ = n + 1} {n₂ = m} {m₂ = m + 1} le (omega arith))
+
+-- what is owed for prices that are no higher than the highest
+pub owed-few : (prices : List ℕ) → All (λ price. price ≤ 65535) prices → owed_of prices ≤ length prices * 2147450880
+owed-few [] few = omega arith
+owed-few (price ∷ prices) few =
+    let one = numbers-few price 65535 (few 0 0 (omega arith)) in
+    let rest = owed-few prices (λ k d below. few (suc k) d (omega arith)) in
+    omega (arith, one, rest, sum_by-cons numbers_up_to price prices)

@@ -1,5 +1,5 @@
 -- Contract. Prices of groups of classes that all conflict with one another.
-use Rattle.std.specs.Prelude.{◌≡◌, ℕ, suc, zero, ◌+◌, ◌-◌, ◌<◌, ◌≤◌, true, cond, List, length, slice_get, slice_index_or, sum, sum_by, take, All, IfSome}
+use Rattle.std.specs.Prelude.{◌≡◌, ℕ, suc, zero, ◌+◌, ◌-◌, ◌<◌, ◌≤◌, true, cond, List, None, length, slice_get, slice_index_or, sum, sum_by, take, All, IfSome}
 use Rattle.tt_least.specs.declared.table.Table.{Table}
 use Rattle.tt_least.specs.declared.level.Level.{Level}
 use Rattle.tt_least.specs.declared.groups.Groups.{Groups}
@@ -28,6 +28,7 @@ owed_of prices = sum_by numbers_up_to prices
 -- there is a place for each class and each group
 pub record HasRoomForGroups (size : ℕ) (g : Groups) : Type 0 where
   pub groups : length g.group_of.items ≡ size
+  pub names : length g.names.items ≡ size
   pub prices : length g.prices.items ≡ size
   pub alone : length g.alone.items ≡ size
   pub among : length g.among.items ≡ size
@@ -36,20 +37,29 @@ pub record HasRoomForGroups (size : ℕ) (g : Groups) : Type 0 where
 pub record AreGroups (t : Table) (g : Groups) : Type 0 where
   pub room : HasRoomForGroups t.size g
   pub few : All (λ price. price ≤ most_price) g.prices.items
+  pub owed : g.owed ≡ owed_of g.prices.items
   pub below : All (λ group. group < t.size) g.group_of.items
+  pub names : All (λ group. group < t.size) g.names.items
+  pub listed : g.count ≤ t.size
   pub each : (c d : ℕ) → IsIn t c → IsIn t d → group_in t g c ≡ group_in t g d → conflict_in t c d ≡ true
 
 -- what a class that is still to come costs, the price of its group added, and 0 of another one
 abbrev pub priced_at : Table → Groups → Level → ℕ → ℕ
 priced_at t g l c = cond (is_flagged t l.to_come.items c) (weight_at t l c + price_in t g c) 0
 
+-- of the subparts whose class is still to come, no class that is left costs less
+pub record AreCosts (t : Table) (g : Groups) (l : Level) (costs : List ℕ) : Type 0 where
+  pub long : length costs ≡ t.size
+  pub each : (k c : ℕ) → slice_index_or l.chosen.items k None ≡ None → IfSome (slice_get t.subparts.now k) (λ s. s.first ≤ c → c < s.after → is_flagged t l.left.items c ≡ true → slice_index_or costs (c - t.first) 0 ≤ priced_at t g l c)
+
 -- for each subpart, no class that is left costs less
 pub record AreLeast (t : Table) (g : Groups) (l : Level) (leasts : List ℕ) : Type 0 where
+  pub long : length leasts ≡ t.size
   pub each : (k c : ℕ) → IfSome (slice_get t.subparts.now k) (λ s. s.first ≤ c → c < s.after → is_flagged t l.left.items c ≡ true → slice_index_or leasts k 0 ≤ priced_at t g l c)
 
 -- what the choices of a node cost at least, by the prices of groups
 pub record IsBound (t : Table) (g : Groups) (l : Level) (b : Bound) : Type 0 where
-  pub long : length b.leasts.now ≡ t.size
+  pub costs : AreCosts t g l b.costs.now
   pub leasts : AreLeast t g l b.leasts.now
   pub sum : b.sum ≤ l.pairs + sum (take (length t.subparts.now) b.leasts.now)
   pub owed : b.owed ≡ owed_of g.prices.items

@@ -39,6 +39,7 @@ pub record IsLeast (t : Table) (left : List Bool) (choice : List ℕ) : Type 0 w
 -- lists of the search with room for each class, and groups of classes
 pub record IsReady (t : Table) (w : Scratch) : Type 0 where
   pub groups : All (AreGroups t) w.groups.items
+  pub costs : length w.costs.items ≡ t.size
   pub leasts : length w.leasts.items ≡ t.size
   pub front : length w.front.items ≡ t.size
   pub best : length w.best.items ≡ t.size

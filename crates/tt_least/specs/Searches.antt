@@ -16,6 +16,7 @@ pub record HasRoomToSearch (size parts : ℕ) (w : Search) : Type 0 where
   pub levels : All (HasPlaces size) w.levels.items
   pub deep : parts < length w.levels.items
   pub groups : All (HasRoomForGroups size) w.scratch.groups.items
+  pub costs : length w.scratch.costs.items ≡ size
   pub leasts : length w.scratch.leasts.items ≡ size
   pub front : length w.scratch.front.items ≡ size
   pub best : length w.scratch.best.items ≡ size

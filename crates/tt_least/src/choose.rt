@@ -17,7 +17,8 @@ fn clear(flags: &mut [bool], first: u32, span: Span)
     ensures none { (c : ℕ) → is_in c span ≡ true
         → slice_index_or flags.new (c - first) false ≡ false }
     ensures others { (c : ℕ) → first ≤ c → is_in c span ≡ false
-        → slice_index_or flags.new (c - first) false ≡ slice_index_or flags.old (c - first) false }
+        → slice_index_or flags.new (c - first) false
+        ≡ slice_index_or flags.old (c - first) false }
 {
     flags[(span.first - first) as usize..(span.after - first) as usize].fill(false);
 }

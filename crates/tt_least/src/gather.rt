@@ -4,6 +4,7 @@ ghost use Rattle.std.specs.Prelude.{◌≡◌, ℕ, ◌<◌, true, length, IfSom
 ghost use Rattle.tt_least.specs.Judged.{IsIn, IsMutual, IsSized, conflict_in};
 ghost use Rattle.tt_least.specs.Prices.{AreGroups, HasRoomForGroups, group_in};
 
+use crate::change::owed;
 use crate::groups::Groups;
 use crate::table::Table;
 
@@ -15,8 +16,11 @@ fn part_all(table: &Table, groups: &mut Groups)
     ensures { AreGroups table.now groups.new }
 {
     groups.prices.as_mut_slice().fill(0);
-    for place in 0..groups.group_of.len() {
-        groups.group_of[place] = place as u32;
+    groups.owed = owed(groups.prices.as_slice());
+    groups.count = 0;
+    for place in 0..table.size {
+        groups.group_of[place as usize] = place;
+        groups.names[place as usize] = place;
     }
 }
 
@@ -25,8 +29,8 @@ fn fits(table: &Table, groups: &Groups, class: u32, group: u32) -> bool
     requires sized { IsSized table.now }
     requires groups { AreGroups table.now groups.now }
     requires class { IsIn table.now class }
-    ensures { result ≡ true → (d : ℕ) → IsIn table.now d → group_in table.now groups.now d ≡ group
-        → conflict_in table.now class d ≡ true }
+    ensures { result ≡ true → (d : ℕ) → IsIn table.now d
+        → group_in table.now groups.now d ≡ group → conflict_in table.now class d ≡ true }
 {
     let row = table.row(class);
     for place in 0..table.count as usize {
@@ -60,6 +64,21 @@ fn is_seed(groups: &Groups, place: u32) -> bool
     groups.group_of[place as usize] == place
 }
 
+/// Lists the groups by their names.
+pub(crate) fn list_names(table: &Table, groups: &mut Groups)
+    requires groups { AreGroups table.now groups.old }
+    ensures { AreGroups table.now groups.new }
+{
+    let mut count = 0;
+    for place in 0..table.size {
+        if is_seed(groups, place) {
+            groups.names[count] = place;
+            count += 1;
+        }
+    }
+    groups.count = count;
+}
+
 // Puts a class into the group of the last class behind it with all of which it conflicts, if there
 // is one.
 fn join_behind(table: &Table, groups: &mut Groups, place: u32)
@@ -91,6 +110,36 @@ pub(crate) fn gather_from_last(table: &Table, groups: &mut Groups)
     while place > 0 {
         place -= 1;
         join_behind(table, groups, place);
+    }
+}
+
+// Puts a class into the group of the first class before it with all of which it conflicts, if there
+// is one.
+fn join_before(table: &Table, groups: &mut Groups, place: u32)
+    requires sized { IsSized table.now }
+    requires both_ways { IsMutual table.now }
+    requires groups { AreGroups table.now groups.old }
+    requires place { place < table.now.count }
+    ensures { AreGroups table.now groups.new }
+{
+    for seed in 0..place {
+        if is_seed(groups, seed) && join(table, groups, table.first + place, seed) {
+            return;
+        }
+    }
+}
+
+/// Gathers groups from the first class on: each class goes into the first group with all of which
+/// it conflicts, the groups of earlier classes first.
+pub(crate) fn gather_from_first(table: &Table, groups: &mut Groups)
+    requires sized { IsSized table.now }
+    requires both_ways { IsMutual table.now }
+    requires room { HasRoomForGroups table.now.size groups.old }
+    ensures { AreGroups table.now groups.new }
+{
+    part_all(table, groups);
+    for place in 0..table.count {
+        join_before(table, groups, place);
     }
 }
 

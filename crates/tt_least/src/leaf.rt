@@ -77,7 +77,8 @@ fn are_left(table: &Table, left: &[bool], choice: &[u32]) -> bool
 fn write_front(level: &Level, front: &mut [u32], parts: usize)
     requires chosen { parts ≤ length level.now.chosen.items }
     requires front { parts ≤ length front.old }
-    requires all { (k : ℕ) → k < parts → slice_index_or level.now.chosen.items k None ≢ None }
+    requires all { (k : ℕ) → k < parts
+        → slice_index_or level.now.chosen.items k None ≢ None }
     ensures { (k : ℕ) → k < parts
         → slice_index_or level.now.chosen.items k None ≡ Some (slice_index_or front.new k 0) }
 {
@@ -88,8 +89,8 @@ fn write_front(level: &Level, front: &mut [u32], parts: usize)
     }
 }
 
-// Whether a choice is of what is left, allowed, and has so many pairs or fewer.
-fn is_within(table: &Table, left: &[bool], choice: &[u32], limit: u64) -> bool
+/// Whether a choice is of what is left, allowed, and has so many pairs or fewer.
+pub(crate) fn is_within(table: &Table, left: &[bool], choice: &[u32], limit: u64) -> bool
     requires table { IsTable table.now }
     requires left { length left.now ≡ table.now.size }
     requires choice { IsChoice table.now.subparts.now choice.now }
@@ -101,8 +102,8 @@ fn is_within(table: &Table, left: &[bool], choice: &[u32], limit: u64) -> bool
     are_left(table, left, choice) && pairs_of(table, choice) <= limit && is_allowed(table, choice)
 }
 
-// Writes a choice at the front of a buffer.
-fn keep(choice: &[u32], best: &mut [u32])
+/// Writes a choice at the front of a buffer.
+pub(crate) fn keep(choice: &[u32], best: &mut [u32])
     requires { length choice.now ≤ length best.old }
     ensures { take (length choice.now) best.new ≡ choice.now }
 {

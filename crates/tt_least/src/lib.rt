@@ -7,6 +7,7 @@ mod bound;
 mod change;
 mod choose;
 mod dominate;
+mod exchange;
 mod gather;
 mod groups;
 mod leaf;

@@ -1,14 +1,14 @@
 //! What is left of a node once classes are taken out with which no choice has few enough pairs.
 
-ghost use Rattle.std.specs.Prelude.{◌≡◌, ℕ, ◌+◌, ◌<◌, ◌≤◌, true, false, List, IfSome, length, slice_get};
+ghost use Rattle.std.specs.Prelude.{◌≡◌, ℕ, ◌+◌, ◌<◌, ◌≤◌, None, true, false, List, length, slice_index_or};
 ghost use Rattle.tt_base.specs.Lists.{is_listed};
-ghost use Rattle.tt_problem.specs.Spans.{is_in};
-ghost use Rattle.tt_least.specs.Judged.{IsIn, IsTable, is_allowed, pairs_in};
+ghost use Rattle.tt_least.specs.Judged.{IsIn, IsTable, is_allowed};
+ghost use Rattle.tt_least.specs.Limits.{most_pairs};
 ghost use Rattle.tt_least.specs.Nodes.{HasPlaces, IsNode, IsOf};
 ghost use Rattle.tt_least.specs.Prices.{AreGroups, IsBound};
 ghost use Rattle.tt_least.specs.Results.{IsInVain, IsNarrowed, IsReady};
 
-use crate::bound::{owed, priced, write_leasts};
+use crate::bound::write_costs;
 use crate::change::change_price;
 use crate::groups::Groups;
 use crate::level::Level;
@@ -45,42 +45,19 @@ fn drop_orphans(table: &Table, level: &mut Level)
     }
 }
 
-/// What the choices of a node cost at least: what the cheapest class of each subpart costs, their
-/// sum with the pairs that are counted, and what of it is owed for prices.
+/// What the choices of a node cost at least: what each class costs, the cheapest class of each
+/// subpart that is still to come, their sum with the pairs that are counted, and what of it is owed
+/// for prices.
 #[derive(Clone, Copy)]
 pub(crate) struct Bound<'a> {
+    pub costs: &'a [u64],
     pub leasts: &'a [u64],
     pub sum: u64,
     pub owed: u64,
 }
 
-// Whether each choice with a class of a subpart costs more than the limit.
-fn is_dear(
-    table: &Table,
-    groups: &Groups,
-    level: &Level,
-    bound: Bound,
-    part: usize,
-    class: u32,
-    limit: u64,
-) -> bool
-    requires table { IsTable table.now }
-    requires groups { AreGroups table.now groups.now }
-    requires places { HasPlaces table.now.size level.now }
-    requires node { IsNode table.now level.now }
-    requires bound { IsBound table.now groups.now level.now bound }
-    requires part { part < length table.now.subparts.now }
-    requires class { IfSome (slice_get table.now.subparts.now part)
-        (λ s. is_in class s ≡ true) }
-    ensures { result ≡ true → (choice : List ℕ) → IsOf table.now level.now choice
-        → is_listed class choice ≡ true → limit < pairs_in table.now choice }
-{
-    let others = bound.sum.saturating_sub(bound.leasts[part]);
-    let cost = others.saturating_add(priced(table, groups, level, class));
-    cost.saturating_sub(bound.owed) > limit
-}
-
-// Takes out of a subpart the classes with which each choice costs more than the limit.
+// Takes out of a subpart that is still to come the classes that cost so much more than the cheapest
+// that each choice with them costs more than the limit.
 fn drop_dear_of(
     table: &Table,
     groups: &Groups,
@@ -94,29 +71,40 @@ fn drop_dear_of(
     requires places { HasPlaces table.now.size level.old }
     requires node { IsNode table.now level.old }
     requires bound { IsBound table.now groups.now level.old bound }
+    requires above { bound.sum ≤ limit + bound.owed }
+    requires few { limit < most_pairs }
     requires part { part < length table.now.subparts.now }
+    requires come { slice_index_or level.old.chosen.items part None ≡ None }
     ensures narrowed { IsNarrowed table.now limit level.old level.new }
     ensures bound { IsBound table.now groups.now level.new bound.entry }
 {
     let span = table.subparts[part];
+    let least = bound.leasts[part];
+    let spare = limit + bound.owed - bound.sum;
     for class in span.first..span.after {
-        if is_dear(table, groups, level, bound, part, class, limit) {
-            level.left[(class - table.first) as usize] = false;
+        let place = (class - table.first) as usize;
+        if bound.costs[place].saturating_sub(least) > spare {
+            level.left[place] = false;
         }
     }
 }
 
-// Takes out of each subpart the classes with which each choice costs more than the limit.
+// Takes out of each subpart that is still to come the classes with which each choice costs more
+// than the limit.
 fn drop_dear(table: &Table, groups: &Groups, level: &mut Level, bound: Bound, limit: u64)
     requires table { IsTable table.now }
     requires groups { AreGroups table.now groups.now }
     requires places { HasPlaces table.now.size level.old }
     requires node { IsNode table.now level.old }
     requires bound { IsBound table.now groups.now level.old bound }
+    requires above { bound.sum ≤ limit + bound.owed }
+    requires few { limit < most_pairs }
     ensures { IsNarrowed table.now limit level.old level.new }
 {
     for part in 0..table.subparts.len() {
-        drop_dear_of(table, groups, level, bound, part, limit);
+        if level.chosen[part].is_none() {
+            drop_dear_of(table, groups, level, bound, part, limit);
+        }
     }
 }
 
@@ -126,6 +114,7 @@ fn narrow_by(
     table: &Table,
     groups: &Groups,
     level: &mut Level,
+    costs: &mut [u64],
     leasts: &mut [u64],
     limit: u64,
 ) -> bool
@@ -133,18 +122,27 @@ fn narrow_by(
     requires groups { AreGroups table.now groups.now }
     requires places { HasPlaces table.now.size level.old }
     requires node { IsNode table.now level.old }
+    requires costs { length costs.old ≡ table.now.size }
     requires leasts { length leasts.old ≡ table.now.size }
+    requires few { limit < most_pairs }
+    ensures costs { length costs.new ≡ table.now.size }
     ensures leasts { length leasts.new ≡ table.now.size }
     ensures narrowed { IsNarrowed table.now limit level.old level.new }
     ensures none { result ≡ false
         → IsInVain table.now level.old limit }
 {
-    let sum = write_leasts(table, groups, level, leasts);
-    let owed = owed(groups.prices.as_slice());
-    if sum.saturating_sub(owed) > limit {
+    let sum = write_costs(table, groups, level, costs, leasts);
+    let owed = groups.owed;
+    if sum > limit + owed {
         return false;
     }
-    drop_dear(table, groups, level, Bound { leasts, sum, owed }, limit);
+    let bound = Bound {
+        costs,
+        leasts,
+        sum,
+        owed,
+    };
+    drop_dear(table, groups, level, bound, limit);
     true
 }
 
@@ -153,6 +151,7 @@ fn narrow_often(
     table: &Table,
     groups: &mut Groups,
     level: &mut Level,
+    costs: &mut [u64],
     leasts: &mut [u64],
     limit: u64,
 ) -> bool
@@ -160,17 +159,19 @@ fn narrow_often(
     requires groups { AreGroups table.now groups.old }
     requires places { HasPlaces table.now.size level.old }
     requires node { IsNode table.now level.old }
+    requires costs { length costs.old ≡ table.now.size }
     requires leasts { length leasts.old ≡ table.now.size }
+    requires few { limit < most_pairs }
     ensures groups { AreGroups table.now groups.new }
     ensures narrowed { IsNarrowed table.now limit level.old level.new }
     ensures none { result ≡ false
         → IsInVain table.now level.old limit }
 {
     for _ in 0..CHANGES {
-        if !narrow_by(table, groups, level, leasts, limit) {
+        if !narrow_by(table, groups, level, costs, leasts, limit) {
             return false;
         }
-        if !change_price(table, groups, level, leasts) {
+        if !change_price(table, groups, level, costs, leasts) {
             return true;
         }
     }
@@ -184,6 +185,7 @@ pub(crate) fn narrow(table: &Table, scratch: &mut Scratch, level: &mut Level, li
     requires ready { IsReady table.now scratch.old }
     requires places { HasPlaces table.now.size level.old }
     requires node { IsNode table.now level.old }
+    requires few { limit < most_pairs }
     ensures ready { IsReady table.now scratch.new }
     ensures best { scratch.new.best.items ≡ scratch.old.best.items }
     ensures narrowed { IsNarrowed table.now limit level.old level.new }
@@ -191,10 +193,11 @@ pub(crate) fn narrow(table: &Table, scratch: &mut Scratch, level: &mut Level, li
         → IsInVain table.now level.old limit }
 {
     drop_orphans(table, level);
+    let costs = scratch.costs.as_mut_slice();
     let leasts = scratch.leasts.as_mut_slice();
     let groups = scratch.groups.as_mut_slice();
     for place in 0..groups.len() {
-        if !narrow_often(table, &mut groups[place], level, leasts, limit) {
+        if !narrow_often(table, &mut groups[place], level, costs, leasts, limit) {
             return false;
         }
     }

@@ -9,7 +9,7 @@ ghost use Rattle.tt_least.specs.Prices.{HasRoomForGroups};
 ghost use Rattle.tt_least.specs.Results.{IsInVain, IsReady, IsWithin, NoneWithin};
 ghost use Rattle.tt_least.specs.Searches.{HasRoomToSearch};
 
-use crate::bound::priced;
+use crate::bound::write_costs;
 use crate::choose::choose;
 use crate::dominate::drop_dominated;
 use crate::groups::Groups;
@@ -19,6 +19,7 @@ use crate::narrow::narrow;
 use crate::scratch::Scratch;
 use crate::table::Table;
 use std::alloc::{AllocError, Global};
+use tt_problem::Span;
 
 /// What a search works in: a level for each subpart and one more, and which classes may be chosen.
 #[derive(Drop)]
@@ -29,19 +30,6 @@ pub struct Search {
     pub trial: Vec<bool>,
 }
 
-// What a class of a subpart still to come costs, the price of its group in the first table added.
-fn cost_of(table: &Table, scratch: &Scratch, level: &Level, class: u32) -> u64
-    requires table { IsTable table.now }
-    requires ready { IsReady table.now scratch.now }
-    requires level { HasPlaces table.now.size level.now }
-    requires class { IsIn table.now class }
-{
-    match scratch.groups.first() {
-        Some(groups) => priced(table, groups, level, class),
-        None => level.weights[(class - table.first) as usize],
-    }
-}
-
 // How many classes are left of a subpart, and how far they are from the cheapest, all together.
 #[derive(Clone, Copy)]
 struct Spread {
@@ -49,23 +37,22 @@ struct Spread {
     above: u64,
 }
 
-// What is left of a subpart whose class is still to come.
-fn spread_of(table: &Table, scratch: &Scratch, level: &Level, part: usize) -> Spread
-    requires table { IsTable table.now }
-    requires ready { IsReady table.now scratch.now }
+// What is left of the classes of a span.
+fn spread_of(table: &Table, level: &Level, costs: &[u64], span: Span) -> Spread
     requires level { HasPlaces table.now.size level.now }
-    requires part { part < length table.now.subparts.now }
+    requires costs { length costs.now ≡ table.now.size }
+    requires from { table.now.first ≤ span.first }
+    requires within { span.after ≤ table.now.first + table.now.size }
 {
-    let span = table.subparts[part];
     let mut count: u64 = 0;
     let mut least = u64::MAX;
     let mut sum: u64 = 0;
     for class in span.first..span.after {
-        if table.has(level.left.as_slice(), class) {
-            let cost = cost_of(table, scratch, level, class);
+        let place = (class - table.first) as usize;
+        if level.left[place] {
             count = count.saturating_add(1);
-            sum = sum.saturating_add(cost);
-            least = least.min(cost);
+            sum = sum.saturating_add(costs[place]);
+            least = least.min(costs[place]);
         }
     }
     Spread {
@@ -74,12 +61,13 @@ fn spread_of(table: &Table, scratch: &Scratch, level: &Level, part: usize) -> Sp
     }
 }
 
-// The subpart whose class is chosen next: of those still to come the one with the fewest classes
-// left, of equal ones the one whose classes are farthest from the cheapest.
-fn next_part(table: &Table, scratch: &Scratch, level: &Level) -> Option<usize>
+// The subpart whose class is chosen next, where each class costs so much: of those still to come
+// the one with the fewest classes left, of equal ones the one whose classes are farthest from the
+// cheapest.
+fn next_part(table: &Table, level: &Level, costs: &[u64]) -> Option<usize>
     requires table { IsTable table.now }
-    requires ready { IsReady table.now scratch.now }
     requires level { HasPlaces table.now.size level.now }
+    requires costs { length costs.now ≡ table.now.size }
     ensures some { IfSome result (λ k. k < length table.now.subparts.now) }
     ensures come { IfSome result (λ k. slice_index_or level.now.chosen.items k None ≡ None) }
     ensures none { result ≡ None → (k : ℕ) → k < length table.now.subparts.now
@@ -89,7 +77,7 @@ fn next_part(table: &Table, scratch: &Scratch, level: &Level) -> Option<usize>
     let mut next = Spread { count: 0, above: 0 };
     for part in 0..table.subparts.len() {
         if level.chosen[part].is_none() {
-            let spread = spread_of(table, scratch, level, part);
+            let spread = spread_of(table, level, costs, table.subparts[part]);
             if best.is_none()
                 || spread.count < next.count
                 || (spread.count == next.count && spread.above > next.above)
@@ -100,6 +88,21 @@ fn next_part(table: &Table, scratch: &Scratch, level: &Level) -> Option<usize>
         }
     }
     best
+}
+
+// Writes what each class costs, with the prices of the first table of groups.
+fn write_first(table: &Table, scratch: &mut Scratch, level: &Level)
+    requires table { IsTable table.now }
+    requires ready { IsReady table.now scratch.old }
+    requires level { HasPlaces table.now.size level.now }
+    requires node { IsNode table.now level.now }
+    ensures ready { IsReady table.now scratch.new }
+    ensures best { scratch.new.best.items ≡ scratch.old.best.items }
+{
+    if let Some(groups) = scratch.groups.first() {
+        let costs = scratch.costs.as_mut_slice();
+        write_costs(table, groups, level, costs, scratch.leasts.as_mut_slice());
+    }
 }
 
 // Whether an allowed choice of a node has so many pairs or fewer; it then stands at the front of
@@ -132,7 +135,8 @@ fn seek(
     if !narrow(table, scratch, level, limit) {
         return false;
     }
-    match next_part(table, scratch, level) {
+    write_first(table, scratch, level);
+    match next_part(table, level, scratch.costs.as_slice()) {
         None => keep_choice(table, scratch, level, limit),
         Some(part) => seek_below(table, scratch, level, deeper, part, limit),
     }
@@ -272,7 +276,10 @@ fn new_groups(alloc: Global, size: usize) -> Result<Groups, AllocError>
 {
     Ok(Groups {
         group_of: vec![in alloc; 0; size]?,
+        names: vec![in alloc; 0; size]?,
+        count: 0,
         prices: vec![in alloc; 0; size]?,
+        owed: 0,
         alone: vec![in alloc; 0; size]?,
         among: vec![in alloc; 0; size]?,
     })
@@ -298,13 +305,15 @@ impl Search {
         requires parts { parts < 2 ^ 32 }
         ensures { IfOk result (HasRoomToSearch size parts) }
     {
-        let mut groups = Vec::with_capacity(alloc, 2)?;
+        let mut groups = Vec::with_capacity(alloc, 3)?;
+        groups.push(new_groups(alloc, size)?)?;
         groups.push(new_groups(alloc, size)?)?;
         groups.push(new_groups(alloc, size)?)?;
         Ok(Search {
             levels: new_levels(alloc, size, parts)?,
             scratch: Scratch {
                 groups,
+                costs: vec![in alloc; 0; size]?,
                 leasts: vec![in alloc; 0; size]?,
                 front: vec![in alloc; 0; size]?,
                 best: vec![in alloc; 0; size]?,

@@ -9,9 +9,9 @@ ghost use Rattle.tt_least.specs.Prices.{AreGroups, HasRoomForGroups};
 ghost use Rattle.tt_least.specs.Results.{IsLeast, IsWithin, NoneWithin};
 ghost use Rattle.tt_least.specs.Searches.{HasRoomToSearch, IsAlone, IsReadyToSearch, IsSettled, found_in};
 
-use crate::gather::{gather_from_last, gather_round_fewest};
+use crate::exchange::exchange;
+use crate::gather::{gather_from_first, gather_from_last, gather_round_fewest, list_names};
 use crate::groups::Groups;
-use crate::leaf::pairs_of;
 use crate::search::{Search, exists};
 use crate::table::Table;
 use tt_problem::Span;
@@ -41,14 +41,16 @@ fn exists_with(table: &Table, search: &mut Search, part: usize, class: u32, limi
     ensures left { search.new.left.items ≡ search.old.left.items }
     ensures some { result ≡ true
         → IsWithin table.now search.old.left.items limit (found_in table.now search.new) }
-    ensures with { result ≡ true → slice_index_or search.new.scratch.best.items part 0 ≡ class }
+    ensures with { result ≡ true
+        → slice_index_or search.new.scratch.best.items part 0 ≡ class }
     ensures none { result ≡ false
         → (choice : List ℕ)
         → IsLeft table.now search.old.left.items choice
         → slice_index_or choice part 0 ≡ class
         → is_allowed table.now choice ≡ true
         → limit < pairs_in table.now choice }
-    ensures best { result ≡ false → search.new.scratch.best.items ≡ search.old.scratch.best.items }
+    ensures best { result ≡ false
+        → search.new.scratch.best.items ≡ search.old.scratch.best.items }
 {
     if !table.has(search.left.as_slice(), class) {
         return false;
@@ -129,7 +131,8 @@ fn settle_all(table: &Table, search: &mut Search, limit: u64)
     }
 }
 
-// The fewest pairs of a choice of what is left, of which one is found already.
+// The fewest pairs of a choice of what is left, of which one is found already. What exchanges find
+// has mostly the fewest, so that limits just below are asked first.
 fn fewest(table: &Table, search: &mut Search, most: u64) -> u64
     requires table { IsTable table.now }
     requires ready { IsReadyToSearch table.now search.old }
@@ -143,11 +146,11 @@ fn fewest(table: &Table, search: &mut Search, most: u64) -> u64
     ensures fewest { (choice : List ℕ) → IsLeft table.now search.old.left.items choice
         → is_allowed table.now choice ≡ true → result ≤ pairs_in table.now choice }
 {
-    let parts = table.subparts.len();
     let mut low = 0;
-    let mut high = pairs_of(table, &search.scratch.best.as_slice()[..parts]);
+    let mut high = exchange(table, &mut search.scratch, search.left.as_slice(), most);
+    let mut step: u64 = 1;
     while low < high {
-        let middle = low + (high - low) / 2;
+        let middle = (low + (high - low) / 2).max(high.saturating_sub(step));
         if exists(
             table,
             &mut search.scratch,
@@ -156,6 +159,7 @@ fn fewest(table: &Table, search: &mut Search, most: u64) -> u64
             middle,
         ) {
             high = middle;
+            step = step.saturating_mul(2);
         } else {
             low = middle + 1;
         }
@@ -192,7 +196,7 @@ pub fn least(table: &Table, search: &mut Search, most: u64) -> Option<u64>
     Some(pairs)
 }
 
-// Gathers the classes into groups, in two ways.
+// Gathers the classes into groups, in as many ways as there are tables of groups.
 fn gather(table: &Table, search: &mut Search)
     requires table { IsTable table.now }
     requires room { HasRoomToSearch table.now.size (length table.now.subparts.now) search.old }
@@ -216,9 +220,10 @@ fn gather_at(table: &Table, groups: &mut Groups, waiting: &mut [bool], place: us
     requires waiting { length waiting.old ≡ table.now.size }
     ensures { AreGroups table.now groups.new }
 {
-    if place == 0 {
-        gather_round_fewest(table, groups, waiting);
-    } else {
-        gather_from_last(table, groups);
+    match place {
+        0 => gather_round_fewest(table, groups, waiting),
+        1 => gather_from_last(table, groups),
+        _ => gather_from_first(table, groups),
     }
+    list_names(table, groups);
 }

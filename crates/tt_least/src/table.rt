@@ -72,7 +72,8 @@ impl Table<'_> {
         requires class { IsIn self.now class }
         ensures len { length result.now ≡ self.now.size }
         ensures row { (d : ℕ) → IsIn self.now d
-            → slice_index_or result.now (d - self.now.first) false ≡ conflict_in self.now class d }
+            → slice_index_or result.now (d - self.now.first) false
+            ≡ conflict_in self.now class d }
     {
         let start = self.place(class) * self.size as usize;
         &self.conflicts[start..start + self.size as usize]

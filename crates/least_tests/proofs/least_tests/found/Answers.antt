@@ -16,6 +16,7 @@ least-requires-clause-room c =
       levels = r.levels;
       deep = r.deep;
       groups = r.groups;
+      costs = r.costs;
       leasts = r.leasts;
       front = r.front;
       best = r.best;

@@ -1,42 +1,45 @@
-use Rattle.std.proofs.Common.{arith, refl}
-use Rattle.tt_least.proofs.BoundLemmas.{span-there}
-use Rattle.tt_least.proofs.ChoiceLemmas.{within-span}
+use Rattle.std.proofs.Common.{◌≡◌, ◌+◌, ◌-◌, ◌<◌, None, arith, ap, refl, get_or, ◌∙◌}
+use Rattle.tt_least.specs.declared.level.Level.{Level}
+use Rattle.tt_least.proofs.BoundLemmas.{owed-small, span-there}
 use Rattle.tt_least.proofs.NodeLemmas.{class-in}
-use Rattle.tt_least.proofs.NarrowLemmas.{IsUseless, places-narrowed, narrowed-trans, narrowed-out, node-narrowed, bound-out}
+use Rattle.tt_least.proofs.NarrowLemmas.{IsUseless, places-narrowed, narrowed-trans, narrowed-out, node-narrowed, bound-out, too-dear}
 use Rattle.tt_least.proofs.narrow.drop_dear_of.Goals as goal
-use Rattle.tt_least.proofs.narrow.drop_dear_of.Goals.{then-is_dear, else-is_dear}
+use Rattle.tt_least.proofs.narrow.drop_dear_of.Goals.{then-saturating_sub-spare, else-saturating_sub-spare}
 
-pub is_dear-requires-clause-node : goal.is_dear-requires-clause-node
-is_dear-requires-clause-node c = node-narrowed c.args.table.now c.args.limit c.args.level.now c.loop-class.level c.loop-class.invariant.narrowed c.requires.node
+pub overflow_add-spare : goal.overflow_add-spare
+overflow_add-spare c = omega (arith, owed-small c.args.table.now c.args.groups.now c.requires.table c.requires.groups, c.requires.bound.owed, c.requires.few)
 
-pub is_dear-requires-clause-class : goal.is_dear-requires-clause-class
-is_dear-requires-clause-class c =
+pub bounds-bound-place : goal.bounds-bound-place
+bounds-bound-place c =
     let there = span-there c.args.table.now c.requires.table c.args.part c.requires.part in
-    rw there.0 (within-span c.loop-class.class _ (omega arith) (omega arith))
+    omega (arith, there.1, there.2, c.requires.bound.costs.long, c.requires.table.sized.few)
 
-pub overflow_sub-class : goal.overflow_sub-class
-overflow_sub-class c =
+pub overflow_sub-place : goal.overflow_sub-place
+overflow_sub-place c =
     let there = span-there c.args.table.now c.requires.table c.args.part c.requires.part in
     omega (arith, there.1)
-
-pub index_mut-requires : goal.index_mut-requires
-index_mut-requires c =
-    let there = span-there c.args.table.now c.requires.table c.args.part c.requires.part in
-    let places = places-narrowed c.args.table.now c.args.limit c.args.table.now.size c.args.level.now c.loop-class.level c.loop-class.invariant.narrowed c.requires.places in
-    omega (arith, there.1, there.2, places.left, c.requires.table.sized.few)
 
 pub loop-class-preserved : goal.loop-class-preserved
 loop-class-preserved c =
     let t = c.args.table.now in
+    let k = c.args.part in
+    let class = c.loop-class.class in
+    let l = c.loop-class.level in
     let before = c.loop-class.invariant in
-    let there = span-there t c.requires.table c.args.part c.requires.part in
-    elim c.if-is_dear.branch [
-      | then-is_dear w ↦
-          let useless : IsUseless t c.loop-class.level c.args.limit c.loop-class.class = record { each = λ choice h allowed listed. c.is_dear.ensures w.if-is_dear.true choice h listed } in
-          let here = class-in t c.args.part c.loop-class.class _ c.requires.table there.0 (omega arith) (omega arith) in
+    let there = span-there t c.requires.table k c.requires.part in
+    elim c.if-saturating_sub-spare.branch [
+      | then-saturating_sub-spare w ↦
+          let come : get_or l.chosen.items k None ≡ None = ap (λ (x : Level). get_or x.chosen.items k None) before.narrowed.same ∙ c.requires.come in
+          let above : c.args.limit + c.args.bound.owed - c.args.bound.sum < c.saturating_sub.result = omega (arith, w.if-saturating_sub-spare.true) in
+          let more : get_or c.args.bound.leasts.now k 0 + (c.args.limit + c.args.bound.owed - c.args.bound.sum) < get_or c.args.bound.costs.now (class - t.first) 0
+          = omega (arith, above, c.saturating_sub.ensures) in
+          let useless : IsUseless t l c.args.limit class = too-dear t c.args.groups.now l c.args.bound c.args.limit k class _ c.requires.table
+          (places-narrowed t c.args.limit t.size c.args.level.now l before.narrowed c.requires.places) c.requires.groups
+          (node-narrowed t c.args.limit c.args.level.now l before.narrowed c.requires.node) before.bound c.requires.above there.0 come (omega arith) (omega arith) more in
+          let here = class-in t k class _ c.requires.table there.0 (omega arith) (omega arith) in
           rw w.level-is (record {
-            narrowed = narrowed-trans t c.args.limit c.args.level.now c.loop-class.level _ before.narrowed (narrowed-out t c.args.limit c.loop-class.class c.loop-class.level _ c.requires.table here useless refl refl);
-            bound = bound-out t c.args.groups.now c.loop-class.class c.loop-class.level _ c.args.bound refl refl before.bound;
+            narrowed = narrowed-trans t c.args.limit c.args.level.now l _ before.narrowed (narrowed-out t c.args.limit class l _ c.requires.table here useless refl refl);
+            bound = bound-out t c.args.groups.now class l _ c.args.bound refl refl before.bound;
           })
-      | else-is_dear w ↦ rw w.level-is before
+      | else-saturating_sub-spare w ↦ rw w.level-is before
     ]

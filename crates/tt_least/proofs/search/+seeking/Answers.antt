@@ -11,6 +11,10 @@ use Rattle.tt_least.proofs.NarrowLemmas.{node-narrowed, places-narrowed}
 use Rattle.tt_least.proofs.SeekLemmas.{IsStep, each-vain, first-and-rest, inside-in, none-before, not-chosen, some-to_come, step-count, step-node, step-vain, step-within}
 use Rattle.tt_least.proofs.search.+seeking.Goals as goal
 
+pub seek-write_first-requires-clause-node : goal.seek-write_first-requires-clause-node
+seek-write_first-requires-clause-node t c =
+    node-narrowed c.args.table.now c.args.limit c.args.level.now c.narrow.new.level c.narrow.ensures.narrowed c.requires.node
+
 pub seek-keep_choice-requires-clause-node : goal.seek-keep_choice-requires-clause-node
 seek-keep_choice-requires-clause-node t c =
     node-narrowed c.args.table.now c.args.limit c.args.level.now c.narrow.new.level c.narrow.ensures.narrowed c.requires.node
@@ -27,7 +31,7 @@ seek-seek_below-requires t c =
     let node = node-narrowed table c.args.limit old new narrowed c.requires.node in
     let some = c.in-Some.ensures.some in
     let come = c.in-Some.ensures.come in
-    (omega arith, (c.requires.table, (c.requires.few, (c.narrow.ensures.ready, (places, (node, (some, (come, (c.requires.deeper, room)))))))))
+    (omega arith, (c.requires.table, (c.requires.few, (c.write_first.ensures.ready, (places, (node, (some, (come, (c.requires.deeper, room)))))))))
 
 pub seek_below-returns-in_default-clause-none : goal.seek_below-returns-in_default-clause-none
 seek_below-returns-in_default-clause-none t c = λ e.

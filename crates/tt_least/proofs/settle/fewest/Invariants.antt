@@ -11,6 +11,7 @@ invariant-loop-low l = record {
   ready : IsReadyToSearch l.table l.search;
   left : l.search.left.items ≡ l.fn.search.left.items;
   few : l.high ≤ l.fn.most;
+  step : 1 ≤ l.step;
   found : IsWithin l.table l.fn.search.left.items l.high (found_in l.table l.search);
   fewest : (choice : List ℕ) → IsLeft l.table l.fn.search.left.items choice → is_allowed l.table choice ≡ true → l.low ≤ pairs_in l.table choice;
 }

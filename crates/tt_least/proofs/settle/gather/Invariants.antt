@@ -9,6 +9,7 @@ invariant-loop-place l = record {
   room : (k : ℕ) (d : Groups) → k < length l.search.scratch.groups.items → HasRoomForGroups l.table.size (get_or l.search.scratch.groups.items k d);
   passed : (k : ℕ) (d : Groups) → k < l.place → AreGroups l.table (get_or l.search.scratch.groups.items k d);
   levels : l.search.levels ≡ l.initial.search.levels;
+  costs : l.search.scratch.costs ≡ l.initial.search.scratch.costs;
   leasts : l.search.scratch.leasts ≡ l.initial.search.scratch.leasts;
   front : l.search.scratch.front ≡ l.initial.search.scratch.front;
   best : l.search.scratch.best ≡ l.initial.search.scratch.best;

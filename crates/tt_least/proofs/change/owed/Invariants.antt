@@ -1,6 +1,6 @@
 use Rattle.std.proofs.Common.{◌≡◌, ◌*◌, ◌≤◌, take}
 use Rattle.tt_least.specs.Prices.{owed_of}
-use Rattle.tt_least.proofs.bound.owed.Given as goal
+use Rattle.tt_least.proofs.change.owed.Given as goal
 
 abbrev pub invariant-loop-price : goal.invariant-loop-price
 invariant-loop-price l = record {
