@@ -7,7 +7,7 @@ use std::alloc::{AllocError, Global};
 use std::test::Fail;
 use test_help::value;
 use tt_clash::{Block, Closures, Listing, blocked};
-use tt_plan::spot;
+use tt_plan::{Placement, spot};
 use tt_problem::Problem;
 use tt_read::read;
 use tt_score::Score;
@@ -119,10 +119,11 @@ fn count_within(
         return None;
     }
     let value = value(problem, 3, 1, None)?;
-    if blocked(problem, score.closures(), 3, spot(problem, 3, value)).is_some() {
+    let placement = Placement::new(problem, 3, value);
+    if blocked(problem, score.closures(), placement.class, placement.spot).is_some() {
         return None;
     }
-    if score.conflict_set_within(problem, 3, value, most, listing) {
+    if score.conflict_set_within(problem, &placement, most, listing) {
         Some(listing.len())
     } else {
         None

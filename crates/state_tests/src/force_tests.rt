@@ -3,8 +3,6 @@
 use std::test::Fail;
 use test_help::{assigns, forces, state_of, value};
 use tt_bits::{Key, Value};
-use tt_clash::blocked;
-use tt_plan::spot;
 use tt_state::{SectionFault, State};
 
 // A room with two classes that may meet in it at one time, the second also a slot later; and a
@@ -53,30 +51,28 @@ fn forces_in_a_step(state: &mut State) -> bool {
 }
 
 // Whether the second class would push out the first one, and what the total would be.
-#[tactic(auto, unfolding(tt_state::specs::Values::blocked_of))]
 fn tries(state: &mut State) -> bool {
     let Some(value) = value(state.problem(), 1, 2, Some(1)) else {
         return false;
     };
-    let spot = spot(state.problem(), 1, value);
-    if blocked(state.problem(), state.score().closures(), 1, spot).is_some() {
+    let placement = state.placement(1, value);
+    if state.blocked(&placement).is_some() {
         return false;
     }
-    state.find_conflicts(1, value);
-    state.taken() == [0].as_slice() && state.trial(1, value) == 3
+    state.find_conflicts(placement.class, placement.value);
+    state.taken() == [0].as_slice() && state.trial(placement.class, placement.value) == 3
 }
 
 // Whether the second class, a slot later, would push out no more than so many classes.
-#[tactic(auto, unfolding(tt_state::specs::Values::blocked_of))]
 fn pushes_out_at_most(state: &mut State, most: u32) -> bool {
     let Some(value) = value(state.problem(), 1, 2, Some(1)) else {
         return false;
     };
-    let spot = spot(state.problem(), 1, value);
-    if blocked(state.problem(), state.score().closures(), 1, spot).is_some() {
+    let placement = state.placement(1, value);
+    if state.blocked(&placement).is_some() {
         return false;
     }
-    state.find_conflict_set_within(1, value, most)
+    state.find_conflict_set_within(&placement, most)
 }
 
 // Whether a student gets a list in a step, and loses it by an empty one.

@@ -80,9 +80,10 @@ fn has_totals(state: &State) -> bool {
 fn trials_below(state: &mut State, room: u32, bounds: [u128; 3]) -> Option<[Option<u128>; 3]> {
     let value = value(state.problem(), 0, 1, Some(room))?;
     let without = state.without(0);
-    let first = state.trial_below(0, value, without, bounds[0]);
-    let second = state.trial_below(0, value, without, bounds[1]);
-    let third = state.trial_below(0, value, without, bounds[2]);
+    let placement = state.placement(0, value);
+    let first = state.trial_below(&placement, without, bounds[0]);
+    let second = state.trial_below(&placement, without, bounds[1]);
+    let third = state.trial_below(&placement, without, bounds[2]);
     Some([first, second, third])
 }
 

@@ -2,7 +2,9 @@
 
 ghost use Rattle.std.specs.Prelude.{◌≡◌, ◌+◌, ◌∷◌, ◌<◌, ◌≤◌, ◌^◌, [], None, Some, IfNone, IfOk, IfSome, OnOk, if◌then◌else◌, false, length, true};
 ghost use Rattle.tt_base.specs.Limits.{most_values};
+ghost use Rattle.std.specs.Option.{option_map};
 ghost use Rattle.tt_plan.specs.Domain.{IsOfDomain, domain_of};
+ghost use Rattle.tt_plan.specs.Placements.{IsPlacement};
 ghost use Rattle.tt_state.specs.History.{IsWithinStep, earlier, trail, with_taken};
 ghost use Rattle.tt_state.specs.Snapshots.{with_value};
 ghost use Rattle.tt_improve.specs.Classes.{is_free};
@@ -15,7 +17,7 @@ use crate::exchange::exchange;
 use crate::values::{has_value, is_free};
 use std::alloc::AllocError;
 use tt_bits::Value;
-use tt_plan::{domain_size, value_at};
+use tt_plan::{Placement, domain_size, value_at};
 use tt_state::State;
 
 // The place that is so many after another among some, where the first one comes after the last.
@@ -36,13 +38,15 @@ fn place_after(place: u32, more: u32, count: u32) -> u32
 
 // The first of a class's values, from a place of its domain on and then before it, that is free and
 // that the class hasn't.
-fn next_free(state: &mut State, class: u32, place: u32) -> Option<Value>
+fn next_free(state: &mut State, class: u32, place: u32) -> Option<Placement>
     requires class { class < length state.old.problem.classes }
     requires place { place < length (domain_of state.old.problem class) }
-    ensures value { result ≡ next_free state.old.problem state.old.present class place }
-    ensures domain { IfSome result (IsOfDomain state.old.problem class) }
+    ensures value { option_map (λ x. x.value) result
+        ≡ next_free state.old.problem state.old.present class place }
+    ensures class { IfSome result (λ x. x.class ≡ class) }
+    ensures placement { IfSome result (IsPlacement state.old.problem) }
     ensures free { IfSome result
-        (λ value. is_free state.old.problem state.old.present class value ≡ true) }
+        (λ x. is_free state.old.problem state.old.present x.class x.value ≡ true) }
     ensures problem { state.new.problem ≡ state.old.problem }
     ensures present { state.new.present ≡ state.old.present }
     ensures entries { state.new.entries ≡ state.old.entries }
@@ -50,8 +54,9 @@ fn next_free(state: &mut State, class: u32, place: u32) -> Option<Value>
     let size = domain_size(state.problem(), class);
     for k in 0..size {
         let value = value_at(state.problem(), class, place_after(place, k, size));
-        if !has_value(state, class, value) && is_free(state, class, value) {
-            return Some(value);
+        let placement = state.placement(class, value);
+        if !has_value(state, class, value) && is_free(state, &placement) {
+            return Some(placement);
         }
     }
     None
@@ -59,27 +64,26 @@ fn next_free(state: &mut State, class: u32, place: u32) -> Option<Value>
 
 // Gives a class a value that is free, in the last step, where the total is then at most the level.
 // Whether it does.
-fn move_within(state: &mut State, class: u32, value: Value, level: u128) -> Result<bool, AllocError>
-    requires class { IsMovable state.old.problem state.old.present class }
-    requires value { IsOfDomain state.old.problem class value }
-    requires free { is_free state.old.problem state.old.present class value ≡ true }
+fn move_within(state: &mut State, placement: &Placement, level: u128) -> Result<bool, AllocError>
+    requires class { IsMovable state.old.problem state.old.present placement.now.class }
+    requires placement { IsPlacement state.old.problem placement.now }
+    requires free { is_free state.old.problem state.old.present placement.now.class
+        placement.now.value
+        ≡ true }
     requires level { level < 2 ^ 127 }
     requires step { 0 < length (earlier state.old) }
     ensures step { IsWithinStep (with_taken state.old []) (with_taken state.new []) }
     ensures round { IfOk result (IsClassRound level
-        (Some (with_value state.old.present class (Some value))) (with_taken state.old [])
-        (with_taken state.new [])) }
+        (Some (with_value state.old.present placement.now.class (Some placement.now.value)))
+        (with_taken state.old []) (with_taken state.new [])) }
 {
     state.problem().validity();
     state.soundness();
-    let without = state.without(class);
-    if state
-        .trial_below(class, value, without, level + 1)
-        .is_none()
-    {
+    let without = state.without(placement.class);
+    if state.trial_below(placement, without, level + 1).is_none() {
         return Ok(false);
     }
-    state.place_step(class, Some(value))?;
+    state.place_step(placement.class, Some(placement.value))?;
     Ok(true)
 }
 
@@ -96,7 +100,7 @@ fn move_to_next(state: &mut State, class: u32, place: u32, level: u128) -> Resul
 {
     match next_free(state, class, place) {
         None => Ok(false),
-        Some(value) => move_within(state, class, value, level),
+        Some(placement) => move_within(state, &placement, level),
     }
 }
 
@@ -127,15 +131,16 @@ fn move_to_value(
         (moved_to_value state.old.problem state.old.present class value) (with_taken state.old [])
         (with_taken state.new [])) }
 {
-    if has_value(state, class, value) || state.blocked(class, value).is_some() {
+    let placement = state.placement(class, value);
+    if has_value(state, class, value) || state.blocked(&placement).is_some() {
         return Ok(false);
     }
-    if !state.find_conflict_set_within(class, value, 1) {
+    if !state.find_conflict_set_within(&placement, 1) {
         return Ok(false);
     }
     match only_taken(state) {
-        None => move_within(state, class, value, level),
-        Some(other) => exchange(state, class, value, other, level),
+        None => move_within(state, &placement, level),
+        Some(other) => exchange(state, &placement, other, level),
     }
 }
 

@@ -2,6 +2,7 @@
 
 ghost use Rattle.std.specs.Prelude.{◌≡◌, ◌&&◌, ◌<◌, [], ◌∷◌, None, Some, IfOk, IfSome, OnOk, false, true, length, max};
 ghost use Rattle.tt_plan.specs.Domain.{IsOfDomain};
+ghost use Rattle.tt_plan.specs.Placements.{IsPlacement};
 ghost use Rattle.tt_state.specs.History.{IsWithinStep, earlier, trail, with_taken};
 ghost use Rattle.tt_state.specs.Snapshots.{is_locked_in, with_value};
 ghost use Rattle.tt_improve.specs.Classes.{is_free};
@@ -13,6 +14,7 @@ ghost use Rattle.tt_deluge.specs.Standing.{BeginsWith, IsClassRound};
 use crate::values::{has_value, is_free};
 use std::alloc::AllocError;
 use tt_bits::{Spot, Time, Value};
+use tt_plan::Placement;
 use tt_problem::{Problem, RoomChoice, TimeChoice};
 use tt_state::State;
 
@@ -95,36 +97,38 @@ fn exchange_value(state: &State, class: u32, other: u32) -> Option<Value>
 // Whether both are.
 fn exchange_steps(
     state: &mut State,
-    class: u32,
-    value: Value,
-    other: u32,
-    to: Value,
+    placement: &Placement,
+    to: &Placement,
 ) -> Result<bool, AllocError>
-    requires value { IsOfDomain state.old.problem class value }
-    requires to { IsOfDomain state.old.problem other to }
-    requires free { is_locked_in state.old.present other ≡ false }
+    requires placement { IsPlacement state.old.problem placement.now }
+    requires to { IsPlacement state.old.problem to.now }
+    requires free { is_locked_in state.old.present to.now.class ≡ false }
     requires step { 0 < length (earlier state.old) }
     ensures step { IsWithinStep (with_taken state.old []) (with_taken state.new []) }
     ensures free { IfOk result (λ free.
         free
-        ≡ is_free state.old.problem (with_value state.old.present other None) class value
-        && is_free state.old.problem (half_exchanged state.old.present class value other)
-        other to) }
+        ≡ is_free state.old.problem (with_value state.old.present to.now.class None)
+        placement.now.class placement.now.value
+        && is_free state.old.problem
+        (half_exchanged state.old.present placement.now.class placement.now.value to.now.class)
+        to.now.class to.now.value) }
     ensures present { IfOk result (λ free.
         free ≡ true
         → state.new.present
-        ≡ with_value (half_exchanged state.old.present class value other) other (Some to)) }
+        ≡ with_value
+        (half_exchanged state.old.present placement.now.class placement.now.value to.now.class)
+        to.now.class (Some to.now.value)) }
     ensures trail { OnOk result (BeginsWith (trail state.old) (trail state.new)) }
 {
-    state.place_step(other, None)?;
-    if !is_free(state, class, value) {
+    state.place_step(to.class, None)?;
+    if !is_free(state, placement) {
         return Ok(false);
     }
-    state.place_step(class, Some(value))?;
-    if !is_free(state, other, to) {
+    state.place_step(placement.class, Some(placement.value))?;
+    if !is_free(state, to) {
         return Ok(false);
     }
-    state.place_step(other, Some(to))?;
+    state.place_step(to.class, Some(to.value))?;
     Ok(true)
 }
 
@@ -133,18 +137,18 @@ fn exchange_steps(
 // and the total is at most the level. Whether it does.
 pub(crate) fn exchange(
     state: &mut State,
-    class: u32,
-    value: Value,
+    placement: &Placement,
     other: u32,
     level: u128,
 ) -> Result<bool, AllocError>
-    requires class { IsMovable state.old.problem state.old.present class }
-    requires value { IsOfDomain state.old.problem class value }
+    requires class { IsMovable state.old.problem state.old.present placement.now.class }
+    requires placement { IsPlacement state.old.problem placement.now }
     requires other { other < length state.old.problem.classes }
     requires step { 0 < length (earlier state.old) }
     ensures step { IsWithinStep (with_taken state.old []) (with_taken state.new []) }
     ensures round { IfOk result (IsClassRound level
-        (moved_by_conflict_set state.old.problem state.old.present class value (other ∷ []))
+        (moved_by_conflict_set state.old.problem state.old.present placement.now.class
+        placement.now.value (other ∷ []))
         (with_taken state.old []) (with_taken state.new [])) }
 {
     state.problem().validity();
@@ -152,14 +156,15 @@ pub(crate) fn exchange(
     if state.is_locked(other) {
         return Ok(false);
     }
-    let Some(to) = exchange_value(state, class, other) else {
+    let Some(value) = exchange_value(state, placement.class, other) else {
         return Ok(false);
     };
-    if has_value(state, other, to) || state.blocked(other, to).is_some() {
+    let to = state.placement(other, value);
+    if has_value(state, other, value) || state.blocked(&to).is_some() {
         return Ok(false);
     }
     let moment = state.mark_now();
-    if exchange_steps(state, class, value, other, to)? && state.totals().total <= level {
+    if exchange_steps(state, placement, &to)? && state.totals().total <= level {
         return Ok(true);
     }
     state.roll_back(moment);

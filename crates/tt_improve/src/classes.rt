@@ -2,7 +2,7 @@
 
 ghost use Rattle.std.specs.Prelude.{◌≡◌, ◌↔◌, ◌<◌, ◌≤◌, [], IsTrue, None, Some, IfOk, IfSome, OnOk, if◌then◌else◌, false, length};
 ghost use Rattle.std.specs.Option.{option_map};
-ghost use Rattle.tt_plan.specs.Domain.{IsOfDomain};
+ghost use Rattle.tt_plan.specs.Placements.{IsPlacement};
 ghost use Rattle.tt_state.specs.History.{IsWithinStep, earlier, with_taken};
 ghost use Rattle.tt_state.specs.Snapshots.{value_in, with_value};
 ghost use Rattle.tt_state.specs.Values.{total_with, without_of};
@@ -12,7 +12,7 @@ ghost use Rattle.tt_improve.specs.Standing.{IsLower, IsMovable, IsNoWorse};
 
 use std::alloc::AllocError;
 use tt_bits::Value;
-use tt_plan::{domain_size, value_at};
+use tt_plan::{Placement, domain_size, value_at};
 use tt_score::Without;
 use tt_state::State;
 
@@ -34,30 +34,32 @@ fn has_value(state: &State, class: u32, value: Value) -> bool
 // the value that the class has the total is the present one, so this is left out. Whether the value is
 // blocked, and then its conflict set, is asked for only where the total is lower.
 #[tactic(auto, using(crate::proofs::ClassLemmas::none_within))]
-fn look_at(state: &mut State, class: u32, value: Value, without: Without, best: Best) -> Best
-    requires value { IsOfDomain state.old.problem class value }
-    requires without { without ≡ without_of state.old.problem state.old.present class }
+fn look_at(state: &mut State, placement: &Placement, without: Without, best: Best) -> Best
+    requires placement { IsPlacement state.old.problem placement.now }
+    requires without { without
+        ≡ without_of state.old.problem state.old.present placement.now.class }
     requires low { best.total ≤ total_of state.old.problem state.old.present }
     ensures problem { state.new.problem ≡ state.old.problem }
     ensures present { state.new.present ≡ state.old.present }
     ensures entries { state.new.entries ≡ state.old.entries }
     ensures better { result
-        ≡ lower_of (is_free state.old.problem state.old.present class)
-        (total_with state.old.problem state.old.present class) best value }
+        ≡ lower_of (is_free state.old.problem state.old.present placement.now.class)
+        (total_with state.old.problem state.old.present placement.now.class) best
+        placement.now.value }
 {
-    if has_value(state, class, value) {
+    if has_value(state, placement.class, placement.value) {
         return best;
     }
-    let Some(total) = state.trial_below(class, value, without, best.total) else {
+    let Some(total) = state.trial_below(placement, without, best.total) else {
         return best;
     };
-    if state.blocked(class, value).is_some() {
+    if state.blocked(placement).is_some() {
         return best;
     }
-    if state.find_conflict_set_within(class, value, 0) {
+    if state.find_conflict_set_within(placement, 0) {
         Best {
             total,
-            value: Some(value),
+            value: Some(placement.value),
         }
     } else {
         best
@@ -81,7 +83,8 @@ fn lower_value(state: &mut State, class: u32) -> Option<Value>
     let without = state.without(class);
     for k in 0..domain_size(state.problem(), class) {
         let value = value_at(state.problem(), class, k);
-        best = look_at(state, class, value, without, best);
+        let placement = state.placement(class, value);
+        best = look_at(state, &placement, without, best);
     }
     best.value
 }

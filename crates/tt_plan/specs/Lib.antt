@@ -1,2 +1,3 @@
 pub mod Domain
 pub mod Named
+pub mod Placements

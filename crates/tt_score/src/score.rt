@@ -18,6 +18,7 @@ use tt_bits::{Spot, Time, Value};
 use tt_clash::{Closures, Listing, Placing, conflict_set_within, conflicts};
 use tt_measure::Measure;
 use tt_occupancy::Occupancy;
+use tt_plan::Placement;
 use tt_problem::{Problem, Weights};
 use tt_roster::Roster;
 
@@ -46,6 +47,7 @@ impl Score {
     ghost use Rattle.tt_clash.specs.Blocked.{blocked_by};
     ghost use Rattle.tt_clash.specs.Closures.{made, relifted, without_last};
     ghost use Rattle.tt_plan.specs.Domain.{IsOfDomain, IsSpotOf, spot_at_value, spots_of};
+    ghost use Rattle.tt_plan.specs.Placements.{IsPlacement};
     ghost use Rattle.tt_score.specs.Amounts.{rule_amount, rule_cost, cost_sum};
     ghost use Rattle.tt_score.specs.Apart.{cost_sum_without};
     ghost use Rattle.tt_score.specs.Fits.{Fits, plan_of, student_lists, closures_of, occupancy_of, roster_of, group_count};
@@ -393,21 +395,23 @@ impl Score {
     pub fn trial_below(
         &mut self,
         problem: &Problem,
-        class: u32,
-        value: Value,
+        placement: &Placement,
         without: Without,
         bound: u128,
     ) -> Option<u128>
         requires fits { Fits problem.now self.old }
-        requires value { IsOfDomain problem.now class value }
+        requires placement { IsPlacement problem.now placement.now }
         requires without { without
-            ≡ without_at problem.now (plan_of self.old) (student_lists self.old) class }
+            ≡ without_at problem.now (plan_of self.old) (student_lists self.old)
+            placement.now.class }
         ensures total { result
             ≡ below bound (totals_of problem.now (closures_of self.old)
-            (slice_set (plan_of self.old) class (Some value)) (student_lists self.old)).total }
+            (slice_set (plan_of self.old) placement.now.class (Some placement.now.value))
+            (student_lists self.old)).total }
         ensures same { self.new ≡ self.old }
     {
         problem.validity();
+        let Placement { class, value, spot } = *placement;
         let Without {
             student: others,
             distribution: rest,
@@ -416,7 +420,6 @@ impl Score {
         if paid.total(self.weights, rest, others) >= bound {
             return None;
         }
-        let spot = tt_plan::spot(problem, class, value);
         let sure = self.roster.sure_gain(problem, class, spot);
         if paid.total(self.weights, rest, others + sure) >= bound {
             return None;
@@ -497,21 +500,23 @@ impl Score {
     pub fn conflict_set_within(
         &mut self,
         problem: &Problem,
-        class: u32,
-        value: Value,
+        placement: &Placement,
         most: u32,
         listing: &mut Listing,
     ) -> bool
         requires fits { Fits problem.now self.old }
-        requires value { IsOfDomain problem.now class value }
-        requires open { option_and_then (blocked_by problem.now (closures_of self.old) class)
-            (spot_at_value problem.now class value)
+        requires placement { IsPlacement problem.now placement.now }
+        requires open { option_and_then
+            (blocked_by problem.now (closures_of self.old) placement.now.class)
+            (spot_at_value problem.now placement.now.class placement.now.value)
             ≡ None }
         requires listing { listing.old.classes ≡ length problem.now.classes }
         ensures few { result
-            ≡ nat_le (length (conflicts_at problem.now (plan_of self.old) class value)) most }
+            ≡ nat_le (length (conflicts_at problem.now (plan_of self.old) placement.now.class
+            placement.now.value)) most }
         ensures set { IsTrue result
-            → listing.new.list ≡ conflicts_at problem.now (plan_of self.old) class value }
+            → listing.new.list
+            ≡ conflicts_at problem.now (plan_of self.old) placement.now.class placement.now.value }
         ensures many { result ≡ false → listing.new.list ≡ [] }
         ensures classes { listing.new.classes ≡ listing.old.classes }
         ensures plan { plan_of self.new ≡ plan_of self.old }
@@ -522,8 +527,8 @@ impl Score {
         let placing = Placing {
             problem,
             occupancy: &self.occupancy,
-            class,
-            spot: tt_plan::spot(problem, class, value),
+            class: placement.class,
+            spot: placement.spot,
         };
         conflict_set_within(&placing, self.groups.as_mut_slice(), most, listing)
     }

@@ -1,7 +1,7 @@
 //! The candidates of a turn.
 
 ghost use Rattle.std.specs.Prelude.{◌≡◌, ◌<◌, ◌∷◌, [], List, ℕ, IfOk, IsTrue, OnErr, None, false, length, slice_index_or};
-ghost use Rattle.tt_plan.specs.Domain.{IsOfDomain};
+ghost use Rattle.tt_plan.specs.Placements.{IsPlacement};
 ghost use Rattle.tt_problem.specs.declared.parts.Parts.{Parts};
 ghost use Rattle.tt_state.specs.Snapshots.{Snapshot};
 ghost use Rattle.tt_state.specs.Values.{blocked_of};
@@ -10,10 +10,9 @@ ghost use Rattle.tt_search.specs.Turns.{is_open, has_open_value, candidates};
 ghost use Rattle.tt_search.specs.Drawing.{AreCandidates, AreHopeful};
 
 use std::alloc::{AllocError, Global};
-use tt_bits::Value;
 use tt_draw::draw;
 use tt_flags::Flags;
-use tt_plan::{domain_size, value_at};
+use tt_plan::{Placement, domain_size, value_at};
 use tt_state::State;
 
 // The candidates of a turn, kept while classes are forced to values.
@@ -26,13 +25,17 @@ pub(crate) struct Candidates {
 }
 
 // Whether a value isn't blocked.
-pub(crate) fn is_open(state: &State, class: u32, value: Value) -> bool
-    requires { IsOfDomain state.now.problem class value }
-    ensures value { result ≡ is_open state.now.problem state.now.present.closures class value }
+pub(crate) fn is_open(state: &State, placement: &Placement) -> bool
+    requires { IsPlacement state.now.problem placement.now }
+    ensures value { result
+        ≡ is_open state.now.problem state.now.present.closures placement.now.class
+        placement.now.value }
     ensures free { IsTrue result
-        → blocked_of state.now.problem state.now.present.closures class value ≡ None }
+        → blocked_of state.now.problem state.now.present.closures placement.now.class
+        placement.now.value
+        ≡ None }
 {
-    state.blocked(class, value).is_none()
+    state.blocked(placement).is_none()
 }
 
 // Whether a class has a value that isn't blocked.
@@ -43,7 +46,8 @@ fn has_open_value(state: &State, class: u32) -> bool
 {
     let problem = state.problem();
     for k in 0..domain_size(problem, class) {
-        if is_open(state, class, value_at(problem, class, k)) {
+        let value = value_at(problem, class, k);
+        if is_open(state, &state.placement(class, value)) {
             return true;
         }
     }

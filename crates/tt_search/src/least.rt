@@ -81,7 +81,7 @@ fn total_up_to(
 {
     match least.and_then(|total| total.checked_add(1)) {
         None => Some(state.trial(class, value)),
-        Some(bound) => state.trial_below(class, value, without, bound),
+        Some(bound) => state.trial_below(&state.placement(class, value), without, bound),
     }
 }
 

@@ -43,7 +43,8 @@ fn look_at(state: &mut State, aim: &Aim, class: u32, value: Value, least: &mut L
         (xs ++ filter (is_available state.old.problem state.old.present class) (value ∷ []))
         least.new }
 {
-    if !may_be_offered(state, class, value, least.price()) {
+    let placement = state.placement(class, value);
+    if !may_be_offered(state, &placement, least.price()) {
         return;
     }
     let weight = state.tolls(class, value);

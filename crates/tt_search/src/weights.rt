@@ -99,7 +99,8 @@ impl ClassWeights {
             (xs ++ filter (is_available state.old.problem state.old.present class) (value ∷ []))
             least.new }
     {
-        if !may_be_offered(state, class, value, least.price()) {
+        let placement = state.placement(class, value);
+        if !may_be_offered(state, &placement, least.price()) {
             return;
         }
         let weight = self.of_taken(state);

@@ -2,7 +2,7 @@
 
 ghost use Rattle.std.specs.Prelude.{◌≡◌, ◌+◌, ◌==◌, ◌∷◌, ◌++◌, [], ◌<◌, ◌↔◌, IsTrue, IfOk, IfSome, None, length};
 ghost use Rattle.std.specs.List.{list_any};
-ghost use Rattle.tt_plan.specs.Domain.{IsOfDomain};
+ghost use Rattle.tt_plan.specs.Placements.{IsPlacement};
 ghost use Rattle.tt_state.specs.History.{with_taken};
 ghost use Rattle.tt_state.specs.Values.{blocked_of, conflict_set_of, is_value};
 ghost use Rattle.tt_suggest.specs.Tree.{gives_child, is_on, may_follow, stays_at_root};
@@ -11,6 +11,7 @@ ghost use Rattle.tt_suggest.specs.Walks.{node_of};
 use crate::suggestion::Move;
 use std::alloc::{AllocError, Global};
 use tt_bits::Value;
+use tt_plan::Placement;
 use tt_state::State;
 
 // A node of the tree of placements whose snapshot is the present one and where a class waits.
@@ -76,22 +77,25 @@ impl Branch {
     // and none of those pushed out was placed on the way. Where it is so, its conflict set was found
     // last.
     #[tactic(auto, using(crate::proofs::FollowLemmas::follows_none, crate::proofs::FollowLemmas::follows_within))]
-    fn may_follow(&self, state: &mut State, value: Value) -> bool
-        requires value { IsOfDomain state.old.problem self.now.class value }
-        requires open { blocked_of state.old.problem state.old.present.closures self.now.class value
+    fn may_follow(&self, state: &mut State, placement: &Placement) -> bool
+        requires placement { IsPlacement state.old.problem placement.now }
+        requires open { blocked_of state.old.problem state.old.present.closures
+            placement.now.class placement.now.value
             ≡ None }
         ensures follows { result
             ≡ may_follow self.now.spare self.now.path.items self.now.others.items
-            (conflict_set_of state.old.problem state.old.present self.now.class value) }
+            (conflict_set_of state.old.problem state.old.present placement.now.class
+            placement.now.value) }
         ensures same { with_taken state.new [] ≡ with_taken state.old [] }
         ensures taken { IsTrue result
             → state.new.taken
-            ≡ conflict_set_of state.old.problem state.old.present self.now.class value }
+            ≡ conflict_set_of state.old.problem state.old.present placement.now.class
+            placement.now.value }
     {
         let Some(most) = self.most_in_set() else {
             return false;
         };
-        state.find_conflict_set_within(self.class, value, most)
+        state.find_conflict_set_within(placement, most)
             && !is_any_on(self.path.as_slice(), state.taken())
     }
 
@@ -104,23 +108,25 @@ impl Branch {
 
     // Whether the class at a value gives a child. Where it does, its conflict set was found last.
     #[tactic(auto, unfolding(crate::specs::Tree::gives_child), using(tt_state::proofs::ObstacleLemmas::blocked_not_clear, crate::proofs::FollowLemmas::barren, crate::proofs::FollowLemmas::gives_unless_held))]
-    pub(crate) fn gives_child(&self, state: &mut State, value: Value) -> bool
-        requires { IsOfDomain state.old.problem self.now.class value }
+    pub(crate) fn gives_child(&self, state: &mut State, placement: &Placement) -> bool
+        requires placement { IsPlacement state.old.problem placement.now }
+        requires class { placement.now.class ≡ self.now.class }
         ensures gives { result
             ≡ gives_child state.old.problem self.now.spare (node_of state.old.present self.now)
-            self.now.class self.now.others.items value }
+            self.now.class self.now.others.items placement.now.value }
         ensures same { with_taken state.new [] ≡ with_taken state.old [] }
         ensures taken { IsTrue result
             → state.new.taken
-            ≡ conflict_set_of state.old.problem state.old.present self.now.class value }
+            ≡ conflict_set_of state.old.problem state.old.present self.now.class
+            placement.now.value }
     {
-        if state.blocked(self.class, value).is_some() {
+        if state.blocked(placement).is_some() {
             return false;
         }
-        if self.stays_at_root(state, value) {
+        if self.stays_at_root(state, placement.value) {
             return false;
         }
-        if !self.may_follow(state, value) {
+        if !self.may_follow(state, placement) {
             return false;
         }
         state.first_locked().is_none()

@@ -4,6 +4,7 @@ ghost use Rattle.std.specs.Prelude.{◌≡◌, ◌≢◌, ◌↔◌, ◌+◌, �
 ghost use Rattle.std.specs.Option.{option_copied};
 ghost use Rattle.tt_base.specs.Lists.{least_after};
 ghost use Rattle.tt_plan.specs.Domain.{IsOfDomain};
+ghost use Rattle.tt_plan.specs.Placements.{IsPlacement};
 ghost use Rattle.tt_published.specs.Published.{moved_in};
 ghost use Rattle.tt_published.specs.Aim.{IsAimOf};
 ghost use Rattle.tt_state.specs.History.{IsWithinStep, earlier, with_taken};
@@ -20,7 +21,7 @@ use crate::placing::go_on;
 use crate::suggestion::{Moves, Rank, SuggestEnd, Suggested, Suggestion};
 use std::alloc::{AllocError, Global};
 use tt_bits::Value;
-use tt_plan::{domain_size, value_at};
+use tt_plan::{Placement, domain_size, value_at};
 use tt_published::{Aim, Published};
 use tt_state::State;
 
@@ -53,19 +54,23 @@ impl Suggested {
     }
 
     // The total with a class at a value, or none where it is above that of what was found so far.
-    fn total_within(&self, state: &mut State, class: u32, value: Value) -> Option<u128>
-        requires value { IsOfDomain state.old.problem class value }
+    fn total_within(&self, state: &mut State, placement: &Placement) -> Option<u128>
+        requires placement { IsPlacement state.old.problem placement.now }
         ensures same { state.new ≡ state.old }
-        ensures total { IfSome result
-            (λ total. total ≡ total_with state.old.problem state.old.present class value) }
-        ensures above { IfNone result (IsSomeAnd self.now.best
-            (λ best. best.total < total_with state.old.problem state.old.present class value)) }
+        ensures total { IfSome result (λ total.
+            total
+            ≡ total_with state.old.problem state.old.present placement.now.class
+            placement.now.value) }
+        ensures above { IfNone result (IsSomeAnd self.now.best (λ best.
+            best.total
+            < total_with state.old.problem state.old.present placement.now.class
+            placement.now.value)) }
     {
         let Some(bound) = self.bound() else {
-            return Some(state.trial(class, value));
+            return Some(state.trial(placement.class, placement.value));
         };
-        let without = state.without(class);
-        state.trial_below(class, value, without, bound)
+        let without = state.without(placement.class);
+        state.trial_below(placement, without, bound)
     }
 
     // Takes the suggestion that a branch gives with its class at a value, if it is better than what
@@ -116,24 +121,33 @@ fn rank_with(
     state: &mut State,
     aim: &Aim,
     branch: &Branch,
-    value: Value,
+    placement: &Placement,
     found: &Suggested,
 ) -> Option<Rank>
     requires belongs { IsAimOf state.old.problem aim.now }
     requires branch { IsBranchOf state.old.problem aim.now state.old.present branch.now }
-    requires value { IsOfDomain state.old.problem branch.now.class value }
+    requires placement { IsPlacement state.old.problem placement.now }
+    requires class { placement.now.class ≡ branch.now.class }
     ensures same { state.new ≡ state.old }
     ensures rank { IfSome result (λ rank.
         rank_numbers rank
-        ≡ total_with state.old.problem state.old.present branch.now.class value
+        ≡ total_with state.old.problem state.old.present branch.now.class placement.now.value
         ∷ moved_in state.old.problem aim.now
-        (with_value state.old.present branch.now.class (Some value)).plan
+        (with_value state.old.present branch.now.class (Some placement.now.value)).plan
         ∷ []) }
     ensures above { IfNone result (IsSomeAnd found.now.best (λ best.
-        best.total < total_with state.old.problem state.old.present branch.now.class value)) }
+        best.total
+        < total_with state.old.problem state.old.present branch.now.class
+        placement.now.value)) }
 {
-    let moved = moved_with(state, aim, branch.moved, branch.class, Some(value));
-    let total = found.total_within(state, branch.class, value)?;
+    let moved = moved_with(
+        state,
+        aim,
+        branch.moved,
+        branch.class,
+        Some(placement.value),
+    );
+    let total = found.total_within(state, placement)?;
     Some(Rank { total, moved })
 }
 
@@ -161,7 +175,8 @@ fn walk(
     found.add_tries(count)?;
     for k in 0..count {
         let value = value_at(state.problem(), branch.class, k);
-        try_value(alloc, state, aim, branch, value, found)?;
+        let placement = state.placement(branch.class, value);
+        try_value(alloc, state, aim, branch, &placement, found)?;
     }
     Ok(())
 }
@@ -173,32 +188,35 @@ fn try_value(
     state: &mut State,
     aim: &Aim,
     branch: &Branch,
-    value: Value,
+    placement: &Placement,
     found: &mut Suggested,
 ) -> Result<(), SuggestEnd>
     requires belongs { IsAimOf state.old.problem aim.now }
     requires branch { IsBranchOf state.old.problem aim.now state.old.present branch.now }
-    requires value { IsOfDomain state.old.problem branch.now.class value }
+    requires placement { IsPlacement state.old.problem placement.now }
+    requires class { placement.now.class ≡ branch.now.class }
     requires step { 0 < length (earlier state.old) }
     requires few { found.old.tried ≤ most_tries }
     ensures step { IsWithinStep (with_taken state.old []) (with_taken state.new []) }
     ensures back { OnOk result (IsBack state.old state.new) }
-    ensures found { OnOk result (FindsBy state.old aim.now branch.now value found.old found.new) }
+    ensures found { OnOk result
+        (FindsBy state.old aim.now branch.now placement.now.value found.old found.new) }
     ensures too_many { result ≡ Err SuggestEnd.TooMany
         → most_tries
         < found.old.tried
-        + tries_by state.old.problem state.old.present branch.now (value ∷ []) }
+        + tries_by state.old.problem state.old.present branch.now
+        (placement.now.value ∷ []) }
 {
-    if !branch.gives_child(state, value) {
+    if !branch.gives_child(state, placement) {
         return Ok(());
     }
     if branch.is_last(state.taken()) {
-        return match rank_with(state, aim, branch, value, found) {
+        return match rank_with(state, aim, branch, placement, found) {
             None => Ok(()),
-            Some(rank) => Ok(found.offer(alloc, branch, value, rank)?),
+            Some(rank) => Ok(found.offer(alloc, branch, placement.value, rank)?),
         };
     }
-    descend(alloc, state, aim, branch, value, found)
+    descend(alloc, state, aim, branch, placement.value, found)
 }
 
 // Goes to the child of a branch by its class at a value, walks on from there, and goes back.

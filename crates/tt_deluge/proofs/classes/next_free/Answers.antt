@@ -1,4 +1,4 @@
-use Rattle.std.proofs.Common.{◌≡◌, ◌+◌, ◌<◌, ◌≤◌, true, false, List, Some, length, refl, sym, ◌∙◌, arith}
+use Rattle.std.proofs.Common.{◌≡◌, ◌+◌, ◌<◌, ◌≤◌, true, false, List, Some, length, refl, ap, sym, ◌∙◌, arith}
 use Rattle.std.specs.Prelude.{◌&&◌, not, slice_get}
 use Rattle.std.proofs.lemmas.Bool.{and_from, and_left, and_right, not_from_false, not_from_true}
 use Rattle.tt_bits.specs.declared.times.Value.{Value}
@@ -29,10 +29,10 @@ returns-then-is_free-clause-value c =
     let front : place + k < length domain → c.place_after.result ≡ place + k = λ lt. c.place_after.ensures.front (omega (arith, lt, size)) in
     let back : length domain ≤ place + k → c.place_after.result + length domain ≡ place + k = λ past. omega (arith, size, c.place_after.ensures.back (omega (arith, past, size))) in
     let there : slice_get (values_from p class place) k ≡ Some v = turned-get domain place k c.place_after.result c.requires.place (omega (arith, size, c.loop-k-test.true)) front back ∙ at in
-    let free : is_free p s class v ≡ true = rw (problem, present) at (sym c.is_free.ensures.free ∙ c.if-is_free.true) in
+    let free : is_free p s class v ≡ true = rw (problem, present, c.placement-placement.ensures.class, c.placement-placement.ensures.value) at (sym c.is_free.ensures.free ∙ c.if-is_free.true) in
     let had : has_value s class v ≡ false = rw present at (sym c.has_value.ensures ∙ c.if-not-has_value.true) in
     let passes : (is_free p s class v && not (has_value s class v)) ≡ true = and_from (is_free p s class v) (not (has_value s class v)) free (not_from_false (has_value s class v) had) in
-    sym (find-hit (λ (v : Value). is_free p s class v && not (has_value s class v)) (values_from p class place) k v there passes) ∙ c.loop-k.invariant.walk
+    ap Some c.placement-placement.ensures.value ∙ sym (find-hit (λ (v : Value). is_free p s class v && not (has_value s class v)) (values_from p class place) k v there passes) ∙ c.loop-k.invariant.walk
 
 pub loop-k-preserved : goal.loop-k-preserved
 loop-k-preserved c =
@@ -53,7 +53,7 @@ loop-k-preserved c =
     let there : slice_get (values_from p class place) k ≡ Some v = turned-get domain place k c.place_after.result c.requires.place (omega (arith, size, c.loop-k-test.true)) front back ∙ at in
     let fails : (is_free p s class v && not (has_value s class v)) ≡ false =
     elim c.else-not-has_value.branch [
-      | else-not-has_value-via-then-not-has_value+else-is_free w ↦ and_left (is_free p s class v) (not (has_value s class v)) (rw (problem, present) at (sym w.is_free.ensures.free ∙ w.if-is_free.false))
+      | else-not-has_value-via-then-not-has_value+else-is_free w ↦ and_left (is_free p s class v) (not (has_value s class v)) (rw (problem, present, c.placement-placement.ensures.class, c.placement-placement.ensures.value) at (sym w.is_free.ensures.free ∙ w.if-is_free.false))
       | else-not-has_value-via-else-not-has_value w ↦ and_right (is_free p s class v) (not (has_value s class v)) (not_from_true (has_value s class v) (rw present at (sym c.has_value.ensures ∙ w.if-not-has_value.false)))
     ] in
     let walk = find-miss (λ (v : Value). is_free p s class v && not (has_value s class v)) (values_from p class place) k v there fails ∙ c.loop-k.invariant.walk in

@@ -9,7 +9,7 @@ use Rattle.tt_score.proofs.score.Score.conflict_set_within.Goals as goal
 pub conflict_set_within-requires-clause-placing : goal.conflict_set_within-requires-clause-placing
 conflict_set_within-requires-clause-placing c =
     let kept = c.requires.fits.kept in
-    is-placing c.args.problem.now c.args.self.now.occupancy.spots c.args.class c.spot.result kept.valid.travel_rooms kept.of_classes (length-spots kept) c.requires.value.within c.spot.ensures.fits
+    is-placing c.args.problem.now c.args.self.now.occupancy.spots c.args.placement.now.class c.args.placement.now.spot kept.valid.travel_rooms kept.of_classes (length-spots kept) c.requires.placement.value.within c.requires.placement.fits
 
 pub conflict_set_within-requires-clause-groups : goal.conflict_set_within-requires-clause-groups
 conflict_set_within-requires-clause-groups c =
@@ -17,20 +17,20 @@ conflict_set_within-requires-clause-groups c =
 
 pub conflict_set_within-requires-clause-free : goal.conflict_set_within-requires-clause-free
 conflict_set_within-requires-clause-free c =
-    let none : blocked_by c.args.problem.now c.args.self.now.closures c.args.class c.spot.result ≡ None = rw c.spot.ensures.spot at c.requires.open in
-    rw c.as_mut_slice.ensures.value (free-alone c.args.problem.now c.args.self.now.closures c.args.self.now.occupancy.spots c.args.self.now.groups.items c.args.class c.spot.result c.requires.fits.grouped none)
+    let none : blocked_by c.args.problem.now c.args.self.now.closures c.args.placement.now.class c.args.placement.now.spot ≡ None = rw c.requires.placement.spot at c.requires.open in
+    rw c.as_mut_slice.ensures.value (free-alone c.args.problem.now c.args.self.now.closures c.args.self.now.occupancy.spots c.args.self.now.groups.items c.args.placement.now.class c.args.placement.now.spot c.requires.fits.grouped none)
 
 pub returns-clause-few : goal.returns-clause-few
 returns-clause-few c =
     let s = c.args.self.now in
-    let same = set-agree c.args.problem.now s.groups.items c.as_mut_slice.result.now s.plan.items s.occupancy.spots c.args.class c.args.value c.spot.result c.requires.fits.grouped c.as_mut_slice.ensures.value c.requires.fits.kept.spots c.spot.ensures.spot in
+    let same = set-agree c.args.problem.now s.groups.items c.as_mut_slice.result.now s.plan.items s.occupancy.spots c.args.placement.now.class c.args.placement.now.value c.args.placement.now.spot c.requires.fits.grouped c.as_mut_slice.ensures.value c.requires.fits.kept.spots c.requires.placement.spot in
     c.conflict_set_within.ensures.few ∙ ap (λ (l : List ℕ). nat_le (length l) c.args.most) same
 
 pub returns-clause-set : goal.returns-clause-set
 returns-clause-set c = λ found.
     let s = c.args.self.now in
     c.conflict_set_within.ensures.set found
-    ∙ set-agree c.args.problem.now s.groups.items c.as_mut_slice.result.now s.plan.items s.occupancy.spots c.args.class c.args.value c.spot.result c.requires.fits.grouped c.as_mut_slice.ensures.value c.requires.fits.kept.spots c.spot.ensures.spot
+    ∙ set-agree c.args.problem.now s.groups.items c.as_mut_slice.result.now s.plan.items s.occupancy.spots c.args.placement.now.class c.args.placement.now.value c.args.placement.now.spot c.requires.fits.grouped c.as_mut_slice.ensures.value c.requires.fits.kept.spots c.requires.placement.spot
 
 pub returns-clause-fits : goal.returns-clause-fits
 returns-clause-fits c =

@@ -19,6 +19,6 @@ returns-clause-within c =
     let s = c.self.inside in
     let e = c.conflict_set_within.ensures in
     elim (cases_Bool c.conflict_set_within.result) [
-      | inl found ↦ found_within s.problem (snapshot_of s.present) c.args.class c.args.value c.conflict_set_within.new.listing.list c.self.invariant.0.sound.plan.whole (e.set found)
+      | inl found ↦ found_within s.problem (snapshot_of s.present) c.args.placement.now.class c.args.placement.now.value c.conflict_set_within.new.listing.list c.self.invariant.0.sound.plan.whole (e.set found)
       | inr many ↦ let none = e.many many in rw none (λ k d lt. absurd (omega (arith, lt)))
     ]

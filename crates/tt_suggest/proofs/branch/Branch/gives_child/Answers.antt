@@ -11,6 +11,6 @@ returns-clause-gives c =
     let start = c.args.state.now in
     let now = c.may_follow.new.state in
     let same = ap (λ (h : Contents). h.present) c.may_follow.ensures.same in
-    gives_asked start.problem c.args.self.now.spare (node_of start.present c.args.self.now) c.args.self.now.class c.args.self.now.others.items c.args.value c.blocked.result now.taken c.first_locked.result c.is_none.result
-    c.blocked.ensures (sym c.is_some.ensures ∙ c.if-is_some.false) (sym c.stays_at_root.ensures ∙ c.if-stays_at_root.false) (sym c.may_follow.ensures.follows ∙ c.if-not-may_follow.false) (c.may_follow.ensures.taken c.if-not-may_follow.false)
+    gives_asked start.problem c.args.self.now.spare (node_of start.present c.args.self.now) c.args.self.now.class c.args.self.now.others.items c.args.placement.now.value c.blocked.result now.taken c.first_locked.result c.is_none.result
+    (rw c.requires.class at c.blocked.ensures) (sym c.is_some.ensures ∙ c.if-is_some.false) (sym c.stays_at_root.ensures ∙ c.if-stays_at_root.false) (sym (rw c.requires.class at c.may_follow.ensures.follows) ∙ c.if-not-may_follow.false) (rw c.requires.class at (c.may_follow.ensures.taken c.if-not-may_follow.false))
     (c.first_locked.ensures.first ∙ ap (λ s. find (is_locked_in s) now.taken) same) c.is_none.ensures
