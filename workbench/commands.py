@@ -6,8 +6,10 @@ import subprocess
 import sys
 from collections.abc import Callable
 from contextlib import nullcontext
+from pathlib import Path
 
 import cases
+import refusals
 import theorem
 import times
 import uses
@@ -54,6 +56,14 @@ def edits(given: argparse.Namespace) -> int:
         raise Stop(f"{given.crate} has no wrong body there; docs/PLANTS.md says why where that is meant")
     with taken_from_the_shelf(folder) if given.shelf else nullcontext():
         return rt(given.crate, "must-fail", given.crate)
+
+
+def refused(given: argparse.Namespace) -> int:
+    """shows which function and which goal refuses each wrong body of the gate
+
+    LOG has what a whole run of rt ci printed. The goal names the clause: of what the function ensures, of what a call
+    requires, or what a loop keeps."""
+    return refusals.refusals(given.log)
 
 
 def case(given: argparse.Namespace) -> int:
@@ -128,6 +138,7 @@ def add_words(parser: Words) -> None:
     words = add("edits", edits)
     with_crate(words)
     words.add_argument("--shelf", action="store_true", help="tries those on the shelf too")
+    add("refusals", refused).add_argument("log", metavar="LOG", type=Path, help="what rt ci printed")
     add("case", case).add_argument("name", metavar="NAME", help="its name in crates/worked_cases/data/cases.txt")
     add("cases", all_cases).add_argument("--write", action="store_true", help="writes worked_cases/stdout anew")
     words = add("theorem", reached)

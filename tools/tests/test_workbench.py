@@ -181,3 +181,19 @@ def test_the_shelf_is_tried_and_put_back(house: Path) -> None:
     assert (done.returncode, done.stdout) == (0, "must-fail one a.edit\n")
     assert sorted(path.name for path in (house / "crates/one").iterdir()) == ["src", "wrong-bodies"]
     assert dev(house, "edits", "one")[0] != 0
+
+
+def test_what_refuses_each_wrong_body_is_told(house: Path) -> None:
+    folder = house / "crates/three/must-fail"
+    folder.mkdir()
+    for name in ("one_less", "two_less"):
+        (folder / f"{name}.edit").write_text("file: src/lib.rt\nold: fn add\nnew: fn less\n", encoding="utf-8")
+    refused = "rt: must-fail three/{}.edit: refused, as it must be: {}\n"
+    log = house / "log"
+    one = refused.format("one_less", "note: src/lib.rt:8:1: it is not proved (`returns-clause-sum`); `search` gave up")
+    log.write_text(one, encoding="utf-8")
+    assert dev(house, "refusals", str(log))[0] == 2
+    with log.open("a", encoding="utf-8") as file:
+        file.write(refused.format("two_less", "./proofs/lib/Sum/add/Answers.antt:7:54: error: `loop-k-preserved`: `omega`: no"))
+    rows = ["| `three` | `one_less` | `add` | `returns-clause-sum` |", "| `three` | `two_less` | `add` | `loop-k-preserved` |"]
+    assert dev(house, "refusals", str(log))[1][2:] == rows
