@@ -2,7 +2,7 @@
 use Rattle.std.proofs.Common.{◌≡◌, ◌∙◌, ℕ, ◌+◌, ◌-◌, Bool, true, false, cond, List, [], ◌∷◌, ◌++◌, Option, Some, None, length, get_or, refl, sym, ap, suc, arith, length-append}
 use Rattle.std.specs.Prelude.{◌==◌, map, sum_by, slice_get, option_and_then}
 use Rattle.std.specs.Option.{option_map_or}
-use Rattle.std.specs.List.{range_with_len}
+use Rattle.std.specs.List.{flat_map, range_with_len}
 use Rattle.std.proofs.lemmas.List.{length-map}
 use Rattle.std.proofs.lemmas.List.Concat.{length-flat_map}
 use Rattle.std.proofs.lemmas.List.FromFn.{fill_by_all, length-map-range_with_len}
@@ -30,10 +30,19 @@ use Rattle.tt_verify.specs.declared.violation.Violation.TheVariants as what
 use Rattle.tt_published.specs.Published.{published_plan, published_value}
 use Rattle.tt_published.specs.Timetable.{Timetable}
 use Rattle.tt_verify.specs.Hard.{AreAsManyAsHard}
-use Rattle.tt_verify.specs.Verified.{timetable_totals}
 use Rattle.tt_verify.specs.Pairs.{are_related, related_pairs}
-use Rattle.tt_verify.specs.Violations.{all_rule_faults, amount_faults, clashes_of, closed_fault, closed_faults, hard_violations, kind_faults, pair_faults, rule_faults, rule_faults_at}
+use Rattle.tt_verify.specs.Violations.{closed_fault, hard_violations, kind_faults, rule_faults, rule_faults_at}
+use Rattle.tt_verify.specs.Found.{amount_faults, pair_faults, timetable_totals}
 use Rattle.tt_verify.proofs.PairLemmas.{length-related_pairs, pairs_among-placed}
+
+abbrev clashes_of : List (Option Spot) → List Violation
+clashes_of spots = map (λ c. what.Clash c.0 c.1) (related_pairs (are_related clash spots) (range_with_len 0 (length spots)))
+
+abbrev closed_faults : Parts → List Closure → List (Option Spot) → List Violation
+closed_faults p closures spots = flat_map (closed_fault p closures spots) (range_with_len 0 (length p.classes))
+
+abbrev all_rule_faults : Parts → List (Option Spot) → List Violation
+all_rule_faults p spots = flat_map (rule_faults_at p spots) (range_with_len 0 (length p.rules))
 
 -- the spots by place are the spots
 spots_by_place : (spots : List (Option Spot)) → map (spot_at spots) (range_with_len 0 (length spots)) ≡ spots
@@ -91,7 +100,7 @@ unfolding pair_faults
 length-pair_faults place pairs = length-map pairs (λ (c : ℕ × ℕ). what.Pair place c.0 c.1)
 
 length-kind_faults : (p : Parts) (spots : List (Option Spot)) (place : ℕ) (r : Rule) (kind : DistKind) → r.kind ≡ kind → length (kind_faults p spots place r kind) ≡ kind_hard kind (rule_amount p spots r)
-unfolding kind_faults
+unfolding kind_faults pair_faults amount_faults
 length-kind_faults p spots place r (Pair kind) is =
     length-pair_faults place (related_pairs (are_related (is_violated kind p.travel) spots) r.members)
     ∙ length-related_pairs (are_related (is_violated kind p.travel) spots) r.members

@@ -4,7 +4,7 @@ use Rattle.std.specs.List.{flat_map}
 use Rattle.tt_problem.specs.declared.parts.Parts.{Parts}
 use Rattle.tt_problem.specs.Places.{class_id, student_id}
 use Rattle.tt_text.specs.Fields.{field}
-use Rattle.tt_verify.specs.declared.sums.Sums.{Sums}
+use Rattle.tt_score.specs.declared.totals.Totals.{Totals}
 use Rattle.tt_verify.specs.declared.violation.Violation.{Violation}
 use Rattle.tt_verify.specs.declared.violation.Violation.TheVariants as what
 
@@ -28,15 +28,15 @@ violation_line p (what.Amount rule amount) = field (codes "rule ") (rule + 1) ++
 unfoldable pub violation_lines : Parts → List Violation → List ℕ
 violation_lines p violations = flat_map (violation_line p) violations
 
--- the line on these sums and hard conflicts
-unfoldable pub sum_line : Sums → (hard : ℕ) → List ℕ
-sum_line s hard =
-    field (codes "sum time ") s.penalties.time
-    ++ field (codes " room ") s.penalties.room
-    ++ field (codes " distribution ") s.penalties.distribution
-    ++ field (codes " student ") s.penalties.student
-    ++ field (codes " total ") s.total
-    ++ field (codes " hard ") hard
+-- the line on these totals: the penalties, their weighted sum, and the hard conflicts
+unfoldable pub sum_line : Totals → List ℕ
+sum_line t =
+    field (codes "sum time ") t.time
+    ++ field (codes " room ") t.room
+    ++ field (codes " distribution ") t.distribution
+    ++ field (codes " student ") t.student
+    ++ field (codes " total ") t.total
+    ++ field (codes " hard ") t.hard
     ++ codes "\n"
 
 -- the line on how many violations there are

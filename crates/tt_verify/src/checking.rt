@@ -5,8 +5,9 @@ ghost use Rattle.tt_score.specs.Members.{AreSpotsOf};
 ghost use Rattle.tt_published.specs.Timetable.{IsTimetableOf};
 ghost use Rattle.tt_verify.specs.Hard.{AreAsManyAsHard};
 ghost use Rattle.tt_verify.specs.Lines.{violation_lines, sum_line, verdict_line};
-ghost use Rattle.tt_verify.specs.Verified.{sums_of, timetable_totals, verified_text};
-ghost use Rattle.tt_verify.specs.Violations.{hard_violations, listing_faults, violations_of};
+ghost use Rattle.tt_verify.specs.Verified.{verified_text};
+ghost use Rattle.tt_verify.specs.Violations.{hard_violations, violations_of};
+ghost use Rattle.tt_verify.specs.Found.{listing_faults, sums_of, timetable_totals, totals_with};
 
 use crate::clashes::add_clashes;
 use crate::classes::{add_class_faults, add_closed_faults, add_limit_faults};
@@ -24,7 +25,7 @@ use tt_published::Published;
 use tt_text::Reply;
 
 // Adds what is wrong with the listed classes and with the students' lists.
-#[tactic(auto, using(crate::proofs::CountLemmas::limit_faults_counted, std::proofs::Common::append_assoc), unfolding(crate::specs::Violations::listing_faults))]
+#[tactic(auto, using(crate::proofs::CountLemmas::limit_faults_counted, std::proofs::Common::append_assoc), unfolding(crate::specs::Found::listing_faults))]
 fn add_listing_faults(
     alloc: Global,
     problem: &Problem,
@@ -75,7 +76,7 @@ struct Findings {
 }
 
 // All that is found of a published timetable.
-#[tactic(auto, unfolding(crate::specs::Violations::violations_with))]
+#[tactic(auto, using(std::proofs::Common::append_assoc), unfolding(crate::specs::Violations::violations_of, crate::specs::Found::listing_faults))]
 fn findings_on(
     alloc: Global,
     problem: &Problem,
@@ -111,7 +112,7 @@ fn add_findings(out: &mut Reply, problem: &Problem, findings: &Findings) -> Resu
     ensures { OnOk result (out.new
         ≡ out.old
         ++ (violation_lines problem.now findings.now.violations.items
-        ++ sum_line findings.now.sums findings.now.hard
+        ++ sum_line (totals_with findings.now.sums findings.now.hard)
         ++ verdict_line (vec_len findings.now.violations))) }
 {
     add_lines(out, problem, findings.violations.as_slice())?;

@@ -1,13 +1,13 @@
 //! What is wrong with classes: no value, more students than seats, or a closed room.
 
 ghost use Rattle.std.specs.Prelude.{◌≡◌, ◌++◌, ◌<◌, IfSome, OnOk, length};
-ghost use Rattle.std.specs.List.{list_any};
+ghost use Rattle.std.specs.List.{flat_map, list_any, range_with_len};
 ghost use Rattle.tt_bits.specs.Times.{overlaps};
 ghost use Rattle.tt_clash.specs.Blocked.{is_closed};
 ghost use Rattle.tt_score.specs.Members.{AreSpotsOf};
 ghost use Rattle.tt_published.specs.Timetable.{IsTimetableOf};
 ghost use Rattle.tt_verify.specs.Counts.{limit_faults_by};
-ghost use Rattle.tt_verify.specs.Violations.{class_fault, class_faults, closed_fault, closed_faults, limit_fault_with};
+ghost use Rattle.tt_verify.specs.Violations.{class_fault, closed_fault, limit_fault};
 
 use crate::violation::Violation;
 use std::alloc::AllocError;
@@ -47,8 +47,10 @@ pub fn add_class_faults(
 ) -> Result<(), AllocError>
     requires belongs { IsTimetableOf problem.now published.now }
     requires whole { length plan.now ≡ length problem.now.classes }
-    ensures { OnOk result
-        (found.new.items ≡ found.old.items ++ class_faults problem.now published.now plan.now) }
+    ensures { OnOk result (found.new.items
+        ≡ found.old.items
+        ++ flat_map (class_fault published.now plan.now)
+        (range_with_len 0 (length problem.now.classes))) }
 {
     for class in 0..problem.class_count() {
         add_class_fault(published, plan, class, found)?;
@@ -57,7 +59,7 @@ pub fn add_class_faults(
 }
 
 // Adds a class that so many students have, where they are more than its limit.
-#[tactic(auto, unfolding(crate::specs::Violations::limit_fault_with, crate::specs::Violations::limit_fault))]
+#[tactic(auto, unfolding(crate::specs::Violations::limit_fault))]
 fn add_limit_fault(
     problem: &Problem,
     class: u32,
@@ -66,7 +68,7 @@ fn add_limit_fault(
 ) -> Result<(), AllocError>
     requires { class < length problem.now.classes }
     ensures { OnOk result
-        (found.new.items ≡ found.old.items ++ limit_fault_with problem.now class students) }
+        (found.new.items ≡ found.old.items ++ limit_fault problem.now class students) }
 {
     if let Some(limit) = problem.class(class).limit
         && students > limit
@@ -147,8 +149,10 @@ pub fn add_closed_faults(
 ) -> Result<(), AllocError>
     requires whole { length spots.now ≡ length problem.now.classes }
     requires fit { AreSpotsOf problem.now spots.now }
-    ensures { OnOk result
-        (found.new.items ≡ found.old.items ++ closed_faults problem.now closures.now spots.now) }
+    ensures { OnOk result (found.new.items
+        ≡ found.old.items
+        ++ flat_map (closed_fault problem.now closures.now spots.now)
+        (range_with_len 0 (length problem.now.classes))) }
 {
     for class in 0..problem.class_count() {
         add_closed_fault(problem, closures, spots, class, found)?;

@@ -2,6 +2,7 @@
 
 ghost use Rattle.std.specs.Prelude.{◌≡◌, ◌++◌, OnOk, codes};
 ghost use Rattle.tt_verify.specs.Lines.{class_text, number_line, violation_line, violation_lines, sum_line, verdict_line};
+ghost use Rattle.tt_verify.specs.Found.{totals_with};
 
 use crate::sums::Sums;
 use crate::violation::Violation;
@@ -101,7 +102,7 @@ pub fn add_lines(
 /// Appends the line on the sums.
 #[tactic(auto, using(std::proofs::Common::append_assoc), unfolding(crate::specs::Lines::sum_line))]
 pub fn add_sum_line(out: &mut Reply, sums: &Sums, hard: u64) -> Result<(), AllocError>
-    ensures { OnOk result (out.new ≡ out.old ++ sum_line sums.now hard) }
+    ensures { OnOk result (out.new ≡ out.old ++ sum_line (totals_with sums.now hard)) }
 {
     let penalties = sums.penalties;
     out.field("sum time ", u128::from(penalties.time))?;

@@ -1,6 +1,7 @@
 //! What is wrong with the required rules.
 
 ghost use Rattle.std.specs.Prelude.{◌≡◌, ◌++◌, ◌<◌, ℕ, All, IfSome, OnOk, length};
+ghost use Rattle.std.specs.List.{flat_map, range_with_len};
 ghost use Rattle.tt_bits.specs.Spots.{spot_at};
 ghost use Rattle.tt_pair.specs.ViolatedPairs.{is_violated};
 ghost use Rattle.tt_problem.specs.Valid.{IsValidRule};
@@ -8,7 +9,8 @@ ghost use Rattle.tt_score.specs.Amounts.{rule_amount};
 ghost use Rattle.tt_score.specs.Members.{AreSpotsOf};
 ghost use Rattle.tt_travel.specs.Table.{IsRoomOf};
 ghost use Rattle.tt_verify.specs.Pairs.{are_related, pairs_with, related_pairs};
-ghost use Rattle.tt_verify.specs.Violations.{all_rule_faults, amount_faults, pair_faults, rule_faults_at};
+ghost use Rattle.tt_verify.specs.Violations.{rule_faults_at};
+ghost use Rattle.tt_verify.specs.Found.{amount_faults, pair_faults};
 
 use crate::amounts::{is_violated, rule_amount};
 use crate::violation::Violation;
@@ -93,7 +95,7 @@ fn add_pairs(
 }
 
 // Adds the amount of a rule that speaks of all members together, where it is above 0.
-#[tactic(auto, unfolding(crate::specs::Violations::amount_faults))]
+#[tactic(auto, unfolding(crate::specs::Found::amount_faults))]
 fn add_amount(
     alloc: Global,
     problem: &Problem,
@@ -119,7 +121,7 @@ fn add_amount(
 }
 
 // Adds what is wrong with a rule; nothing where it isn't required.
-#[tactic(auto, unfolding(crate::specs::Violations::rule_faults_at, crate::specs::Violations::rule_faults, crate::specs::Violations::kind_faults))]
+#[tactic(auto, unfolding(crate::specs::Violations::rule_faults_at, crate::specs::Violations::rule_faults, crate::specs::Violations::kind_faults, crate::specs::Found::pair_faults, crate::specs::Found::amount_faults))]
 fn add_rule_faults(
     alloc: Global,
     problem: &Problem,
@@ -162,8 +164,10 @@ pub fn add_all_rule_faults(
 ) -> Result<(), AllocError>
     requires whole { length spots.now ≡ length problem.now.classes }
     requires fit { AreSpotsOf problem.now spots.now }
-    ensures { OnOk result
-        (found.new.items ≡ found.old.items ++ all_rule_faults problem.now spots.now) }
+    ensures { OnOk result (found.new.items
+        ≡ found.old.items
+        ++ flat_map (rule_faults_at problem.now spots.now)
+        (range_with_len 0 (length problem.now.rules))) }
 {
     for place in 0..problem.rule_count() {
         add_rule_faults(alloc, problem, spots, place, found)?;

@@ -12,7 +12,7 @@ ghost use Rattle.tt_score.specs.Weighted.{weighted};
 ghost use Rattle.tt_published.specs.Timetable.{IsTimetableOf};
 ghost use Rattle.tt_score.specs.Totals.{totals_of};
 ghost use Rattle.tt_verify.specs.Costs.{cost_at};
-ghost use Rattle.tt_verify.specs.Verified.{sums_of};
+ghost use Rattle.tt_verify.specs.Found.{sums_of};
 
 use crate::amounts::rule_amount;
 use crate::students::student_conflicts;
