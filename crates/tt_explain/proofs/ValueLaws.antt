@@ -15,9 +15,9 @@ use Rattle.tt_score.specs.Forcing.{among}
 use Rattle.tt_score.proofs.PlanLemmas.{spot_in}
 use Rattle.tt_state.specs.declared.obstacle.Obstacle.{Obstacle}
 use Rattle.tt_state.specs.Snapshots.{Snapshot, value_in}
-use Rattle.tt_state.specs.Values.{conflict_set_of, obstacle_of}
-use Rattle.tt_explain.specs.Values.{IsToldByWhy, price_by, value_costs}
-use Rattle.tt_explain.specs.Why.{blocked_line, lines_by, lost_among, lost_of, out_lines, trial_line, why_lines}
+use Rattle.tt_state.specs.Values.{conflict_set_of, obstacle_of, total_with}
+use Rattle.tt_explain.specs.Values.{IsToldByWhy, value_costs, costs_text, price_text}
+use Rattle.tt_explain.specs.Why.{lost_among, lost_of, out_lines, trial_line, why_lines, obstacle_text}
 
 -- where each class has a value, each loses one
 lost-all : (s : Snapshot) (others : List ℕ) → All (λ other. is_some (value_in s other) ≡ true) others → length (lost_among s others) ≡ length others
@@ -52,15 +52,20 @@ all_placed p s class v = by (spot_at_value p class v)
 
 module _ (p : Parts) (s : Snapshot) (class : ℕ) (v : Value) where
   -- what stands in the way is written alike
-  same_obstacle : (o : Option Obstacle) → IsSome o → lines_by p s class v o ≡ codes "blocked " ++ price_by p s class v o ++ codes "\n"
-  unfolding lines_by price_by blocked_line
-  same_obstacle None none = absurd cc
-  same_obstacle (Some found) some = refl
+  same_obstacle : IsSome (obstacle_of p s class v) → why_lines p s class v ≡ codes "blocked " ++ price_text p s class v ++ codes "\n"
+  unfolding why_lines price_text
+  same_obstacle = by (obstacle_of p s class v)
+    where
+      by : (o : Option Obstacle) → IsSome o
+          → option_map_or (λ found. codes "blocked " ++ obstacle_text p found ++ codes "\n") o (out_lines p s class v (lost_of p s class v) ++ trial_line (total_with p s class v))
+          ≡ codes "blocked " ++ option_map_or (obstacle_text p) o (costs_text (value_costs p s class v)) ++ codes "\n"
+      by None none = absurd cc
+      by (Some found) some = refl
 
   -- the total too
-  same_total : (o : Option Obstacle) → o ≡ None → lines_by p s class v o ≡ out_lines p s class v (lost_of p s class v) ++ trial_line (value_costs p s class v).total
-  unfolding lines_by value_costs
-  same_total o none = rw none refl
+  same_total : obstacle_of p s class v ≡ None → why_lines p s class v ≡ out_lines p s class v (lost_of p s class v) ++ trial_line (value_costs p s class v).total
+  unfolding why_lines value_costs
+  same_total none = rw none refl
 
   -- each class of the conflict set loses its value
   all_lost : (value_costs p s class v).out ≡ length (lost_of p s class v)
@@ -68,9 +73,8 @@ module _ (p : Parts) (s : Snapshot) (class : ℕ) (v : Value) where
   all_lost = sym (lost-all s (conflict_set_of p s class v) (all_placed p s class v))
 
   pub told_by_why : IsToldByWhy p s class v
-  unfolding why_lines
   told_by_why = record {
-    obstacle = same_obstacle (obstacle_of p s class v);
+    obstacle = same_obstacle;
     out = all_lost;
-    total = same_total (obstacle_of p s class v);
+    total = same_total;
   }

@@ -1,7 +1,7 @@
 -- What is wrong in a sound snapshot, and how much it is.
 use Rattle.std.proofs.Common.{◌≡◌, ◌∙◌, ℕ, suc, ◌+◌, ◌<◌, Bool, true, false, cond, List, [], ◌∷◌, ◌++◌, Option, Some, None, length, get_or, refl, sym, ap, arith, inl, inr, length-append}
 use Rattle.std.specs.Prelude.{◌↔◌, ◌&&◌, ◌==◌, not, is_none, sum_by, slice_get, zip}
-use Rattle.std.specs.List.{range_with_len}
+use Rattle.std.specs.List.{range_with_len, flat_map}
 use Rattle.std.proofs.lemmas.Bool.{and_parts, and_from, eq-eqb, eqb-true, ne_eqb}
 use Rattle.std.proofs.lemmas.List.{nil_from_length}
 use Rattle.std.proofs.lemmas.List.Concat.{length-flat_map}
@@ -22,8 +22,9 @@ use Rattle.tt_state.specs.Sound.{AreListsOf, IsSound, is_ready, lacks_classes, n
 use Rattle.tt_struct.specs.Enrolments.{is_enrolment_of}
 use Rattle.tt_verify.specs.declared.violation.Violation.{Violation}
 use Rattle.tt_verify.specs.declared.violation.Violation.TheVariants as what
+use Rattle.tt_verify.specs.Violations.{hard_violations}
 use Rattle.tt_verify.proofs.HardLemmas.{as_many_as_hard}
-use Rattle.tt_explain.specs.Violations.{enrolment_fault, enrolment_faults, fault_count, hard_faults, present_violations, unplaced_fault, unplaced_faults}
+use Rattle.tt_explain.specs.Violations.{enrolment_fault, fault_count, present_violations, unplaced_fault}
 
 -- ---- the list of a student
 
@@ -99,6 +100,15 @@ one_if : (v : Violation) (b : Bool) → length (cond b (v ∷ []) []) ≡ cond b
 one_if v true = refl
 one_if v false = refl
 
+abbrev unplaced_faults : Parts → Snapshot → List Violation
+unplaced_faults p s = flat_map (unplaced_fault s) (range_with_len 0 (length p.classes))
+
+abbrev enrolment_faults : Parts → Snapshot → List Violation
+enrolment_faults p s = flat_map (enrolment_fault p s) (range_with_len 0 (length p.students))
+
+abbrev hard_faults : Parts → Snapshot → List Violation
+hard_faults p s = hard_violations p s.closures (spots_of p s.plan)
+
 module _ (p : Parts) (s : Snapshot) (sound : IsSound p s) where
   length-unplaced_fault : (class : ℕ) → length (unplaced_fault s class) ≡ cond (is_none (get_or s.plan class None)) 1 0
   unfolding unplaced_fault
@@ -117,7 +127,7 @@ module _ (p : Parts) (s : Snapshot) (sound : IsSound p s) where
       (λ i part at. let e : 0 + i ≡ i = omega arith in rw e (ap length (fault_at p s sound.lists i part at) ∙ one_if (what.Invalid i) (is_unsectioned part (list_in s i))))
 
   -- what is hard is as much as the totals count
-  pub hard_as_counted : length (hard_faults p s) ≡ (totals_of p s.closures s.plan s.lists).hard
+  pub hard_as_counted : length (hard_violations p s.closures (spots_of p s.plan)) ≡ (totals_of p s.closures s.plan s.lists).hard
   hard_as_counted = as_many_as_hard p s.closures (spots_of p s.plan) s.plan s.lists sound.plan.whole refl
 
   pub all_as_counted : (t : Totals) → t ≡ totals_of p s.closures s.plan s.lists → length (present_violations p s) ≡ fault_count t

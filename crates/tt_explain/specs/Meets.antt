@@ -16,13 +16,10 @@ students_of_both lists class other = if nat_eq other class then 0 else count_by 
 unfoldable pub met_students : Parts → Snapshot → (class other : ℕ) → ℕ
 met_students p s class other = if conflict_between p s class other then students_of_both s.lists class other else 0
 
--- there are such students
-unfoldable pub is_met : Parts → Snapshot → (class other : ℕ) → Bool
-is_met p s class other = nat_lt 0 (met_students p s class other)
-
 -- the classes with such students, in the problem's order
 unfoldable pub met_classes : Parts → Snapshot → (class : ℕ) → List ℕ
-met_classes p s class = filter (is_met p s class) (range_with_len 0 (length p.classes))
+met_classes p s class =
+    filter (λ other. nat_lt 0 (met_students p s class other)) (range_with_len 0 (length p.classes))
 
 -- how many students these classes have, one after another
 unfoldable pub all_met : Parts → Snapshot → (class : ℕ) → ℕ
@@ -32,10 +29,6 @@ all_met p s class = sum_by (met_students p s class) (met_classes p s class)
 unfoldable pub meeting_line : Parts → (other students : ℕ) → List ℕ
 meeting_line p other students = field (codes "meets ") (class_id p other) ++ field (codes " ") students ++ codes "\n"
 
--- the line on another class of a class
-abbrev pub met_line : Parts → Snapshot → (class other : ℕ) → List ℕ
-met_line p s class other = meeting_line p other (met_students p s class other)
-
 -- a line for each class with such students
 unfoldable pub meets_lines : Parts → Snapshot → (class : ℕ) → List ℕ
-meets_lines p s class = flat_map (met_line p s class) (met_classes p s class)
+meets_lines p s class = flat_map (λ d. meeting_line p d (met_students p s class d)) (met_classes p s class)

@@ -1,10 +1,10 @@
 -- Theorem. What `values` writes of a class.
-use Rattle.std.specs.Prelude.{◌≡◌, ℕ, List, ◌++◌, Option, Some, None, IsSome, codes, length}
+use Rattle.std.specs.Prelude.{◌≡◌, ℕ, List, ◌++◌, None, IsSome, codes, length}
 use Rattle.std.specs.List.{flat_map}
+use Rattle.std.specs.Option.{option_map_or}
 use Rattle.tt_bits.specs.declared.times.Value.{Value}
 use Rattle.tt_problem.specs.declared.parts.Parts.{Parts}
 use Rattle.tt_plan.specs.Domain.{domain_of}
-use Rattle.tt_state.specs.declared.obstacle.Obstacle.{Obstacle}
 use Rattle.tt_state.specs.Snapshots.{Snapshot}
 use Rattle.tt_state.specs.Values.{conflict_set_of, obstacle_of, total_with}
 use Rattle.tt_state.specs.Tolls.{tolls_of}
@@ -22,26 +22,18 @@ value_costs p s class v = record { out = length (conflict_set_of p s class v); t
 unfoldable pub costs_text : ValueCosts → List ℕ
 costs_text c = field (codes "out ") c.out ++ field (codes " weight ") c.tolls ++ field (codes " trial ") c.total
 
--- what stands in the way of a value; where nothing does, what the class would cost there
-unfoldable pub price_by : Parts → Snapshot → (class : ℕ) → Value → Option Obstacle → List ℕ
-price_by p s class v (Some found) = obstacle_text p found
-price_by p s class v None = costs_text (value_costs p s class v)
-
--- what is told of a value
-abbrev pub price_text : Parts → Snapshot → (class : ℕ) → Value → List ℕ
-price_text p s class v = price_by p s class v (obstacle_of p s class v)
+-- what is told of a value: what stands in its way; where nothing does, what the class would cost there
+unfoldable pub price_text : Parts → Snapshot → (class : ℕ) → Value → List ℕ
+price_text p s class v =
+    option_map_or (obstacle_text p) (obstacle_of p s class v) (costs_text (value_costs p s class v))
 
 -- `value T R` and that
 unfoldable pub priced_line : Parts → Snapshot → (class : ℕ) → Value → List ℕ
 priced_line p s class v = codes "value " ++ value_text p class v ++ codes " " ++ price_text p s class v ++ codes "\n"
 
--- a line for each of these values
-unfoldable pub priced_lines : Parts → Snapshot → (class : ℕ) → List Value → List ℕ
-priced_lines p s class values = flat_map (priced_line p s class) values
-
 -- a line for each value of a class, in the order of its domain
 unfoldable pub values_lines : Parts → Snapshot → (class : ℕ) → List ℕ
-values_lines p s class = priced_lines p s class (domain_of p class)
+values_lines p s class = flat_map (priced_line p s class) (domain_of p class)
 
 -- ---- `why`
 

@@ -16,25 +16,17 @@ use Rattle.tt_verify.specs.Violations.{hard_violations}
 unfoldable pub unplaced_fault : Snapshot → (class : ℕ) → List Violation
 unplaced_fault s class = if is_none (value_in s class) then what.Missing class ∷ [] else []
 
--- those among all classes
-abbrev pub unplaced_faults : Parts → Snapshot → List Violation
-unplaced_faults p s = flat_map (unplaced_fault s) (range_with_len 0 (length p.classes))
-
 -- a student whose list is no valid enrolment; the empty list of one who has a course is none
 unfoldable pub enrolment_fault : Parts → Snapshot → (student : ℕ) → List Violation
 enrolment_fault p s student = if is_enrolment p student (list_in s student) && not (lacks_classes p s student) then [] else what.Invalid student ∷ []
 
--- those among all students
-abbrev pub enrolment_faults : Parts → Snapshot → List Violation
-enrolment_faults p s = flat_map (enrolment_fault p s) (range_with_len 0 (length p.students))
-
--- what is counted as hard in a snapshot, with the closures that aren't lifted
-abbrev pub hard_faults : Parts → Snapshot → List Violation
-hard_faults p s = hard_violations p s.closures (spots_of p s.plan)
-
--- all that is wrong in a snapshot
+-- all that is wrong in a snapshot: with its classes, with the lists of its students, and what is counted as hard, with the closures
+-- that aren't lifted
 unfoldable pub present_violations : Parts → Snapshot → List Violation
-present_violations p s = unplaced_faults p s ++ enrolment_faults p s ++ hard_faults p s
+present_violations p s =
+    flat_map (unplaced_fault s) (range_with_len 0 (length p.classes))
+    ++ flat_map (enrolment_fault p s) (range_with_len 0 (length p.students))
+    ++ hard_violations p s.closures (spots_of p s.plan)
 
 -- how much the totals count of what is wrong
 abbrev pub fault_count : Totals → ℕ

@@ -1,10 +1,11 @@
 //! The lines of `student`: the classes of a student, and the pairs that conflict.
 
 ghost use Rattle.std.specs.Prelude.{◌≡◌, ◌++◌, ◌<◌, [], OnOk, drop, if◌then◌else◌, length};
+ghost use Rattle.std.specs.List.{flat_map};
 ghost use Rattle.tt_score.specs.Totals.{totals_of};
 ghost use Rattle.tt_state.specs.Snapshots.{list_in};
 ghost use Rattle.tt_verify.specs.Pairs.{pairs_with};
-ghost use Rattle.tt_explain.specs.Student.{PairsAreCounted, class_line, class_lines, conflict_between, pair_line, pair_lines, student_lines, student_pairs};
+ghost use Rattle.tt_explain.specs.Student.{PairsAreCounted, class_line, conflict_between, pair_line, student_lines, student_pairs};
 
 use crate::now::conflict_between;
 use std::alloc::AllocError;
@@ -25,8 +26,9 @@ fn add_class_line(out: &mut Reply, problem: &Problem, class: u32) -> Result<(), 
 // Appends a line for each class of a student.
 fn add_class_lines(out: &mut Reply, state: &State, student: u32) -> Result<(), AllocError>
     requires { student < length state.now.problem.students }
-    ensures { OnOk result
-        (out.new ≡ out.old ++ class_lines state.now.problem (list_in state.now.present student)) }
+    ensures { OnOk result (out.new
+        ≡ out.old
+        ++ flat_map (class_line state.now.problem) (list_in state.now.present student)) }
 {
     for class in state.classes_of(student) {
         add_class_line(out, state.problem(), class)?;
@@ -73,7 +75,7 @@ fn add_pairs_with(
 ) -> Result<(), AllocError>
     ensures { OnOk result (out.new
         ≡ out.old
-        ++ pair_lines state.now.problem (pairs_with
+        ++ flat_map (pair_line state.now.problem) (pairs_with
         (conflict_between state.now.problem state.now.present) class later.entry)) }
 {
     for other in later {
@@ -99,7 +101,7 @@ fn add_pair_lines(out: &mut Reply, state: &State, student: u32) -> Result<(), Al
     requires { student < length state.now.problem.students }
     ensures { OnOk result (out.new
         ≡ out.old
-        ++ pair_lines state.now.problem
+        ++ flat_map (pair_line state.now.problem)
         (student_pairs state.now.problem state.now.present student)) }
 {
     state.problem().validity();

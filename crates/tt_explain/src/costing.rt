@@ -1,10 +1,11 @@
 //! The lines of `costs`: the soft rules and the classes from which the total comes.
 
-ghost use Rattle.std.specs.Prelude.{◌≡◌, ◌++◌, ◌<◌, [], OnOk, if◌then◌else◌, length, nat_lt};
+ghost use Rattle.std.specs.Prelude.{◌≡◌, ◌++◌, ◌<◌, ◌+◌, [], OnOk, if◌then◌else◌, length, nat_lt};
+ghost use Rattle.std.specs.List.{flat_map};
 ghost use Rattle.tt_plan.specs.Domain.{spots_of};
 ghost use Rattle.tt_score.specs.Totals.{totals_of};
 ghost use Rattle.tt_explain.specs.Explain.{line_at, pair_count};
-ghost use Rattle.tt_explain.specs.Costs.{AddUp, all_costs, class_cost_line, class_costs, costly_class_lines, costly_rule_lines, costs_lines, is_costly_class, is_costly_place};
+ghost use Rattle.tt_explain.specs.Costs.{AddUp, class_cost_line, class_costs, costs_lines, is_costly_class, costly_classes, costly_rules, is_costly_rule};
 
 use crate::now::value_in;
 use crate::pairs::pair_counts;
@@ -27,7 +28,7 @@ pub struct ClassCosts {
 impl ClassCosts {
     // Whether one of them is above 0.
     fn costs_something(&self) -> bool
-        ensures { result ≡ nat_lt 0 (all_costs self.now) }
+        ensures { result ≡ nat_lt 0 (self.now.time + self.now.room + self.now.conflicts) }
     {
         self.time > 0 || self.room > 0 || self.conflicts > 0
     }
@@ -39,7 +40,7 @@ fn add_costly_rule(out: &mut Reply, state: &State, place: u32) -> Result<(), All
     requires { place < length state.now.problem.rules }
     ensures { OnOk result (out.new
         ≡ out.old
-        ++ (if is_costly_place state.now.problem
+        ++ (if is_costly_rule state.now.problem
         (spots_of state.now.problem state.now.present.plan) place
         then line_at state.now.problem (spots_of state.now.problem state.now.present.plan)
         place
@@ -52,12 +53,12 @@ fn add_costly_rule(out: &mut Reply, state: &State, place: u32) -> Result<(), All
 }
 
 // Appends a line for each soft rule with an amount above 0.
-#[tactic(auto, unfolding(crate::specs::Costs::costly_rule_lines))]
 fn add_costly_rules(out: &mut Reply, state: &State) -> Result<(), AllocError>
     ensures { OnOk result (out.new
         ≡ out.old
-        ++ costly_rule_lines state.now.problem
-        (spots_of state.now.problem state.now.present.plan)) }
+        ++ flat_map
+        (line_at state.now.problem (spots_of state.now.problem state.now.present.plan))
+        (costly_rules state.now.problem (spots_of state.now.problem state.now.present.plan))) }
 {
     for place in 0..state.problem().rule_count() {
         add_costly_rule(out, state, place)?;
@@ -75,7 +76,7 @@ fn class_costs(state: &State, class: u32, pairs: u64) -> ClassCosts
         None => ClassCosts {
             time: 0,
             room: 0,
-            conflicts: 0,
+            conflicts: pairs,
         },
         Some(value) => ClassCosts {
             time: time_penalty(state.problem(), class, value),
@@ -126,10 +127,14 @@ fn add_costly_class(
 }
 
 // Appends a line for each class that costs something.
-#[tactic(auto, unfolding(crate::specs::Costs::costly_class_lines))]
 fn add_costly_classes(alloc: Global, state: &State, out: &mut Reply) -> Result<(), AllocError>
-    ensures { OnOk result
-        (out.new ≡ out.old ++ costly_class_lines state.now.problem state.now.present) }
+    ensures { OnOk result (out.new
+        ≡ out.old
+        ++ flat_map
+        (λ class.
+        class_cost_line state.now.problem class
+        (class_costs state.now.problem state.now.present class))
+        (costly_classes state.now.problem state.now.present)) }
 {
     let pairs = pair_counts(alloc, state)?;
     for class in 0..state.problem().class_count() {

@@ -1,9 +1,9 @@
 //! The lines of `meets`: the classes that the students of a class can't attend beside it.
 
-ghost use Rattle.std.specs.Prelude.{◌≡◌, ℕ, ◌++◌, ◌<◌, [], IfOk, OnOk, if◌then◌else◌, length, slice_index};
+ghost use Rattle.std.specs.Prelude.{◌≡◌, ℕ, ◌++◌, ◌<◌, [], IfOk, OnOk, if◌then◌else◌, length, slice_index, nat_lt};
 ghost use Rattle.tt_roster.specs.Joint.{joint_students};
 ghost use Rattle.tt_explain.specs.Explain.{pair_count};
-ghost use Rattle.tt_explain.specs.Meets.{met_students, is_met, all_met, meeting_line, met_line, meets_lines};
+ghost use Rattle.tt_explain.specs.Meets.{met_students, all_met, meeting_line, meets_lines};
 
 use crate::now::conflict_between;
 use std::alloc::{AllocError, Global};
@@ -69,8 +69,9 @@ fn add_meeting(
     requires { common ≡ joint_students state.now.present.lists class other }
     ensures { OnOk result (out.new
         ≡ out.old
-        ++ (if is_met state.now.problem state.now.present class other
-        then met_line state.now.problem state.now.present class other
+        ++ (if nat_lt 0 (met_students state.now.problem state.now.present class other)
+        then meeting_line state.now.problem other
+        (met_students state.now.problem state.now.present class other)
         else [])) }
 {
     let students = met_students(state, class, other, common);

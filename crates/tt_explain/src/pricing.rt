@@ -50,7 +50,7 @@ fn add_costs(out: &mut Reply, costs: ValueCosts) -> Result<(), AllocError>
 }
 
 // Appends what stands in the way of a value, or what the class would cost there.
-#[tactic(auto, using(tt_state::proofs::ObstacleLemmas::not_blocked), unfolding(crate::specs::Values::price_by))]
+#[tactic(auto, using(tt_state::proofs::ObstacleLemmas::not_blocked), unfolding(crate::specs::Values::price_text))]
 fn add_price(out: &mut Reply, state: &mut State, class: u32, value: Value) -> Result<(), AllocError>
     requires { IsOfDomain state.old.problem class value }
     ensures lines { OnOk result

@@ -1,7 +1,10 @@
 //! The lines of `violations`: all that is wrong in the present snapshot.
 
 ghost use Rattle.std.specs.Prelude.{◌≡◌, ◌+◌, ◌++◌, [], ◌<◌, ◌↔◌, IfOk, OnOk, length, true};
-ghost use Rattle.tt_explain.specs.Violations.{enrolment_fault, enrolment_faults, fault_count, hard_faults, present_violations, unplaced_fault, unplaced_faults, violations_lines};
+ghost use Rattle.std.specs.List.{flat_map, range_with_len};
+ghost use Rattle.tt_plan.specs.Domain.{spots_of};
+ghost use Rattle.tt_verify.specs.Violations.{hard_violations};
+ghost use Rattle.tt_explain.specs.Violations.{enrolment_fault, fault_count, present_violations, unplaced_fault, violations_lines};
 ghost use Rattle.tt_score.specs.Totals.{totals_of};
 ghost use Rattle.tt_state.specs.Sound.{is_ready};
 
@@ -30,8 +33,10 @@ fn add_unplaced_fault(
 // Adds each class that has no value.
 #[tactic(auto, using(tt_verify::proofs::WalkLemmas::pieces_more, std::proofs::Common::append_assoc))]
 fn add_unplaced_faults(state: &State, found: &mut Vec<Violation>) -> Result<(), AllocError>
-    ensures { OnOk result
-        (found.new.items ≡ found.old.items ++ unplaced_faults state.now.problem state.now.present) }
+    ensures { OnOk result (found.new.items
+        ≡ found.old.items
+        ++ flat_map (unplaced_fault state.now.present)
+        (range_with_len 0 (length state.now.problem.classes))) }
 {
     for class in 0..state.problem().class_count() {
         add_unplaced_fault(state, class, found)?;
@@ -62,7 +67,9 @@ fn add_enrolment_fault(
 #[tactic(auto, using(tt_verify::proofs::WalkLemmas::pieces_more, std::proofs::Common::append_assoc))]
 fn add_enrolment_faults(state: &State, found: &mut Vec<Violation>) -> Result<(), AllocError>
     ensures { OnOk result (found.new.items
-        ≡ found.old.items ++ enrolment_faults state.now.problem state.now.present) }
+        ≡ found.old.items
+        ++ flat_map (enrolment_fault state.now.problem state.now.present)
+        (range_with_len 0 (length state.now.problem.students))) }
 {
     for student in 0..state.problem().student_count() {
         add_enrolment_fault(state, student, found)?;
@@ -97,7 +104,8 @@ pub fn violations(alloc: Global, state: &State, out: &mut Reply) -> Result<(), A
     ensures count { OnOk result (length (present_violations state.now.problem state.now.present)
         ≡ fault_count (totals_of state.now.problem state.now.present.closures state.now.present.plan
         state.now.present.lists)) }
-    ensures hard { OnOk result (length (hard_faults state.now.problem state.now.present)
+    ensures hard { OnOk result (length (hard_violations state.now.problem state.now.present.closures
+        (spots_of state.now.problem state.now.present.plan))
         ≡ (totals_of state.now.problem state.now.present.closures state.now.present.plan
         state.now.present.lists).hard) }
     ensures ready { OnOk result ((present_violations state.now.problem state.now.present ≡ [])

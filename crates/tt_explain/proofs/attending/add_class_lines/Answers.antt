@@ -1,6 +1,7 @@
 use Rattle.std.proofs.Common.{◌≡◌, ◌++◌, [], ◌∷◌, ap, ◌∙◌, rules}
+use Rattle.std.specs.List.{flat_map}
 use Rattle.tt_problem.specs.declared.parts.Parts.{Parts}
-use Rattle.tt_explain.specs.Student.{class_line, class_lines}
+use Rattle.tt_explain.specs.Student.{class_line}
 use Rattle.tt_explain.proofs.LineLemmas.{next_written, all_written, class_lines-more, class_lines-none}
 use Rattle.tt_explain.proofs.attending.add_class_lines.Goals as goal
 
@@ -16,4 +17,4 @@ pub returns : goal.returns
 returns c =
     let p = c.args.state.now.problem in
     let none : c.loop-class.class-iterator ≡ [] = search rules in
-    all_written _ _ _ c.loop-class.invariant (ap (class_lines p) none ∙ class_lines-none p)
+    all_written _ _ _ c.loop-class.invariant (ap (flat_map (class_line p)) none ∙ class_lines-none p)

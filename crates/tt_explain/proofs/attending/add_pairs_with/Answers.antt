@@ -1,6 +1,7 @@
 use Rattle.std.proofs.Common.{◌≡◌, [], ◌∷◌, List, ℕ, ap, ◌∙◌, rules}
+use Rattle.std.specs.List.{flat_map}
 use Rattle.tt_verify.specs.Pairs.{pairs_with}
-use Rattle.tt_explain.specs.Student.{conflict_between, pair_lines}
+use Rattle.tt_explain.specs.Student.{conflict_between, pair_line}
 use Rattle.tt_explain.proofs.LineLemmas.{next_written, all_written, pair_lines-more, pair_lines-none}
 use Rattle.tt_explain.proofs.attending.add_pairs_with.Goals as goal
 
@@ -17,4 +18,4 @@ returns c =
     let s = c.args.state.now in
     let none : c.loop-other.other-iterator ≡ [] = search rules in
     all_written _ _ _ c.loop-other.invariant
-    (ap (λ (left : List ℕ). pair_lines s.problem (pairs_with (conflict_between s.problem s.present) c.args.class left)) none ∙ pair_lines-none s.problem)
+    (ap (λ (left : List ℕ). flat_map (pair_line s.problem) (pairs_with (conflict_between s.problem s.present) c.args.class left)) none ∙ pair_lines-none s.problem)

@@ -1,9 +1,10 @@
 use Rattle.std.proofs.Common.{◌≡◌, ◌++◌}
+use Rattle.std.specs.List.{flat_map}
 use Rattle.tt_verify.specs.Pairs.{pairs_with}
-use Rattle.tt_explain.specs.Student.{conflict_between, pair_lines}
+use Rattle.tt_explain.specs.Student.{conflict_between, pair_line}
 use Rattle.tt_explain.proofs.attending.add_pairs_with.Given as goal
 
 abbrev pub invariant-loop-other : goal.invariant-loop-other
 invariant-loop-other l =
-    l.out ++ pair_lines l.state.problem (pairs_with (conflict_between l.state.problem l.state.present) l.class l.other-iterator)
-    ≡ l.fn.out ++ pair_lines l.state.problem (pairs_with (conflict_between l.state.problem l.state.present) l.class l.fn.later)
+    l.out ++ flat_map (pair_line l.state.problem) (pairs_with (conflict_between l.state.problem l.state.present) l.class l.other-iterator)
+    ≡ l.fn.out ++ flat_map (pair_line l.state.problem) (pairs_with (conflict_between l.state.problem l.state.present) l.class l.fn.later)
