@@ -21,7 +21,7 @@ use Rattle.tt_score.specs.Amounts.{rule_amount, cost_of, rule_cost, kind_cost}
 use Rattle.tt_score.specs.Members.{AreSpotsOf}
 use Rattle.tt_score.specs.Placed.{over_placed, paid_at}
 use Rattle.tt_score.specs.Totals.{totals_of}
-use Rattle.tt_state.specs.Snapshots.{Snapshot, list_in, value_in}
+use Rattle.tt_state.specs.Snapshots.{Snapshot, list_in}
 use Rattle.tt_verify.specs.Costs.{cost_at}
 use Rattle.tt_verify.specs.Pairs.{related_pairs}
 use Rattle.tt_verify.proofs.PairLemmas.{costs_by_place, length-related_pairs}

@@ -17,7 +17,8 @@ use Rattle.tt_state.specs.declared.obstacle.Obstacle.{Obstacle}
 use Rattle.tt_state.specs.Snapshots.{Snapshot, value_in}
 use Rattle.tt_state.specs.Values.{conflict_set_of, obstacle_of, total_with}
 use Rattle.tt_explain.specs.Values.{IsToldByWhy, value_costs, costs_text, price_text}
-use Rattle.tt_explain.specs.Why.{lost_among, lost_of, out_lines, trial_line, why_lines, obstacle_text}
+use Rattle.tt_explain.specs.Lost.{lost_among}
+use Rattle.tt_explain.specs.Why.{lost_of, out_lines, trial_line, why_lines, obstacle_text}
 
 -- where each class has a value, each loses one
 lost-all : (s : Snapshot) (others : List ℕ) → All (λ other. is_some (value_in s other) ≡ true) others → length (lost_among s others) ≡ length others
@@ -69,7 +70,7 @@ module _ (p : Parts) (s : Snapshot) (class : ℕ) (v : Value) where
 
   -- each class of the conflict set loses its value
   all_lost : (value_costs p s class v).out ≡ length (lost_of p s class v)
-  unfolding value_costs lost_of
+  unfolding value_costs lost_of lost_among
   all_lost = sym (lost-all s (conflict_set_of p s class v) (all_placed p s class v))
 
   pub told_by_why : IsToldByWhy p s class v

@@ -1,5 +1,5 @@
 -- Theorem. What `meets` writes of a class.
-use Rattle.std.specs.Prelude.{ℕ, Bool, ◌&&◌, List, ◌++◌, codes, count_by, filter, length, nat_eq, nat_lt, sum_by, if◌then◌else◌}
+use Rattle.std.specs.Prelude.{ℕ, ◌&&◌, List, ◌++◌, codes, count_by, filter, length, nat_eq, nat_lt, sum_by, if◌then◌else◌}
 use Rattle.std.specs.List.{flat_map, range_with_len}
 use Rattle.tt_base.specs.Lists.{is_listed}
 use Rattle.tt_problem.specs.declared.parts.Parts.{Parts}

@@ -25,7 +25,6 @@ use tt_published::Published;
 use tt_text::Reply;
 
 // Adds what is wrong with the listed classes and with the students' lists.
-#[tactic(auto, using(crate::proofs::CountLemmas::limit_faults_counted, std::proofs::Common::append_assoc), unfolding(crate::specs::Found::listing_faults))]
 fn add_listing_faults(
     alloc: Global,
     problem: &Problem,
