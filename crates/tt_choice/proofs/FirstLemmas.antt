@@ -7,7 +7,8 @@ use Rattle.std.proofs.lemmas.Bool.Decides.{nat_tests}
 use Rattle.tt_base.specs.Lists.{comes_before}
 use Rattle.tt_problem.specs.declared.parts.Span.{Span}
 use Rattle.tt_least.specs.Choices.{IsChoice}
-use Rattle.tt_choice.specs.Choices.{choices_of, each_before}
+use Rattle.tt_choice.specs.Choices.{choices_of}
+use Rattle.tt_choice.specs.Pieces.{each_before}
 use Rattle.tt_choice.specs.Least.{Situation, is_allowed, pairs_added}
 use Rattle.tt_choice.specs.Passed.{is_fewer, better, passed}
 use Rattle.tt_choice.specs.Searched.{IsFirstFewest}

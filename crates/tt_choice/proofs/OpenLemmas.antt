@@ -9,8 +9,9 @@ use Rattle.std.proofs.lemmas.List.Folds.{list_all-append, list_any-append, list_
 use Rattle.tt_base.specs.Lists.{is_listed}
 use Rattle.tt_problem.specs.declared.parts.Span.{Span}
 use Rattle.tt_problem.specs.Spans.{is_in}
-use Rattle.tt_choice.specs.Choices.{places_between, each_before, choices_of}
+use Rattle.tt_choice.specs.Choices.{choices_of}
 use Rattle.tt_choice.specs.Least.{Situation, has_parent_with, may_be_taken, is_allowed}
+use Rattle.tt_choice.specs.Pieces.{places_between, each_before}
 use Rattle.tt_choice.specs.Open.{may_come, can_all_be_filled}
 use Rattle.tt_choice.proofs.EachLemmas.{all_both, before-map, before-each, no-and, and-no, fails, all_follow}
 use Rattle.tt_choice.proofs.Order.{all-append, all-weaken}

@@ -2,6 +2,7 @@ pub mod Limits
 pub mod Least
 pub mod Passed
 pub mod Choices
+pub mod Pieces
 pub mod Situations
 pub mod Standings
 pub mod Found

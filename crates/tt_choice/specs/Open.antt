@@ -5,7 +5,7 @@ use Rattle.std.specs.Option.{option_map_or}
 use Rattle.tt_base.specs.Lists.{is_listed}
 use Rattle.tt_problem.specs.declared.parts.Span.{Span}
 use Rattle.tt_problem.specs.Spans.{is_in}
-use Rattle.tt_choice.specs.Choices.{places_between}
+use Rattle.tt_choice.specs.Pieces.{places_between}
 use Rattle.tt_choice.specs.Least.{Situation}
 
 -- the class has no parent, or its parent is in the front, already taken, or a class of the subparts still to come

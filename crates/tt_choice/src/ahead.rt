@@ -6,7 +6,7 @@ ghost use Rattle.tt_problem.specs.Spans.{is_in};
 ghost use Rattle.tt_base.specs.Limits.{most_classes};
 ghost use Rattle.tt_choice.specs.Limits.{most_across};
 ghost use Rattle.tt_choice.specs.Ahead.{AreSure, IsAcross, IsLeastOf, IsLeastWith, IsSureOf};
-ghost use Rattle.tt_choice.specs.Choices.{places_between};
+ghost use Rattle.tt_choice.specs.Pieces.{places_between};
 ghost use Rattle.tt_choice.specs.Open.{can_all_be_filled, may_come, may_have_parent};
 ghost use Rattle.tt_choice.specs.Standings.{situation_in};
 

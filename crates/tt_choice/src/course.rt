@@ -10,7 +10,8 @@ ghost use Rattle.tt_problem.specs.Spans.{IsSpanWithin};
 ghost use Rattle.tt_choice.specs.Tables.{AreTables};
 ghost use Rattle.tt_choice.specs.Searched.{AreInTurn, HasPlaceFor, lacks_none};
 ghost use Rattle.tt_least.specs.Choices.{AreApart};
-ghost use Rattle.tt_choice.specs.Choices.{choices_at, choices_of, choices_of_course};
+ghost use Rattle.tt_choice.specs.Choices.{choices_at, choices_of};
+ghost use Rattle.tt_choice.specs.Pieces.{choices_of_course};
 ghost use Rattle.tt_choice.specs.Ready.{HasRoomToChoose, HasRoomFor};
 ghost use Rattle.tt_choice.specs.Situations.{situation_of};
 ghost use Rattle.tt_choice.specs.Standings.{situation_in};
@@ -444,7 +445,7 @@ fn pairs_in(standing: &Standing, choice: &[u32]) -> u64
 /// The least allowed choice of a course for a student who has taken these classes, some of which may
 /// still lack their parent: how many classes it has, which then stand at the front of the buffer of
 /// the best, and `None` where no choice is allowed. The student's own list takes no seats.
-#[tactic(auto, unfolding(crate::specs::Choices::choices_at))]
+#[tactic(auto, unfolding(crate::specs::Choices::choices_at, crate::specs::Choices::configurations_of))]
 pub fn least_of_course(
     state: &State,
     student: u32,

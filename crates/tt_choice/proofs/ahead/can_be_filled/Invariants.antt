@@ -1,6 +1,6 @@
 use Rattle.std.proofs.Common.{◌≡◌}
 use Rattle.std.specs.List.{list_any}
-use Rattle.tt_choice.specs.Choices.{places_between}
+use Rattle.tt_choice.specs.Pieces.{places_between}
 use Rattle.tt_choice.specs.Open.{may_come}
 use Rattle.tt_choice.specs.Standings.{situation_in}
 use Rattle.tt_choice.proofs.ahead.can_be_filled.Given as goal

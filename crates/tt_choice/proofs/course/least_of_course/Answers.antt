@@ -1,7 +1,7 @@
 use Rattle.std.proofs.Common.{◌≡◌, ◌≤◌, ℕ, length, ap, sym, ◌∙◌, subst}
 use Rattle.std.specs.Prelude.{IfSome, slice_get}
 use Rattle.tt_problem.specs.declared.parts.Parts.{Parts}
-use Rattle.tt_choice.specs.Choices.{choices_of_course}
+use Rattle.tt_choice.specs.Pieces.{choices_of_course}
 use Rattle.tt_choice.specs.Least.{Situation, least_choice}
 use Rattle.tt_choice.specs.Situations.{situation_of}
 use Rattle.tt_choice.specs.Standings.{situation_in}
