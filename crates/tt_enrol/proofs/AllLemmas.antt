@@ -6,7 +6,8 @@ use Rattle.std.proofs.lemmas.List.Sums.{fold_push}
 use Rattle.tt_problem.specs.declared.parts.Parts.{Parts}
 use Rattle.tt_state.specs.Snapshots.{Snapshot}
 use Rattle.tt_state.specs.Sound.{lacks_classes}
-use Rattle.tt_enrol.specs.Enrolled.{AllEnrolled, one_student_more, with_student, enrolled, enrolled_below, all_enrolled}
+use Rattle.tt_enrol.specs.Enrolled.{AllEnrolled, one_student_more, with_student, enrolled, all_enrolled}
+use Rattle.tt_enrol.specs.Steps.{enrolled_below}
 
 range_next : (a n : ℕ) → range_with_len a (suc n) ≡ range_with_len a n ++ (a + n) ∷ []
 range_next a zero = ap (λ (k : ℕ). k ∷ []) (omega arith)

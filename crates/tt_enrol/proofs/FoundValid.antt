@@ -22,7 +22,8 @@ use Rattle.tt_choice.specs.Choices.{choices_at}
 use Rattle.tt_choice.specs.Least.{Situation, is_allowed, least_choice}
 use Rattle.tt_choice.specs.Situations.{situation_of}
 use Rattle.tt_choice.proofs.ParentLemmas.{has_parent_in, parents_kept, allowed_parents, allowed_seats}
-use Rattle.tt_enrol.specs.Students.{with_course, taken_in, classes_found}
+use Rattle.tt_enrol.specs.Students.{with_course, classes_found}
+use Rattle.tt_enrol.specs.Steps.{taken_in}
 use Rattle.tt_choice.specs.Seating.{MayGet}
 use Rattle.tt_choice.proofs.CountLemmas.{count_of-append}
 use Rattle.tt_enrol.proofs.EnrolledLemmas.{none_stays}

@@ -4,7 +4,7 @@ ghost use Rattle.std.specs.Prelude.{◌≡◌, ◌+◌, ◌*◌, ◌<◌, ◌≤
 ghost use Rattle.tt_choice.specs.Choices.{choices_at};
 ghost use Rattle.tt_choice.specs.Ready.{HasRoomToChoose};
 ghost use Rattle.tt_choice.specs.Situations.{courses_of, situation_of};
-ghost use Rattle.tt_enrol.specs.Students.{taken_in};
+ghost use Rattle.tt_enrol.specs.Steps.{taken_in};
 ghost use Rattle.tt_choice.specs.Found.{chosen_by};
 
 use tt_choice::{ChoiceBuffers, least_of_course};

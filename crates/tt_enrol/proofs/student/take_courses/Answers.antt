@@ -4,7 +4,7 @@ use Rattle.tt_problem.specs.declared.parts.Parts.{Parts}
 use Rattle.tt_problem.specs.Valid.{IsValid}
 use Rattle.tt_problem.proofs.SpanLemmas.{few_subparts}
 use Rattle.tt_choice.specs.Choices.{choices_at}
-use Rattle.tt_enrol.specs.Students.{taken_in}
+use Rattle.tt_enrol.specs.Steps.{taken_in}
 use Rattle.tt_choice.specs.Situations.{situation_of}
 use Rattle.tt_enrol.proofs.EnrolledLemmas.{enrolled-more, enrolled-stops}
 use Rattle.tt_enrol.proofs.TakenLemmas.{few_so_far, room_for, few_next, courses_are}
