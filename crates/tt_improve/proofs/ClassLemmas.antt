@@ -22,7 +22,8 @@ use Rattle.tt_state.specs.Snapshots.{Snapshot, StaysLocked, is_locked_in, may_lo
 use Rattle.tt_state.specs.Values.{blocked_of, conflict_set_of, total_with}
 use Rattle.tt_improve.specs.declared.classes.Best.{Best}
 use Rattle.tt_improve.specs.Below.{lower_of, lowest_after, nothing_below}
-use Rattle.tt_improve.specs.Classes.{is_free, total_of, least_value, at_lower, changed_class}
+use Rattle.tt_improve.specs.Classes.{is_free, total_of, least_value, at_lower}
+use Rattle.tt_improve.specs.Changed.{changed_class}
 use Rattle.tt_improve.specs.Standing.{IsLower, IsMovable, IsNoWorse}
 use Rattle.tt_improve.proofs.BelowLemmas.{least_below}
 use Rattle.tt_improve.proofs.FallLemmas.{spot_of_value, hard-falls}

@@ -1,7 +1,7 @@
 -- One round after another.
 use Rattle.std.proofs.Common.{◌≡◌, ℕ, zero, suc, ◌+◌, ◌-◌, ◌<◌, ◌≤◌, Bool, true, false, cond, List, Option, Some, None, length, refl, sym, ap, ◌∙◌, arith, inl, inr}
 use Rattle.std.specs.Prelude.{slice_get}
-use Rattle.std.specs.Option.{option_and_then}
+use Rattle.std.specs.Option.{option_and_then, option_map_or}
 use Rattle.std.proofs.lemmas.Option.{slice_get_cases}
 use Rattle.rand_core.specs.Stream.{Stream, next_u32}
 use Rattle.tt_problem.specs.declared.parts.Parts.{Parts}
@@ -10,7 +10,7 @@ use Rattle.tt_draw.specs.Draws.{drawn, drawn_place}
 use Rattle.tt_improve.specs.declared.targets.Target.{Target}
 use Rattle.tt_improve.specs.Idle.{changed_at}
 use Rattle.tt_improve.specs.Targets.{targets_of}
-use Rattle.tt_improve.specs.Rounds.{Improvement, after_rounds, changed_by, go_on, round_more}
+use Rattle.tt_improve.specs.Rounds.{Improvement, after_rounds, changed_by, round_more}
 use Rattle.tt_improve.specs.Standing.{IsNoWorse}
 use Rattle.tt_improve.specs.UnderWay.{so_far}
 
@@ -26,6 +26,10 @@ no_worse_next p s t u one two = record {
   targets = two.targets ∙ one.targets;
   locked = λ class is. let first = one.locked class is in let next = two.locked class first.1 in (next.0 ∙ first.0, next.1);
 }
+
+-- goes on with a target, if there is one
+abbrev go_on : Improvement → (Target → Improvement) → Option Target → Improvement
+go_on m next target = option_map_or next target m
 
 -- a round more, with the target that is drawn
 after_one : (p : Parts) (n : ℕ) (random : Stream) (m : Improvement) (target : Target) → drawn (next_u32 random).0 (targets_of p m.snapshot) ≡ Some target

@@ -33,8 +33,9 @@ use Rattle.tt_choice.proofs.PlaceLemmas.{AllOfCourse}
 use Rattle.tt_choice.proofs.ValidLemmas.{IsChoice, are_choices}
 use Rattle.tt_improve.specs.declared.targets.Target.{Target}
 use Rattle.tt_improve.specs.declared.targets.Target.TheVariants.{Class, Course}
-use Rattle.tt_improve.specs.Classes.{at_lower, changed_class, free_values, is_free, least_value, total_of}
-use Rattle.tt_improve.specs.Courses.{at_fewer, beside, changed_student, is_of_course, least_replacement, may_replace, own_of, replaced_by, rest_of}
+use Rattle.tt_improve.specs.Classes.{at_lower, is_free, least_value, total_of}
+use Rattle.tt_improve.specs.Courses.{at_fewer, beside, is_of_course, least_replacement, may_replace, own_of, replaced_by, rest_of}
+use Rattle.tt_improve.specs.Changed.{changed_class, changed_student}
 use Rattle.tt_improve.specs.Rounds.{changed_by}
 use Rattle.tt_improve.specs.Standing.{IsSeatedIn, IsTargetOf}
 use Rattle.tt_improve.specs.Touched.{have_in_common, meets}
@@ -46,16 +47,19 @@ module _ (p : Parts) (s : Snapshot) (class : ℕ) where
   abbrev IsNoLower : Value → Type 0
   IsNoLower v = is_free p s class v ≡ true → total_of p s ≤ total_with p s class v
 
+  abbrev free_values : List Value
+  free_values = filter (is_free p s class) (domain_of p class)
+
   pub class_best : changed_class p s class ≡ None → AllByRecursion IsNoLower (domain_of p class)
   unfolding changed_class least_value
   class_best none =
       all_of_kept (is_free p s class) (λ v. total_of p s ≤ total_with p s class v) (domain_of p class)
-      (none_below (total_with p s class) (λ v. []) (λ v. with_value s class (Some v)) (total_of p s) (free_values p s class) none)
+      (none_below (total_with p s class) (λ v. []) (λ v. with_value s class (Some v)) (total_of p s) free_values none)
 
   pub best_class : AllByRecursion IsNoLower (domain_of p class) → changed_class p s class ≡ None
   unfolding changed_class least_value
   best_class all =
-      below_none (total_with p s class) (λ v. []) (λ v. with_value s class (Some v)) (total_of p s) (free_values p s class)
+      below_none (total_with p s class) (λ v. []) (λ v. with_value s class (Some v)) (total_of p s) free_values
       (kept_of_all (is_free p s class) (λ v. total_of p s ≤ total_with p s class v) (domain_of p class) all)
 
 -- a course of a student is at its best where no choice that may replace the own classes adds fewer pairs
@@ -304,7 +308,7 @@ value_is p s t c is = by (least_value p s c) is
 -- a target that was found at its best stays so over a change that has nothing in common with it
 pub stays_best : (p : Parts) (s t : Snapshot) (target other : Target) → IsValid p → IsSound p s → IsTargetOf p s target → IsTargetOf p s other → changed_by p s target ≡ Some t → have_in_common p t target other ≡ false → changed_by p s other ≡ None
     → changed_by p t other ≡ None
-unfolding changed_by
+unfolding changed_by changed_class changed_student
 stays_best p s t (Class c) (Class d) valid sound target other is apart none = absurd (cc apart)
 stays_best p s t (Class c) (Course student course) valid sound target other is apart none =
     let value = value_is p s t c is in

@@ -40,7 +40,8 @@ use Rattle.tt_choice.proofs.Order.{all-append, all-weaken}
 use Rattle.tt_choice.proofs.SeatingLemmas.{all_seats}
 use Rattle.tt_choice.proofs.ValidLemmas.{IsChoice, are_choices, takes_at}
 use Rattle.tt_improve.specs.Classes.{total_of}
-use Rattle.tt_improve.specs.Courses.{at_fewer, beside, changed_student, is_of_course, least_replacement, may_replace, own_of, replaced_by, rest_of}
+use Rattle.tt_improve.specs.Courses.{at_fewer, beside, is_of_course, least_replacement, may_replace, own_of, replaced_by, rest_of}
+use Rattle.tt_improve.specs.Changed.{changed_student}
 use Rattle.tt_improve.specs.Targets.{seated_courses}
 use Rattle.tt_improve.specs.Standing.{IsNoWorse, IsSeatedIn}
 use Rattle.tt_improve.proofs.TargetLemmas.{changed-student_courses, changed-student_targets}

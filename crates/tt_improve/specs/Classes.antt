@@ -1,12 +1,11 @@
 -- Theorem. A round on a class.
-use Rattle.std.specs.Prelude.{ℕ, Bool, ◌&&◌, ◌==◌, nat_lt, List, [], ◌∷◌, Option, Some, None, length, if◌then◌else◌}
-use Rattle.std.specs.Option.{is_none, option_and_then}
+use Rattle.std.specs.Prelude.{ℕ, Bool, ◌&&◌, ◌==◌, nat_lt, [], ◌∷◌, Option, Some, None, length, if◌then◌else◌}
+use Rattle.std.specs.Option.{is_none}
 use Rattle.std.specs.List.{filter}
 use Rattle.tt_base.specs.Lists.{first_least}
 use Rattle.tt_bits.specs.declared.times.Value.{Value}
 use Rattle.tt_problem.specs.declared.parts.Parts.{Parts}
 use Rattle.tt_plan.specs.Domain.{domain_of}
-use Rattle.tt_score.specs.declared.totals.Totals.{Totals}
 use Rattle.tt_score.specs.Totals.{totals_of}
 use Rattle.tt_state.specs.Snapshots.{Snapshot, with_value}
 use Rattle.tt_state.specs.Values.{blocked_of, conflict_set_of, total_with}
@@ -15,26 +14,15 @@ use Rattle.tt_state.specs.Values.{blocked_of, conflict_set_of, total_with}
 abbrev pub is_free : Parts → Snapshot → (class : ℕ) → Value → Bool
 is_free p s class v = is_none (blocked_of p s.closures class v) && (length (conflict_set_of p s class v) == 0)
 
--- the free values of a class, in the order of its domain
-abbrev pub free_values : Parts → Snapshot → (class : ℕ) → List Value
-free_values p s class = filter (is_free p s class) (domain_of p class)
-
--- the first of the free values of a class with which the total is least
+-- the first of the free values of a class, in the order of its domain, with which the total is least
 unfoldable pub least_value : Parts → Snapshot → (class : ℕ) → Option Value
-least_value p s class = first_least (λ v. total_with p s class v ∷ []) (free_values p s class)
-
--- the totals of a snapshot
-abbrev pub totals_in : Parts → Snapshot → Totals
-totals_in p s = totals_of p s.closures s.plan s.lists
+least_value p s class =
+    first_least (λ v. total_with p s class v ∷ []) (filter (is_free p s class) (domain_of p class))
 
 -- the total of a snapshot
 abbrev pub total_of : Parts → Snapshot → ℕ
-total_of p s = (totals_in p s).total
+total_of p s = (totals_of p s.closures s.plan s.lists).total
 
 -- the snapshot with a class at a value, where the total is then below the present one
 abbrev pub at_lower : Parts → Snapshot → (class : ℕ) → Value → Option Snapshot
 at_lower p s class v = if nat_lt (total_with p s class v) (total_of p s) then Some (with_value s class (Some v)) else None
-
--- the snapshot after a round on a class, none where it changes nothing
-unfoldable pub changed_class : Parts → Snapshot → (class : ℕ) → Option Snapshot
-changed_class p s class = option_and_then (at_lower p s class) (least_value p s class)

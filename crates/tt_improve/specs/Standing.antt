@@ -9,8 +9,9 @@ use Rattle.tt_state.specs.Values.{total_with}
 use Rattle.tt_choice.specs.Situations.{courses_of}
 use Rattle.tt_improve.specs.declared.targets.Target.{Target}
 use Rattle.tt_improve.specs.declared.targets.Target.TheVariants.{Class, Course}
-use Rattle.tt_improve.specs.Classes.{is_free, total_of, totals_in}
+use Rattle.tt_improve.specs.Classes.{is_free, total_of}
 use Rattle.tt_improve.specs.Targets.{targets_of}
+use Rattle.tt_improve.specs.UnderWay.{totals_in}
 
 -- the class is one of the problem, it is placed, and it isn't locked
 pub record IsMovable (p : Parts) (s : Snapshot) (class : ℕ) : Type 0 where

@@ -6,7 +6,8 @@ ghost use Rattle.tt_plan.specs.Placements.{IsPlacement};
 ghost use Rattle.tt_state.specs.History.{IsWithinStep, earlier, with_taken};
 ghost use Rattle.tt_state.specs.Snapshots.{value_in, with_value};
 ghost use Rattle.tt_state.specs.Values.{total_with, without_of};
-ghost use Rattle.tt_improve.specs.Classes.{changed_class, is_free, total_of};
+ghost use Rattle.tt_improve.specs.Classes.{is_free, total_of};
+ghost use Rattle.tt_improve.specs.Changed.{changed_class};
 ghost use Rattle.tt_improve.specs.Below.{lower_of};
 ghost use Rattle.tt_improve.specs.Standing.{IsLower, IsMovable, IsNoWorse};
 

@@ -6,7 +6,8 @@ ghost use Rattle.tt_state.specs.History.{IsWithinStep, earlier};
 ghost use Rattle.tt_state.specs.Snapshots.{classes_in_order, list_in, with_list};
 ghost use Rattle.tt_choice.specs.Ready.{HasRoomToChoose};
 ghost use Rattle.tt_choice.specs.Seating.{MayGet};
-ghost use Rattle.tt_improve.specs.Courses.{changed_student, own_of, replaced_by, rest_of};
+ghost use Rattle.tt_improve.specs.Courses.{own_of, replaced_by, rest_of};
+ghost use Rattle.tt_improve.specs.Changed.{changed_student};
 ghost use Rattle.tt_improve.specs.Standing.{IsNoWorse, IsSeatedIn};
 
 use crate::pairs::{has_pair, is_of_course};

@@ -5,13 +5,12 @@ ghost use Rattle.tt_state.specs.Desk.{stepped};
 ghost use Rattle.tt_state.specs.History.{IsWithinStep, desk_of, earlier, with_taken};
 ghost use Rattle.tt_state.specs.Snapshots.{StaysLocked};
 ghost use Rattle.tt_choice.specs.Ready.{HasRoomToChoose};
-ghost use Rattle.tt_improve.specs.Classes.{totals_in};
 ghost use Rattle.tt_improve.specs.Idle.{KnowsIdle, changed_at, targets_in};
 ghost use Rattle.tt_improve.specs.Targets.{targets_of};
 ghost use Rattle.tt_improve.specs.Rounds.{changed_by, improved};
 ghost use Rattle.tt_improve.specs.Standing.{IsNoWorse, IsTargetOf};
 ghost use Rattle.tt_improve.specs.Touched.{IsTableOf};
-ghost use Rattle.tt_improve.specs.UnderWay.{so_far};
+ghost use Rattle.tt_improve.specs.UnderWay.{so_far, totals_in};
 
 use crate::classes::change_class;
 use crate::courses::change_student;
@@ -63,7 +62,7 @@ impl Descent {
 }
 
 // A round on a target, in the last step. Whether it changes something.
-#[tactic(auto, unfolding(crate::specs::Rounds::changed_by))]
+#[tactic(auto, unfolding(crate::specs::Rounds::changed_by, crate::specs::Changed::changed_class, crate::specs::Changed::changed_student))]
 fn make_round(
     alloc: Global,
     state: &mut State,
