@@ -23,10 +23,9 @@ use Rattle.tt_improve.specs.Targets.{movable_classes, seated_courses}
 use Rattle.tt_improve.specs.Standing.{IsMovable}
 use Rattle.tt_improve.proofs.ClassLemmas.{empty_is, none_is}
 use Rattle.tt_improve.proofs.FallLemmas.{hard-falls, spot_of_value}
-use Rattle.tt_deluge.specs.Deluged.{Targets, targets_at}
-use Rattle.tt_deluge.specs.ClassRounds.{half_exchanged}
 use Rattle.tt_deluge.specs.Standing.{StandsAs}
 use Rattle.tt_deluge.specs.StudentRounds.{choices_in}
+use Rattle.tt_deluge.specs.Pieces.{Targets, targets_at, half_exchanged}
 use Rattle.tt_deluge.proofs.ExchangeLemmas.{exchange-falls}
 
 -- the same classes are placed

@@ -12,8 +12,10 @@ use Rattle.tt_problem.specs.ListLengths.{spans_at}
 use Rattle.tt_problem.specs.Spans.{IsSpanWithin}
 use Rattle.tt_struct.proofs.SpanWalks.{from, next_span, nth_place}
 use Rattle.tt_draw.specs.Draws.{drawn, drawn_place}
-use Rattle.tt_deluge.specs.Draws.{by_item, draw_next}
-use Rattle.tt_deluge.specs.StudentRounds.{configurations_of, drawn_choice, fitting}
+use Rattle.tt_choice.specs.Choices.{configurations_of}
+use Rattle.tt_deluge.specs.Draws.{draw_next}
+use Rattle.tt_deluge.specs.StudentRounds.{drawn_choice}
+use Rattle.tt_deluge.specs.Pieces.{by_item, fitting}
 
 module _ (p : Parts) (rest : List ℕ) where
   -- what a choice goes on with, once a class of a subpart is drawn

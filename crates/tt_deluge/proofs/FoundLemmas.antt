@@ -15,10 +15,11 @@ use Rattle.tt_improve.specs.Standing.{IsMovable, IsTargetOf, IsSeatedIn}
 use Rattle.tt_improve.specs.declared.targets.Target.{Target}
 use Rattle.tt_improve.specs.declared.targets.Target.TheVariants.{Class, Course}
 use Rattle.tt_improve.proofs.TargetLemmas.{at_place, targets_are}
-use Rattle.tt_deluge.specs.ClassRounds.{class_change, class_drawn, class_round}
-use Rattle.tt_deluge.specs.Deluged.{Targets, are_none, found_by, found_of_kind, has_no_item, is_on_class}
-use Rattle.tt_deluge.specs.Draws.{by_item, draw_next}
+use Rattle.tt_deluge.specs.ClassRounds.{class_change, class_round}
+use Rattle.tt_deluge.specs.Deluged.{found_by}
+use Rattle.tt_deluge.specs.Draws.{by_draw, draw_next}
 use Rattle.tt_deluge.specs.StudentRounds.{choice_drawn, choices_in, is_choice, student_round}
+use Rattle.tt_deluge.specs.Pieces.{class_drawn, Targets, are_none, found_of_kind, has_no_item, is_on_class, by_item, targets_at}
 use Rattle.tt_deluge.proofs.ChangeLemmas.{movable-parts}
 
 front-all : {A : Type 0} (P : A → Type 0) (xs ys : List A) → AllByRecursion P (xs ++ ys) → AllByRecursion P xs × AllByRecursion P ys
@@ -63,38 +64,44 @@ domain-some p s class plan target = by (value_in s class) refl (movable-parts s 
         omega (arith, has.1)
 
 -- a round on a class, by what two words draw_next
-pub class-round-is : (p : Parts) (classes : List ℕ) (s : Snapshot) (kind : ℕ) (random one two : Stream) (at class place : ℕ) → (at, one) ≡ draw_next (length classes) random → slice_get classes at ≡ Some class → (place, two) ≡ draw_next (length (domain_of p class)) one
-    → class_round p classes s kind random ≡ (class_change p s kind class place, two)
+pub class-round-is : (p : Parts) (classes : List ℕ) (s : Snapshot) (kind : ℕ) (random one two : Stream) (at class place : ℕ) → classes ≡ movable_classes p s → (at, one) ≡ draw_next (length classes) random → slice_get classes at ≡ Some class → (place, two) ≡ draw_next (length (domain_of p class)) one
+    → class_round p s kind random ≡ (class_change p s kind class place, two)
 unfolding class_round
-class-round-is p classes s kind random one two at class place first is second =
+class-round-is p classes s kind random one two at class place are first is second =
     let at_is : at ≡ (draw_next (length classes) random).0 = ap (λ d. d.0) first in
     let one_is : one ≡ (next_u32 random).1 = ap (λ d. d.1) first in
     let there : slice_get classes (draw_next (length classes) random).0 ≡ Some class = ap (slice_get classes) (sym at_is) ∙ is in
-    ap (by_item (class_drawn p s kind) random) there
+    ap (λ (xs : List ℕ). by_draw xs (class_drawn p s kind) random) (sym are)
+    ∙ ap (by_item (class_drawn p s kind) random) there
     ∙ ap (class_drawn p s kind class) (sym one_is)
     ∙ ap (λ (d : ℕ × Stream). (class_change p s kind class d.0, d.1)) (sym second)
 
 -- a round on a student
-pub student-round-is : (p : Parts) (choices : List Target) (s : Snapshot) (random one : Stream) (at count : ℕ) (target : Target) → count ≡ length choices → (at, one) ≡ draw_next count random → slice_get choices at ≡ Some target
-    → student_round p choices s random ≡ choice_drawn p s target one
+pub student-round-is : (p : Parts) (choices : List Target) (s : Snapshot) (random one : Stream) (at count : ℕ) (target : Target) → choices ≡ choices_in p s → count ≡ length choices → (at, one) ≡ draw_next count random → slice_get choices at ≡ Some target
+    → student_round p s random ≡ choice_drawn p s target one
 unfolding student_round
-student-round-is p choices s random one at count target long first is =
+student-round-is p choices s random one at count target are long first is =
     let drawn = first ∙ ap (λ (n : ℕ). draw_next n random) long in
     let at_is : at ≡ (draw_next (length choices) random).0 = ap (λ d. d.0) drawn in
     let one_is : one ≡ (next_u32 random).1 = ap (λ d. d.1) drawn in
     let there : slice_get choices (draw_next (length choices) random).0 ≡ Some target = ap (slice_get choices) (sym at_is) ∙ is in
-    ap (by_item (choice_drawn p s) random) there ∙ ap (choice_drawn p s target) (sym one_is)
+    ap (λ (xs : List Target). by_draw xs (choice_drawn p s) random) (sym are)
+    ∙ ap (by_item (choice_drawn p s) random) there ∙ ap (choice_drawn p s target) (sym one_is)
 
 -- a round by its kind
-pub found-of : (p : Parts) (o : Targets) (s : Snapshot) (random one : Stream) (kind : ℕ) → (kind, one) ≡ draw_next 32 random → found_by p o s random ≡ found_of_kind p o s kind one
+pub found-of : (p : Parts) (s : Snapshot) (random one : Stream) (kind : ℕ) → (kind, one) ≡ draw_next 32 random → found_by p s random ≡ found_of_kind p s kind one
 unfolding found_by
-found-of p o s random one kind drawn = ap (λ (d : ℕ × Stream). found_of_kind p o s d.0 d.1) (sym drawn)
+found-of p s random one kind drawn = ap (λ (d : ℕ × Stream). found_of_kind p s d.0 d.1) (sym drawn)
 
-pub found-class : (p : Parts) (o : Targets) (s : Snapshot) (random one : Stream) (kind : ℕ) → (kind, one) ≡ draw_next 32 random → is_on_class o kind ≡ true → found_by p o s random ≡ class_round p o.classes s kind one
-found-class p o s random one kind drawn is = found-of p o s random one kind drawn ∙ ap (λ (b : Bool). if b then class_round p o.classes s kind one else student_round p o.choices s one) is
+pub found-class : (p : Parts) (o : Targets) (s : Snapshot) (random one : Stream) (kind : ℕ) → o ≡ targets_at p s → (kind, one) ≡ draw_next 32 random → is_on_class o kind ≡ true → found_by p s random ≡ class_round p s kind one
+found-class p o s random one kind are drawn is =
+    found-of p s random one kind drawn
+    ∙ ap (λ (b : Bool). if b then class_round p s kind one else student_round p s one) (ap (λ (t : Targets). is_on_class t kind) (sym are) ∙ is)
 
-pub found-student : (p : Parts) (o : Targets) (s : Snapshot) (random one : Stream) (kind : ℕ) → (kind, one) ≡ draw_next 32 random → is_on_class o kind ≡ false → found_by p o s random ≡ student_round p o.choices s one
-found-student p o s random one kind drawn is = found-of p o s random one kind drawn ∙ ap (λ (b : Bool). if b then class_round p o.classes s kind one else student_round p o.choices s one) is
+pub found-student : (p : Parts) (o : Targets) (s : Snapshot) (random one : Stream) (kind : ℕ) → o ≡ targets_at p s → (kind, one) ≡ draw_next 32 random → is_on_class o kind ≡ false → found_by p s random ≡ student_round p s one
+found-student p o s random one kind are drawn is =
+    found-of p s random one kind drawn
+    ∙ ap (λ (b : Bool). if b then class_round p s kind one else student_round p s one) (ap (λ (t : Targets). is_on_class t kind) (sym are) ∙ is)
 
 -- where there is something to change, a round on a class has a class, and one on a student a student
 some-items : {A : Type 0} (xs : List A) → has_no_item xs ≡ false → 0 < length xs

@@ -10,9 +10,9 @@ use Rattle.tt_state.specs.Snapshots.{Snapshot, is_locked_in, with_value}
 use Rattle.tt_state.specs.Values.{blocked_of, conflict_set_of, total_with}
 use Rattle.tt_score.specs.Below.{below}
 use Rattle.tt_improve.specs.Classes.{is_free, total_of}
-use Rattle.tt_deluge.specs.ClassRounds.{moved_by_conflict_set, class_change, exchange_value, exchanged, half_exchanged, has_value, moved_to_next, moved_to_value}
-use Rattle.tt_deluge.specs.Deluged.{made_within}
+use Rattle.tt_deluge.specs.ClassRounds.{moved_by_conflict_set, class_change, exchange_value, exchanged, has_value, moved_to_value}
 use Rattle.tt_deluge.specs.Standing.{BeginsWith, IsClassRound, StandsAs}
+use Rattle.tt_deluge.specs.Pieces.{half_exchanged, moved_to_next, made_within}
 use Rattle.tt_deluge.proofs.ChangeLemmas.{stands-same}
 use Rattle.tt_deluge.proofs.FrontLemmas.{front-same}
 use Rattle.tt_deluge.proofs.LevelLemmas.{below-level}

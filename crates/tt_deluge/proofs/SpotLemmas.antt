@@ -3,7 +3,7 @@ use Rattle.std.proofs.Common.{◌≡◌, ℕ, zero, suc, ◌+◌, ◌<◌, ◌�
 use Rattle.std.specs.Prelude.{◌&&◌, ◌==◌, is_some, nat_eq, slice_get, if◌then◌else◌}
 use Rattle.std.specs.Bool.{then_some}
 use Rattle.std.specs.List.{find, flat_map, range_with_len}
-use Rattle.std.specs.Option.{option_and_then, option_eq, option_map, option_map_or}
+use Rattle.std.specs.Option.{option_and_then, option_eq, option_map, option_map_or, option_or}
 use Rattle.std.proofs.lemmas.Bool.{ne_eqb}
 use Rattle.tt_bits.specs.declared.times.Spot.{Spot}
 use Rattle.tt_bits.specs.declared.times.Time.{Time}
@@ -15,14 +15,14 @@ use Rattle.tt_problem.specs.declared.parts.TimeChoice.{TimeChoice}
 use Rattle.tt_plan.specs.Domain.{spot_at_value, spot_for, value_of, values_per_time}
 use Rattle.tt_plan.proofs.DomainLemmas.{domain_of-part}
 use Rattle.tt_state.specs.Snapshots.{Snapshot, value_in}
-use Rattle.tt_deluge.specs.ClassRounds.{begin_alike, exchange_value, first_some, spot_in, stands_at, value_at_time, value_by_spots}
+use Rattle.tt_deluge.specs.ClassRounds.{begin_alike, exchange_value, spot_in, stands_at, value_at_time}
 use Rattle.tt_deluge.specs.Places.{is_alike_at, is_room_at, place_of_room, place_of_time}
 
-find-append : {A : Type 0} (test : A → Bool) (xs ys : List A) → find test (xs ++ ys) ≡ first_some (find test xs) (find test ys)
+find-append : {A : Type 0} (test : A → Bool) (xs ys : List A) → find test (xs ++ ys) ≡ option_or (find test xs) (find test ys)
 find-append test [] ys = refl
 find-append {A = A} test (x ∷ xs) ys = by (test x) (find-append test xs ys)
   where
-    by : (b : Bool) → find test (xs ++ ys) ≡ first_some (find test xs) (find test ys) → cond b (Some x) (find test (xs ++ ys)) ≡ first_some (cond b (Some x) (find test xs)) (find test ys)
+    by : (b : Bool) → find test (xs ++ ys) ≡ option_or (find test xs) (find test ys) → cond b (Some x) (find test (xs ++ ys)) ≡ option_or (cond b (Some x) (find test xs)) (find test ys)
     by true rest = refl
     by false rest = rest
 
@@ -54,18 +54,18 @@ grid test g h rooms same (time ∷ times) =
     find-append test (map (value_of time) rooms) (flat_map (λ time. map (value_of time) rooms) times) ∙ by (g time) refl (grid test g h rooms same times)
   where
     whole : g time ≡ true → (o : Option ℕ) → find h rooms ≡ o → find test (flat_map (λ time. map (value_of time) rooms) times) ≡ option_and_then (λ t. option_map (value_of t) o) (find g times)
-        → first_some (option_map (value_of time) o) (find test (flat_map (λ time. map (value_of time) rooms) times)) ≡ option_map (value_of time) o
+        → option_or (option_map (value_of time) o) (find test (flat_map (λ time. map (value_of time) rooms) times)) ≡ option_map (value_of time) o
     whole e None is rest = rest ∙ no-room (find g times)
     whole e (Some room) is rest = refl
 
     by : (b : Bool) → g time ≡ b → find test (flat_map (λ time. map (value_of time) rooms) times) ≡ option_and_then (λ t. option_map (value_of t) (find h rooms)) (find g times)
-        → first_some (find test (map (value_of time) rooms)) (find test (flat_map (λ time. map (value_of time) rooms) times)) ≡ option_and_then (λ t. option_map (value_of t) (find h rooms)) (cond b (Some time) (find g times))
+        → option_or (find test (map (value_of time) rooms)) (find test (flat_map (λ time. map (value_of time) rooms) times)) ≡ option_and_then (λ t. option_map (value_of t) (find h rooms)) (cond b (Some time) (find g times))
     by true e rest =
         let row = row-right test h time rooms (λ (room : ℕ). same time room ∙ ap (λ (b : Bool). b && h room) e) in
-        ap (λ (o : Option Value). first_some o (find test (flat_map (λ time. map (value_of time) rooms) times))) row ∙ whole e (find h rooms) refl rest
+        ap (λ (o : Option Value). option_or o (find test (flat_map (λ time. map (value_of time) rooms) times))) row ∙ whole e (find h rooms) refl rest
     by false e rest =
         let row = row-wrong test time rooms (λ (room : ℕ). same time room ∙ ap (λ (b : Bool). b && h room) e) in
-        ap (λ (o : Option Value). first_some o (find test (flat_map (λ time. map (value_of time) rooms) times))) row ∙ rest
+        ap (λ (o : Option Value). option_or o (find test (flat_map (λ time. map (value_of time) rooms) times))) row ∙ rest
 
 -- whether a value of a class stands at a time and in a room, by its places
 stands-by : (p : Parts) (class : ℕ) (c : ClassPart) (t : Time) (room : Option ℕ) (v : Value) → slice_get p.classes class ≡ Some c → stands_at p class t room v ≡ (is_alike_at c.times t v.time && is_room_at c.rooms room v.room)
@@ -116,6 +116,10 @@ alike-at times t place choice is = ap (λ (o : Option TimeChoice). option_map_or
 pub room-at : (rooms : List RoomChoice) (room place : ℕ) (choice : RoomChoice) → slice_get rooms place ≡ Some choice → is_room_at rooms (Some room) place ≡ (choice.room == room)
 room-at rooms room place choice is = ap (λ (o : Option RoomChoice). option_eq nat_eq (option_map (λ (r : RoomChoice). r.room) o) (Some room)) is
 
+-- the value by which the other class of an exchange comes to the time of the class
+abbrev value_by_spots : Parts → (other : ℕ) → (at had : Spot) → Option Value
+value_by_spots p other at had = option_or (value_at_time p other at.time at.room) (value_at_time p other at.time had.room)
+
 -- a class to which an exchange gives a value is placed
 pub exchange-placed : (p : Parts) (s : Snapshot) (class other : ℕ) (to : Value) → exchange_value p s class other ≡ Some to → is_some (value_in s other) ≡ true
 unfolding exchange_value
@@ -148,9 +152,9 @@ exchange-no-had p s class other at is none =
     ∙ ap (option_and_then (λ (had : Spot). value_by_spots p other at had)) none
 
 pub exchange-by : (p : Parts) (s : Snapshot) (class other : ℕ) (at had : Spot) (first : Option Value) → spot_in p s class ≡ Some at → spot_in p s other ≡ Some had → value_at_time p other at.time at.room ≡ first
-    → exchange_value p s class other ≡ first_some first (value_at_time p other at.time had.room)
+    → exchange_value p s class other ≡ option_or first (value_at_time p other at.time had.room)
 unfolding exchange_value
 exchange-by p s class other at had first is had_is first_is =
     ap (option_and_then (λ (at : Spot). option_and_then (λ (had : Spot). value_by_spots p other at had) (spot_in p s other))) is
     ∙ ap (option_and_then (λ (had : Spot). value_by_spots p other at had)) had_is
-    ∙ ap (λ (o : Option Value). first_some o (value_at_time p other at.time had.room)) first_is
+    ∙ ap (λ (o : Option Value). option_or o (value_at_time p other at.time had.room)) first_is

@@ -24,9 +24,9 @@ use Rattle.tt_improve.specs.Targets.{movable_classes}
 use Rattle.tt_improve.specs.Standing.{IsSeatedIn}
 use Rattle.tt_improve.specs.declared.targets.Target.{Target}
 use Rattle.tt_improve.proofs.StudentLemmas.{replaced_courses, replaced_total, rest_below, rest_seats}
-use Rattle.tt_deluge.specs.Deluged.{Targets, made_within}
 use Rattle.tt_deluge.specs.Standing.{StandsAs}
 use Rattle.tt_deluge.specs.StudentRounds.{choices_in, is_choice, replaced}
+use Rattle.tt_deluge.specs.Pieces.{Targets, made_within}
 
 -- where no item fails, all pass
 none_fails : (f : ℕ → Bool) (xs : List ℕ) → find (λ c. not (f c)) xs ≡ None → list_all f xs ≡ true

@@ -22,9 +22,9 @@ use Rattle.tt_improve.specs.declared.targets.Target.TheVariants.{Class, Course}
 use Rattle.tt_improve.proofs.TargetLemmas.{at_place, few_targets, targets_are}
 use Rattle.tt_improve.proofs.StudentLemmas.{within_courses}
 use Rattle.tt_deluge.specs.declared.targets.Targets.{Targets as Kept}
-use Rattle.tt_deluge.specs.Deluged.{Targets, targets_at}
-use Rattle.tt_deluge.specs.StudentRounds.{choices_in, has_choice, is_choice, is_single}
+use Rattle.tt_deluge.specs.StudentRounds.{choices_in, is_choice, is_single}
 use Rattle.tt_deluge.specs.Views.{IsCourseWithin, class_of, target_of, targets_in}
+use Rattle.tt_deluge.specs.Pieces.{Targets, targets_at, has_choice}
 use Rattle.tt_deluge.proofs.ChoiceLemmas.{configurations_are}
 
 -- a second configuration

@@ -1,7 +1,7 @@
 -- Theorem. A round on a class: another value for it, or an exchange with the one class in its way.
 use Rattle.std.specs.Prelude.{ℕ, Bool, false, not, ◌&&◌, ◌||◌, ◌==◌, nat_eq, nat_lt, List, [], ◌∷◌, ◌++◌, Option, Some, None, drop, take, length, slice_get, if◌then◌else◌}
 use Rattle.std.specs.List.{find}
-use Rattle.std.specs.Option.{is_some, option_and_then, option_eq, option_map, option_map_or}
+use Rattle.std.specs.Option.{is_some, option_and_then, option_eq, option_map, option_map_or, option_or}
 use Rattle.rand_core.specs.Stream.{Stream}
 use Rattle.tt_bits.specs.declared.times.Spot.{Spot}
 use Rattle.tt_bits.specs.declared.times.Time.{Time}
@@ -12,6 +12,7 @@ use Rattle.tt_plan.specs.Domain.{domain_of, spot_at_value}
 use Rattle.tt_state.specs.Snapshots.{Snapshot, is_locked_in, value_in, with_value}
 use Rattle.tt_state.specs.Values.{blocked_of, conflict_set_of, is_value}
 use Rattle.tt_improve.specs.Classes.{is_free}
+use Rattle.tt_improve.specs.Targets.{movable_classes}
 use Rattle.tt_deluge.specs.Draws.{by_draw, draw_next}
 
 -- the class has this value
@@ -38,37 +39,23 @@ stands_at p class t room v = option_map_or (λ x. begin_alike x.time t && option
 abbrev pub value_at_time : Parts → (class : ℕ) → Time → (room : Option ℕ) → Option Value
 value_at_time p class t room = find (stands_at p class t room) (domain_of p class)
 
--- an item, or another where there is none
-abbrev pub first_some : {A : Type 0} → Option A → Option A → Option A
-first_some None other = other
-first_some (Some x) other = Some x
-
 -- the spot that a class has
 abbrev pub spot_in : Parts → Snapshot → (class : ℕ) → Option Spot
 spot_in p s class = option_and_then (spot_at_value p class) (value_in s class)
 
 -- the value by which the other class of an exchange comes to the time of the class: with the room of the class, or else with its own
-abbrev pub value_by_spots : Parts → (other : ℕ) → (at had : Spot) → Option Value
-value_by_spots p other at had = first_some (value_at_time p other at.time at.room) (value_at_time p other at.time had.room)
-
--- the same for two classes of a snapshot
 unfoldable pub exchange_value : Parts → Snapshot → (class other : ℕ) → Option Value
 exchange_value p s class other =
-    option_and_then (λ at. option_and_then (λ had. value_by_spots p other at had) (spot_in p s other)) (spot_in p s class)
+    option_and_then (λ at. let to = value_at_time p other at.time in
+    option_and_then (λ had. option_or (to at.room) (to had.room)) (spot_in p s other)) (spot_in p s class)
 
--- a snapshot without the other class, and with the class at a value
-abbrev pub half_exchanged : Snapshot → (class : ℕ) → Value → (other : ℕ) → Snapshot
-half_exchanged s class v other = with_value (with_value s other None) class (Some v)
-
--- the other value is not the one that the other class has, the value is free without the other class, and the other value is free then
-abbrev pub may_exchange : Parts → Snapshot → (class : ℕ) → Value → (other : ℕ) → (to : Value) → Bool
-may_exchange p s class v other to =
-    not (has_value s other to) && is_free p (with_value s other None) class v && is_free p (half_exchanged s class v other) other to
-
--- the snapshot after an exchange, none where it may not be
+-- the snapshot after an exchange, none where the other value is the one that the other class has, where the value is not free without
+-- the other class, or where the other value is not free once the class has its own
 abbrev pub exchanged : Parts → Snapshot → (class : ℕ) → Value → (other : ℕ) → (to : Value) → Option Snapshot
 exchanged p s class v other to =
-    if may_exchange p s class v other to then Some (with_value (half_exchanged s class v other) other (Some to)) else None
+    let half = with_value (with_value s other None) class (Some v) in
+    if not (has_value s other to) && is_free p (with_value s other None) class v && is_free p half other to
+    then Some (with_value half other (Some to)) else None
 
 -- the snapshot with a class at a value that isn't blocked, by the conflict set: where it is empty, or one class that isn't locked, in an exchange with it
 abbrev pub moved_by_conflict_set : Parts → Snapshot → (class : ℕ) → Value → (conflicts : List ℕ) → Option Snapshot
@@ -82,20 +69,14 @@ unfoldable pub moved_to_value : Parts → Snapshot → (class : ℕ) → Value �
 moved_to_value p s class v =
     if has_value s class v || is_some (blocked_of p s.closures class v) then None else moved_by_conflict_set p s class v (conflict_set_of p s class v)
 
--- the snapshot with a class at the next free value, none where it has none
-abbrev pub moved_to_next : Parts → Snapshot → (class place : ℕ) → Option Snapshot
-moved_to_next p s class place = option_map (λ v. with_value s class (Some v)) (next_free p s class place)
-
 -- the change of a class by a kind below 32 and a place in its domain: kinds 0 and 1 walk on to the next free value
 unfoldable pub class_change : Parts → Snapshot → (kind class place : ℕ) → Option Snapshot
 class_change p s kind class place =
-    if nat_lt kind 2 then moved_to_next p s class place else option_and_then (moved_to_value p s class) (slice_get (domain_of p class) place)
+    if nat_lt kind 2 then option_map (λ v. with_value s class (Some v)) (next_free p s class place)
+    else option_and_then (moved_to_value p s class) (slice_get (domain_of p class) place)
 
--- the change of a class, with a place in its domain by the next word, and the words after it
-abbrev pub class_drawn : Parts → Snapshot → (kind class : ℕ) → Stream → Option Snapshot × Stream
-class_drawn p s kind class random =
-    let place = draw_next (length (domain_of p class)) random in (class_change p s kind class place.0, place.1)
-
--- what a round on one of these classes finds
-unfoldable pub class_round : Parts → (classes : List ℕ) → Snapshot → (kind : ℕ) → Stream → Option Snapshot × Stream
-class_round p classes s kind random = by_draw classes (class_drawn p s kind) random
+-- what a round on a placed class that isn't locked finds: the next word draws the class, and the one after it a place in its domain
+unfoldable pub class_round : Parts → Snapshot → (kind : ℕ) → Stream → Option Snapshot × Stream
+class_round p s kind random = by_draw (movable_classes p s) (λ class rest.
+    let place = draw_next (length (domain_of p class)) rest in
+    (class_change p s kind class place.0, place.1)) random

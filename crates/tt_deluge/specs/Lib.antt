@@ -2,6 +2,7 @@ pub mod Draws
 pub mod ClassRounds
 pub mod StudentRounds
 pub mod Deluged
+pub mod Pieces
 pub mod Standing
 pub mod Reading
 pub mod Views

@@ -1,79 +1,60 @@
 -- Theorem. A round on a student: other classes of a course.
-use Rattle.std.specs.Prelude.{ℕ, Bool, false, true, not, ◌&&◌, nat_eq, nat_le, List, [], ◌∷◌, ◌++◌, Option, Some, None, map, slice_get, if◌then◌else◌}
+use Rattle.std.specs.Prelude.{ℕ, Bool, false, not, ◌&&◌, nat_eq, nat_le, List, [], ◌∷◌, ◌++◌, Option, Some, None, if◌then◌else◌}
 use Rattle.std.specs.Cmp.Lexicographic.{pointwise}
 use Rattle.std.specs.List.{filter, list_all}
-use Rattle.std.specs.Option.{option_and_then, option_map_or}
+use Rattle.std.specs.Option.{option_and_then}
 use Rattle.rand_core.specs.Stream.{Stream}
-use Rattle.tt_base.specs.Lists.{is_listed}
 use Rattle.tt_problem.specs.declared.parts.Span.{Span}
 use Rattle.tt_problem.specs.declared.parts.Parts.{Parts}
-use Rattle.tt_problem.specs.ListLengths.{span_length, spans_at}
+use Rattle.tt_problem.specs.ListLengths.{span_length}
+use Rattle.tt_struct.specs.Enrolments.{has_parent}
 use Rattle.tt_state.specs.Snapshots.{Snapshot, classes_in_order, list_in, with_list}
-use Rattle.tt_choice.specs.Choices.{places_between}
-use Rattle.tt_choice.specs.Situations.{parent_in}
+use Rattle.tt_choice.specs.Choices.{configurations_of, span_places}
 use Rattle.tt_improve.specs.Courses.{may_replace, own_of, rest_of}
 use Rattle.tt_improve.specs.Targets.{seated_courses}
 use Rattle.tt_improve.specs.declared.targets.Target.{Target}
 use Rattle.tt_improve.specs.declared.targets.Target.TheVariants.{Class, Course}
 use Rattle.tt_deluge.specs.Draws.{by_draw}
 
--- the configurations of a course, each as its subparts
-unfoldable pub configurations_of : Parts → (course : ℕ) → List (List Span)
-configurations_of p course = option_map_or (λ part. map (spans_at p.subparts) (spans_at p.configs part.configs)) (slice_get p.courses course) []
-
 -- there is one configuration, and each of its subparts has at most one class
 abbrev pub is_single : List (List Span) → Bool
 is_single (subparts ∷ []) = list_all (λ subpart. nat_le (span_length subpart) 1) subparts
 is_single _ = false
 
--- a student has a choice of classes of a course
-abbrev pub has_choice : Parts → (course : ℕ) → Bool
-has_choice p course = not (is_single (configurations_of p course))
-
--- the target is a course of a student with a choice of classes
+-- the target is a course of a student with a choice of its classes
 abbrev pub is_choice : Parts → Target → Bool
 is_choice p (Class class) = false
-is_choice p (Course student course) = has_choice p course
+is_choice p (Course student course) = not (is_single (configurations_of p course))
 
 -- the courses with a choice of each student who has classes, in order
 unfoldable pub choices_in : Parts → Snapshot → List Target
 choices_in p s = filter (is_choice p) (seated_courses p s)
 
--- a class fits beside others: it has no parent, or its parent is one of them
-abbrev pub fits_beside : Parts → (others : List ℕ) → (class : ℕ) → Bool
-fits_beside p others class = option_map_or (λ parent. is_listed parent others) (parent_in p class) true
-
--- the classes of a subpart that fit beside others
-abbrev pub fitting : Parts → (others : List ℕ) → Span → List ℕ
-fitting p others subpart = filter (fits_beside p others) (places_between subpart.first subpart.after)
-
--- a choice goes on with one class of each of these subparts, drawn among those that fit beside the rest and the choice so far;
--- nothing where none fits, and then no more is drawn
+-- a choice goes on with one class of each of these subparts, drawn among those that have no parent, or one in the rest or the
+-- choice so far; nothing where there is none, and then no more is drawn
 abbrev pub drawn_choice : Parts → (rest so_far : List ℕ) → List Span → Stream → Option (List ℕ) × Stream
 drawn_choice p rest so_far [] random = (Some so_far, random)
 drawn_choice p rest so_far (subpart ∷ subparts) random =
-    by_draw (fitting p (rest ++ so_far) subpart) (λ class. drawn_choice p rest (so_far ++ class ∷ []) subparts) random
+    by_draw (filter (has_parent p (rest ++ so_far)) (span_places subpart))
+    (λ class. drawn_choice p rest (so_far ++ class ∷ []) subparts) random
 
 -- the snapshot in which a choice replaces the student's own classes of a course, where it differs and may do so
 abbrev pub replaced : Parts → Snapshot → (student : ℕ) → (rest own choice : List ℕ) → Option Snapshot
 replaced p s student rest own choice =
     if not (pointwise nat_eq choice own) && may_replace p s student rest choice then Some (with_list s student (classes_in_order (rest ++ choice))) else None
 
--- the change of a student by a choice, if there is one
-abbrev pub replaced_if : Parts → Snapshot → (student : ℕ) → (rest own : List ℕ) → Option (List ℕ) × Stream → Option Snapshot × Stream
-replaced_if p s student rest own (choice, random) = (option_and_then (replaced p s student rest own) choice, random)
-
 -- the change of a student by a choice of these subparts that the words draw
 abbrev pub student_drawn : Parts → Snapshot → (student course : ℕ) → List Span → Stream → Option Snapshot × Stream
 student_drawn p s student course subparts random =
     let rest = rest_of p course (list_in s student) in
-    replaced_if p s student rest (own_of p course (list_in s student)) (drawn_choice p rest [] subparts random)
+    let choice = drawn_choice p rest [] subparts random in
+    (option_and_then (replaced p s student rest (own_of p course (list_in s student))) choice.0, choice.1)
 
 -- the change of a course of a student: first a configuration is drawn
 abbrev pub choice_drawn : Parts → Snapshot → Target → Stream → Option Snapshot × Stream
 choice_drawn p s (Class class) random = (None, random)
 choice_drawn p s (Course student course) random = by_draw (configurations_of p course) (student_drawn p s student course) random
 
--- what a round on one of these courses of students finds
-unfoldable pub student_round : Parts → (choices : List Target) → Snapshot → Stream → Option Snapshot × Stream
-student_round p choices s random = by_draw choices (choice_drawn p s) random
+-- what a round on a course with a choice of a student finds
+unfoldable pub student_round : Parts → Snapshot → Stream → Option Snapshot × Stream
+student_round p s random = by_draw (choices_in p s) (choice_drawn p s) random

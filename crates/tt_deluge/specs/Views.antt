@@ -5,8 +5,7 @@ use Rattle.tt_improve.specs.declared.targets.Target.{Target}
 use Rattle.tt_improve.specs.declared.targets.Target.TheVariants.{Class, Course}
 use Rattle.tt_deluge.specs.declared.targets.Choice.{Choice}
 use Rattle.tt_deluge.specs.declared.targets.Targets.{Targets as Kept}
-use Rattle.tt_deluge.specs.Deluged.{Targets}
-use Rattle.tt_deluge.specs.StudentRounds.{has_choice}
+use Rattle.tt_deluge.specs.Pieces.{Targets, has_choice}
 
 -- the course of a student
 abbrev pub target_of : Choice → Target

@@ -9,9 +9,9 @@ ghost use Rattle.tt_state.specs.History.{IsWithinStep, earlier, trail, with_take
 ghost use Rattle.tt_state.specs.Snapshots.{with_value};
 ghost use Rattle.tt_improve.specs.Classes.{is_free};
 ghost use Rattle.tt_improve.specs.Standing.{IsMovable};
-ghost use Rattle.tt_deluge.specs.ClassRounds.{class_change, moved_to_next, moved_to_value, next_free};
-ghost use Rattle.tt_deluge.specs.Deluged.{made_within};
+ghost use Rattle.tt_deluge.specs.ClassRounds.{class_change, moved_to_value, next_free};
 ghost use Rattle.tt_deluge.specs.Standing.{BeginsWith, IsClassRound, StandsAs};
+ghost use Rattle.tt_deluge.specs.Pieces.{moved_to_next, made_within};
 
 use crate::exchange::exchange;
 use crate::values::{has_value, is_free};

@@ -7,9 +7,10 @@ ghost use Rattle.tt_state.specs.History.{IsWithinStep, earlier, trail, with_take
 ghost use Rattle.tt_state.specs.Snapshots.{is_locked_in, with_value};
 ghost use Rattle.tt_improve.specs.Classes.{is_free};
 ghost use Rattle.tt_improve.specs.Standing.{IsMovable};
-ghost use Rattle.tt_deluge.specs.ClassRounds.{moved_by_conflict_set, begin_alike, exchange_value, half_exchanged, spot_in, value_at_time};
+ghost use Rattle.tt_deluge.specs.ClassRounds.{moved_by_conflict_set, begin_alike, exchange_value, spot_in, value_at_time};
 ghost use Rattle.tt_deluge.specs.Places.{place_of_room, place_of_time};
 ghost use Rattle.tt_deluge.specs.Standing.{BeginsWith, IsClassRound};
+ghost use Rattle.tt_deluge.specs.Pieces.{half_exchanged};
 
 use crate::values::{has_value, is_free};
 use std::alloc::AllocError;

@@ -4,16 +4,18 @@ ghost use Rattle.std.specs.Prelude.{◌≡◌, ◌↔◌, ℕ, ◌<◌, ◌≤�
 ghost use Rattle.tt_state.specs.Desk.{stepped};
 ghost use Rattle.tt_state.specs.History.{IsWithinStep, desk_of, earlier, trail, with_taken};
 ghost use Rattle.tt_state.specs.Snapshots.{StaysLocked};
-ghost use Rattle.tt_improve.specs.Classes.{total_of, totals_in};
+ghost use Rattle.tt_improve.specs.Classes.{total_of};
+ghost use Rattle.tt_improve.specs.UnderWay.{totals_in};
 ghost use Rattle.tt_improve.specs.Targets.{movable_classes};
 ghost use Rattle.tt_deluge.specs.ClassRounds.{class_round};
 ghost use Rattle.tt_deluge.specs.StudentRounds.{choices_in, student_round};
-ghost use Rattle.tt_deluge.specs.Deluged.{are_none, best_moment, deluged, found_by, is_on_class, level_at, targets_at};
+ghost use Rattle.tt_deluge.specs.Deluged.{best_moment, deluged, found_by};
 ghost use Rattle.tt_deluge.specs.Pouring.{IsMomentOf, IsPouring};
 ghost use Rattle.tt_deluge.specs.Reading.{random_of};
 ghost use Rattle.tt_deluge.specs.Standing.{IsRound, StandsAs};
 ghost use Rattle.tt_deluge.specs.UnderWay.{ended_at};
 ghost use Rattle.tt_deluge.specs.Views.{target_of, targets_in};
+ghost use Rattle.tt_deluge.specs.Pieces.{are_none, is_on_class, level_at, targets_at};
 
 use crate::classes::class_round;
 use crate::drawing::draw_below;
@@ -131,10 +133,9 @@ fn round_on_class(
     requires step { 0 < length (earlier state.old) }
     ensures step { IsWithinStep (with_taken state.old []) (with_taken state.new []) }
     ensures random { OnOk result (random_of random.new
-        ≡ (class_round state.old.problem classes.now state.old.present kind
-        (random_of random.old)).1) }
+        ≡ (class_round state.old.problem state.old.present kind (random_of random.old)).1) }
     ensures round { IfOk result (IsRound level
-        (class_round state.old.problem classes.now state.old.present kind (random_of random.old)).0
+        (class_round state.old.problem state.old.present kind (random_of random.old)).0
         (with_taken state.old []) (with_taken state.new [])) }
 {
     state.soundness();
@@ -159,11 +160,9 @@ fn round_on_student(
     requires step { 0 < length (earlier state.old) }
     ensures step { IsWithinStep (with_taken state.old []) (with_taken state.new []) }
     ensures random { OnOk result (random_of random.new
-        ≡ (student_round state.old.problem (map target_of choices.now) state.old.present
-        (random_of random.old)).1) }
+        ≡ (student_round state.old.problem state.old.present (random_of random.old)).1) }
     ensures round { IfOk result (IsRound level
-        (student_round state.old.problem (map target_of choices.now) state.old.present
-        (random_of random.old)).0 (with_taken state.old []) (with_taken state.new [])) }
+        (student_round state.old.problem state.old.present (random_of random.old)).0 (with_taken state.old []) (with_taken state.new [])) }
 {
     let choice = choices[draw_below(random, choices.len() as u64) as usize];
     student_round(state, choice, random, level, buffers)
@@ -186,11 +185,9 @@ fn make_round(
     ensures targets { work.new.targets ≡ work.old.targets }
     ensures step { IsWithinStep (with_taken state.old []) (with_taken state.new []) }
     ensures random { OnOk result (random_of random.new
-        ≡ (found_by state.old.problem (targets_in work.old.targets) state.old.present
-        (random_of random.old)).1) }
+        ≡ (found_by state.old.problem state.old.present (random_of random.old)).1) }
     ensures round { IfOk result (IsRound level
-        (found_by state.old.problem (targets_in work.old.targets) state.old.present
-        (random_of random.old)).0 (with_taken state.old []) (with_taken state.new [])) }
+        (found_by state.old.problem state.old.present (random_of random.old)).0 (with_taken state.old []) (with_taken state.new [])) }
 {
     let kind = draw_below(random, 32) as u32;
     if is_on_class(&work.targets, kind) {

@@ -8,14 +8,15 @@ ghost use Rattle.tt_problem.specs.Spans.{IsSpanWithin};
 ghost use Rattle.tt_state.specs.History.{IsWithinStep, earlier, trail};
 ghost use Rattle.tt_state.specs.Snapshots.{classes_in_order, list_in, with_list};
 ghost use Rattle.tt_draw.specs.Draws.{drawn};
+ghost use Rattle.tt_choice.specs.Choices.{configurations_of};
 ghost use Rattle.tt_improve.specs.Classes.{total_of};
 ghost use Rattle.tt_improve.specs.Courses.{is_of_course, own_of, rest_of};
 ghost use Rattle.tt_improve.specs.Standing.{IsSeatedIn};
 ghost use Rattle.tt_improve.specs.declared.targets.Target.TheVariants.{Course};
-ghost use Rattle.tt_deluge.specs.Deluged.{made_within};
 ghost use Rattle.tt_deluge.specs.Reading.{random_of};
 ghost use Rattle.tt_deluge.specs.Standing.{BeginsWith, StandsAs};
-ghost use Rattle.tt_deluge.specs.StudentRounds.{choice_drawn, configurations_of, drawn_choice, fits_beside, fitting, replaced};
+ghost use Rattle.tt_deluge.specs.StudentRounds.{choice_drawn, drawn_choice, replaced};
+ghost use Rattle.tt_deluge.specs.Pieces.{made_within, fits_beside, fitting};
 
 use crate::drawing::draw_below;
 use crate::targets::Choice;
@@ -35,6 +36,7 @@ fn is_of_course(problem: &Problem, course: u32, class: u32) -> bool
 
 // Whether a class fits beside the rest of a student's list and the choice so far: it has no parent, or
 // its parent is one of these.
+#[tactic(auto, unfolding(tt_struct::specs::Enrolments::has_parent, tt_struct::specs::Enrolments::has_parent_of))]
 fn fits_beside(problem: &Problem, rest: &[u32], so_far: &[u32], class: u32) -> bool
     requires { class < length problem.now.classes }
     ensures { result ≡ fits_beside problem.now (rest.now ++ so_far.now) class }

@@ -4,9 +4,9 @@ ghost use Rattle.std.specs.Prelude.{◌≡◌, ◌<◌, ◌≤◌, ◌++◌, ◌
 ghost use Rattle.std.specs.List.{filter, list_all};
 ghost use Rattle.tt_problem.specs.ListLengths.{span_length, spans_at};
 ghost use Rattle.tt_problem.specs.Spans.{IsSpanWithin};
-ghost use Rattle.tt_deluge.specs.Deluged.{targets_at};
-ghost use Rattle.tt_deluge.specs.StudentRounds.{has_choice, is_choice};
+ghost use Rattle.tt_deluge.specs.StudentRounds.{is_choice};
 ghost use Rattle.tt_deluge.specs.Views.{AreFlagsOf, IsCourseWithin, class_of, target_of, targets_in};
+ghost use Rattle.tt_deluge.specs.Pieces.{targets_at, has_choice};
 
 use std::alloc::{AllocError, Global};
 use tt_improve::{Target, targets_of};

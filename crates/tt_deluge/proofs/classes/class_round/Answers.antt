@@ -1,9 +1,9 @@
 use Rattle.std.proofs.Common.{◌≡◌, Bool, Some, None, [], cond, ap, ◌∙◌}
 use Rattle.std.proofs.lemmas.Result.{IfOk-weaker}
 use Rattle.tt_state.specs.History.{with_taken}
-use Rattle.tt_deluge.specs.ClassRounds.{class_change, moved_to_next, moved_to_value}
-use Rattle.tt_deluge.specs.Deluged.{made_within}
+use Rattle.tt_deluge.specs.ClassRounds.{class_change, moved_to_value}
 use Rattle.tt_deluge.specs.Standing.{IsClassRound}
+use Rattle.tt_deluge.specs.Pieces.{moved_to_next, made_within}
 use Rattle.tt_deluge.proofs.RoundLemmas.{change-next, change-value}
 use Rattle.tt_deluge.proofs.classes.class_round.Goals as goal
 

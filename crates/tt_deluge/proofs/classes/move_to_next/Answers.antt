@@ -5,8 +5,8 @@ use Rattle.tt_bits.specs.declared.times.Value.{Value}
 use Rattle.tt_plan.specs.declared.placement.Placement.{Placement}
 use Rattle.tt_state.specs.History.{with_taken}
 use Rattle.tt_state.specs.Snapshots.{Snapshot, with_value}
-use Rattle.tt_deluge.specs.ClassRounds.{moved_to_next}
 use Rattle.tt_deluge.specs.Standing.{IsClassRound}
+use Rattle.tt_deluge.specs.Pieces.{moved_to_next}
 use Rattle.tt_deluge.proofs.classes.move_to_next.Goals as goal
 
 pub move_within-requires-clause-class : goal.move_within-requires-clause-class

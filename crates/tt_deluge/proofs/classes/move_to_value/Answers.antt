@@ -5,8 +5,8 @@ use Rattle.tt_state.specs.History.{Contents, trail, with_taken}
 use Rattle.tt_state.specs.Snapshots.{Snapshot, with_value}
 use Rattle.tt_state.specs.Values.{blocked_of, conflict_set_of}
 use Rattle.tt_deluge.specs.ClassRounds.{moved_by_conflict_set, has_value, moved_to_value}
-use Rattle.tt_deluge.specs.Deluged.{made_within}
 use Rattle.tt_deluge.specs.Standing.{IsClassRound}
+use Rattle.tt_deluge.specs.Pieces.{made_within}
 use Rattle.tt_deluge.proofs.RoundLemmas.{among-many, moved-among, moved-none, round-left}
 use Rattle.tt_deluge.proofs.classes.move_to_value.Goals as goal
 use Rattle.tt_deluge.proofs.classes.move_to_value.Goals.{then-has_value-via-then-has_value, then-has_value-via-else-has_value+then-is_some}

@@ -7,9 +7,9 @@ use Rattle.tt_state.specs.History.{trail, with_taken}
 use Rattle.tt_state.specs.Snapshots.{Snapshot, is_locked_in, value_in, with_value}
 use Rattle.tt_improve.specs.Classes.{is_free, total_of}
 use Rattle.tt_improve.specs.Standing.{IsMovable}
-use Rattle.tt_deluge.specs.ClassRounds.{moved_by_conflict_set, exchange_value, half_exchanged, has_value}
-use Rattle.tt_deluge.specs.Deluged.{made_within}
+use Rattle.tt_deluge.specs.ClassRounds.{moved_by_conflict_set, exchange_value, has_value}
 use Rattle.tt_deluge.specs.Standing.{IsClassRound}
+use Rattle.tt_deluge.specs.Pieces.{half_exchanged, made_within}
 use Rattle.tt_deluge.proofs.ChangeLemmas.{stands-exchanged}
 use Rattle.tt_deluge.proofs.FrontLemmas.{front-back, front-get}
 use Rattle.tt_deluge.proofs.RoundLemmas.{change-left, exchange-found, round-left, round-made}

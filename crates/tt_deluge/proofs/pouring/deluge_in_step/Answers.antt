@@ -6,10 +6,11 @@ use Rattle.tt_state.specs.Desk.{Desk}
 use Rattle.tt_state.specs.History.{trail}
 use Rattle.tt_state.specs.Snapshots.{Snapshot}
 use Rattle.tt_improve.specs.Classes.{total_of}
-use Rattle.tt_deluge.specs.Deluged.{are_none, best_moment, targets_at}
+use Rattle.tt_deluge.specs.Deluged.{best_moment}
 use Rattle.tt_deluge.specs.Pouring.{IsPouring}
 use Rattle.tt_deluge.specs.Standing.{StandsAs}
 use Rattle.tt_deluge.specs.UnderWay.{ended_at}
+use Rattle.tt_deluge.specs.Pieces.{are_none, targets_at}
 use Rattle.tt_deluge.proofs.PourLemmas.{deluged-end, deluged-none, fallen-changed, fallen-total, pour-end}
 use Rattle.tt_deluge.proofs.pouring.deluge_in_step.Goals as goal
 

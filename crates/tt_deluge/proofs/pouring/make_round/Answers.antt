@@ -1,15 +1,14 @@
-use Rattle.std.proofs.Common.{◌≡◌, ℕ, true, false, [], List, Option, map, ap, sym, ◌∙◌, subst}
-use Rattle.std.specs.Prelude.{IfOk, OnOk}
+use Rattle.std.proofs.Common.{◌≡◌, true, false, [], Option, ap, sym, ◌∙◌, subst}
+use Rattle.std.specs.Prelude.{IfOk}
 use Rattle.std.proofs.lemmas.Result.{on_ok_weaker}
 use Rattle.tt_state.specs.History.{with_taken}
 use Rattle.tt_state.specs.Snapshots.{Snapshot}
-use Rattle.tt_deluge.specs.declared.targets.Choice.{Choice}
 use Rattle.tt_deluge.specs.ClassRounds.{class_round}
-use Rattle.tt_deluge.specs.Deluged.{is_on_class}
 use Rattle.tt_deluge.specs.Reading.{random_of}
 use Rattle.tt_deluge.specs.Standing.{IsRound}
 use Rattle.tt_deluge.specs.StudentRounds.{student_round}
-use Rattle.tt_deluge.specs.Views.{target_of, targets_in}
+use Rattle.tt_deluge.specs.Views.{targets_in}
+use Rattle.tt_deluge.specs.Pieces.{is_on_class}
 use Rattle.tt_deluge.proofs.FoundLemmas.{found-class, found-student}
 use Rattle.tt_deluge.proofs.pouring.make_round.Goals as goal
 
@@ -21,10 +20,8 @@ returns-then-is_on_class-clause-random c =
     let one = random_of c.draw_below-kind.new.random in
     let end = random_of c.round_on_class.new.random in
     let is : is_on_class o kind ≡ true = sym c.is_on_class.ensures ∙ c.if-is_on_class.true in
-    let found = found-class h.problem o h.present (random_of c.args.random.now) one kind c.draw_below-kind.ensures.draw is in
-    let classes : c.as_slice.result.now ≡ c.args.work.now.targets.classes.items = c.as_slice.ensures.value in
-    let random = subst (λ (xs : List ℕ). OnOk c.round_on_class.result (end ≡ (class_round h.problem xs h.present kind one).1)) classes c.round_on_class.ensures.random in
-    on_ok_weaker c.round_on_class.result (λ (e : end ≡ (class_round h.problem c.args.work.now.targets.classes.items h.present kind one).1). e ∙ sym (ap (λ f. f.1) found)) random
+    let found = found-class h.problem o h.present (random_of c.args.random.now) one kind c.requires.targets c.draw_below-kind.ensures.draw is in
+    on_ok_weaker c.round_on_class.result (λ (e : end ≡ (class_round h.problem h.present kind one).1). e ∙ sym (ap (λ f. f.1) found)) c.round_on_class.ensures.random
 
 pub returns-then-is_on_class-clause-round : goal.returns-then-is_on_class-clause-round
 returns-then-is_on_class-clause-round c =
@@ -34,10 +31,8 @@ returns-then-is_on_class-clause-round c =
     let one = random_of c.draw_below-kind.new.random in
     let end = c.round_on_class.new.state in
     let is : is_on_class o kind ≡ true = sym c.is_on_class.ensures ∙ c.if-is_on_class.true in
-    let found = found-class h.problem o h.present (random_of c.args.random.now) one kind c.draw_below-kind.ensures.draw is in
-    let classes : c.as_slice.result.now ≡ c.args.work.now.targets.classes.items = c.as_slice.ensures.value in
-    let round = subst (λ (xs : List ℕ). IfOk c.round_on_class.result (IsRound c.args.level (class_round h.problem xs h.present kind one).0 (with_taken h []) (with_taken end []))) classes c.round_on_class.ensures.round in
-    subst (λ (f : Option Snapshot). IfOk c.round_on_class.result (IsRound c.args.level f (with_taken h []) (with_taken end []))) (sym (ap (λ f. f.0) found)) round
+    let found = found-class h.problem o h.present (random_of c.args.random.now) one kind c.requires.targets c.draw_below-kind.ensures.draw is in
+    subst (λ (f : Option Snapshot). IfOk c.round_on_class.result (IsRound c.args.level f (with_taken h []) (with_taken end []))) (sym (ap (λ f. f.0) found)) c.round_on_class.ensures.round
 
 pub returns-else-is_on_class-clause-random : goal.returns-else-is_on_class-clause-random
 returns-else-is_on_class-clause-random c =
@@ -47,10 +42,8 @@ returns-else-is_on_class-clause-random c =
     let one = random_of c.draw_below-kind.new.random in
     let end = random_of c.round_on_student.new.random in
     let is : is_on_class o kind ≡ false = sym c.is_on_class.ensures ∙ c.if-is_on_class.false in
-    let found = found-student h.problem o h.present (random_of c.args.random.now) one kind c.draw_below-kind.ensures.draw is in
-    let choices : c.as_slice-else-is_on_class.result.now ≡ c.args.work.now.targets.choices.items = c.as_slice-else-is_on_class.ensures.value in
-    let random = subst (λ (xs : List Choice). OnOk c.round_on_student.result (end ≡ (student_round h.problem (map target_of xs) h.present one).1)) choices c.round_on_student.ensures.random in
-    on_ok_weaker c.round_on_student.result (λ (e : end ≡ (student_round h.problem (map target_of c.args.work.now.targets.choices.items) h.present one).1). e ∙ sym (ap (λ f. f.1) found)) random
+    let found = found-student h.problem o h.present (random_of c.args.random.now) one kind c.requires.targets c.draw_below-kind.ensures.draw is in
+    on_ok_weaker c.round_on_student.result (λ (e : end ≡ (student_round h.problem h.present one).1). e ∙ sym (ap (λ f. f.1) found)) c.round_on_student.ensures.random
 
 pub returns-else-is_on_class-clause-round : goal.returns-else-is_on_class-clause-round
 returns-else-is_on_class-clause-round c =
@@ -60,7 +53,5 @@ returns-else-is_on_class-clause-round c =
     let one = random_of c.draw_below-kind.new.random in
     let end = c.round_on_student.new.state in
     let is : is_on_class o kind ≡ false = sym c.is_on_class.ensures ∙ c.if-is_on_class.false in
-    let found = found-student h.problem o h.present (random_of c.args.random.now) one kind c.draw_below-kind.ensures.draw is in
-    let choices : c.as_slice-else-is_on_class.result.now ≡ c.args.work.now.targets.choices.items = c.as_slice-else-is_on_class.ensures.value in
-    let round = subst (λ (xs : List Choice). IfOk c.round_on_student.result (IsRound c.args.level (student_round h.problem (map target_of xs) h.present one).0 (with_taken h []) (with_taken end []))) choices c.round_on_student.ensures.round in
-    subst (λ (f : Option Snapshot). IfOk c.round_on_student.result (IsRound c.args.level f (with_taken h []) (with_taken end []))) (sym (ap (λ f. f.0) found)) round
+    let found = found-student h.problem o h.present (random_of c.args.random.now) one kind c.requires.targets c.draw_below-kind.ensures.draw is in
+    subst (λ (f : Option Snapshot). IfOk c.round_on_student.result (IsRound c.args.level f (with_taken h []) (with_taken end []))) (sym (ap (λ f. f.0) found)) c.round_on_student.ensures.round

@@ -7,12 +7,11 @@ use Rattle.tt_state.proofs.StepLemmas.{within_next, within_same}
 use Rattle.tt_draw.proofs.WordLemmas.{random_from}
 use Rattle.rand_core.specs.Stream.{Stream}
 use Rattle.tt_improve.specs.Classes.{total_of}
-use Rattle.tt_deluge.specs.declared.targets.Targets.{Targets as Kept}
-use Rattle.tt_deluge.specs.Deluged.{DelugeMoment, best_moment, first_moment, found_by, level_at, made_within, moments_after}
+use Rattle.tt_deluge.specs.Deluged.{best_moment, found_by, moments_after}
 use Rattle.tt_deluge.specs.Pouring.{IsMomentOf, IsPouring, moment_of}
 use Rattle.tt_deluge.specs.Reading.{random_of}
 use Rattle.tt_deluge.specs.Standing.{StandsAs}
-use Rattle.tt_deluge.specs.Views.{targets_in}
+use Rattle.tt_deluge.specs.Pieces.{DelugeMoment, first_moment, level_at, made_within}
 use Rattle.tt_deluge.proofs.ChangeLemmas.{stands-next, stands-same}
 use Rattle.tt_deluge.proofs.PourLemmas.{last-moments, next-moments, pour-on, pour-start, round-leads}
 use Rattle.tt_deluge.proofs.pouring.pour.Goals as goal
@@ -24,7 +23,7 @@ loop-made-init g c =
     let changed = c.moment_now-start.ensures.changed in
     let moment = c.moment_now-start.ensures.moment in
     let random = random_from c.args.seed c.new-random.result c.new-random.ensures in
-    let begins : moment_of start.present 0 (random_of c.new-random.result) ≡ first_moment c.args.seed start.present = ap (λ (w : Stream). moment_of start.present 0 w) random in
+    let begins : moment_of start.present 0 0 (random_of c.new-random.result) ≡ first_moment c.args.seed start.present = ap (λ (w : Stream). moment_of start.present 0 0 w) random in
     record {
       step = within_same (with_taken start []);
       targets = refl;
@@ -32,7 +31,7 @@ loop-made-init g c =
       moment = moment;
       still = λ none. refl;
       stands = stands-same start.problem start.present;
-      way = pour-start start.problem (targets_in c.args.work.now.targets) c.args.rounds c.args.seed kept.total start.present (trail start) (random_of c.new-random.result) kept c.requires.targets moment.total moment changed begins;
+      way = pour-start start.problem c.args.rounds c.args.seed kept.total start.present (trail start) (random_of c.new-random.result) kept moment.total moment changed begins;
     }
 
 byte_is : (b : Bool) → bool_byte b ≡ cond b 1 0
@@ -64,22 +63,18 @@ loop-made-preserved g c =
     let random = random_of c.loop-made.random in
     let left = random_of c.make_round.new.random in
     let kept = c.moment_now-now.result in
-    let o = targets_in c.args.work.now.targets in
     let problem : before.problem ≡ p = inv.step.problem in
     let targets : c.loop-made.work.targets ≡ c.args.work.now.targets = inv.targets in
-    let change : made_within p level (found_by p o before.present random).0 ≡ cond changes (Some after.present) None =
-    subst (λ (q : Parts). made_within q level (found_by q o before.present random).0 ≡ cond changes (Some after.present) None) problem
-    (subst (λ (k : Kept). made_within before.problem level (found_by before.problem (targets_in k) before.present random).0 ≡ cond changes (Some after.present) None) targets done.round.change) in
-    let random_is : left ≡ (found_by p o before.present random).1 =
-    subst (λ (q : Parts). left ≡ (found_by q o before.present random).1) problem
-    (subst (λ (k : Kept). left ≡ (found_by before.problem (targets_in k) before.present random).1) targets done.random) in
+    let change : made_within p level (found_by p before.present random).0 ≡ cond changes (Some after.present) None =
+    subst (λ (q : Parts). made_within q level (found_by q before.present random).0 ≡ cond changes (Some after.present) None) problem done.round.change in
+    let random_is : left ≡ (found_by p before.present random).1 = subst (λ (q : Parts). left ≡ (found_by q before.present random).1) problem done.random in
     let stands : StandsAs p before.present after.present = subst (λ (q : Parts). StandsAs q before.present after.present) problem done.round.stands in
     let counted : c.from.result ≡ cond changes 1 0 = c.from.ensures ∙ byte_is changes in
     let changed_now : kept.changed ≡ c.loop-made.now.changed + cond changes 1 0 = c.moment_now-now.ensures.changed ∙ ap (λ (n : ℕ). c.loop-made.now.changed + n) counted in
     let level_is : level ≡ level_at first rounds i (total_of p before.present) = c.level_at-level.ensures ∙ ap (level_at first rounds i) inv.moment.total in
-    let leads = round-leads p o first rounds i before.present after.present c.loop-made.now.changed level random left changes level_is change done.round.same random_is in
-    let next = leads ∙ ap (λ (n : ℕ). moment_of after.present n left) (sym changed_now) in
-    let ahead = next-moments p o first rounds i (moment_of before.present c.loop-made.now.changed random) (moment_of after.present kept.changed left) c.loop-made-test.true next in
+    let leads = round-leads p first rounds i before.present after.present c.loop-made.now.changed level random left changes level_is change done.round.same random_is in
+    let next = leads ∙ ap (λ (n : ℕ). moment_of after.present (i + 1) n left) (sym changed_now) in
+    let ahead = next-moments p first rounds i (moment_of before.present i c.loop-made.now.changed random) (moment_of after.present (i + 1) kept.changed left) c.loop-made-test.true next in
     let end = best_moment p rounds c.args.seed s in
     let way = subst (λ (l : List DelugeMoment). IsPouring p s (trail before) l c.loop-made.best end) ahead inv.way in
     let moment : IsMomentOf p after.present (trail after) kept = subst (λ (q : Parts). IsMomentOf q after.present (trail after) kept) (done.step.problem ∙ problem) c.moment_now-now.ensures.moment in
@@ -92,14 +87,13 @@ loop-made-preserved g c =
       moment = moment;
       still = still;
       stands = all;
-      way = rw c.lower_moment-best.ensures (pour-on p s after.present (trail before) (trail after) (moments_after p o first rounds (rounds - (i + 1)) (i + 1) (moment_of after.present kept.changed left)) c.loop-made.best kept left end way done.round.front moment all still);
+      way = rw c.lower_moment-best.ensures (pour-on p s after.present (trail before) (trail after) (moments_after p first rounds (rounds - (i + 1)) (moment_of after.present (i + 1) kept.changed left)) c.loop-made.best kept (i + 1) left end way done.round.front moment all still);
     }
 
 pub returns-clause-way : goal.returns-clause-way
 returns-clause-way g c =
     let start = c.args.state.now in
     let p = start.problem in
-    let o = targets_in c.args.work.now.targets in
     let first = c.moment_now-start.result.total in
-    let none = last-moments p o first c.args.rounds c.loop-made.made (moment_of c.loop-made.state.present c.loop-made.now.changed (random_of c.loop-made.random)) c.loop-made-test.false in
+    let none = last-moments p first c.args.rounds c.loop-made.made (moment_of c.loop-made.state.present c.loop-made.made c.loop-made.now.changed (random_of c.loop-made.random)) c.loop-made-test.false in
     subst (λ (l : List DelugeMoment). IsPouring p start.present (trail c.loop-made.state) l c.loop-made.best (best_moment p c.args.rounds c.args.seed start.present)) none c.loop-made.invariant.way

@@ -4,7 +4,6 @@ use Rattle.tt_deluge.specs.Deluged.{best_moment, moments_after}
 use Rattle.tt_deluge.specs.Pouring.{IsMomentOf, IsPouring, moment_of}
 use Rattle.tt_deluge.specs.Reading.{random_of}
 use Rattle.tt_deluge.specs.Standing.{StandsAs}
-use Rattle.tt_deluge.specs.Views.{targets_in}
 use Rattle.tt_deluge.proofs.pouring.pour.Given as goal
 
 abbrev pub invariant-loop-made : goal.invariant-loop-made
@@ -18,6 +17,6 @@ invariant-loop-made g l =
       still : l.now.changed ≡ 0 → l.state.present ≡ begun.present;
       stands : StandsAs begun.problem begun.present l.state.present;
       way : IsPouring begun.problem begun.present (trail l.state)
-          (moments_after begun.problem (targets_in l.initial.work.targets) l.start.total l.rounds (l.rounds - l.made) l.made (moment_of l.state.present l.now.changed (random_of l.random)))
+          (moments_after begun.problem l.start.total l.rounds (l.rounds - l.made) (moment_of l.state.present l.made l.now.changed (random_of l.random)))
           l.best (best_moment begun.problem l.rounds l.seed begun.present);
     }

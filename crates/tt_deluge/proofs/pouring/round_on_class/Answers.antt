@@ -5,9 +5,9 @@ use Rattle.tt_plan.specs.Domain.{domain_of}
 use Rattle.tt_state.specs.History.{trail, with_taken}
 use Rattle.tt_improve.specs.Standing.{IsMovable}
 use Rattle.tt_deluge.specs.ClassRounds.{class_change, class_round}
-use Rattle.tt_deluge.specs.Deluged.{made_within}
 use Rattle.tt_deluge.specs.Reading.{random_of}
 use Rattle.tt_deluge.specs.Standing.{BeginsWith, IsRound, StandsAs}
+use Rattle.tt_deluge.specs.Pieces.{made_within}
 use Rattle.tt_deluge.proofs.FoundLemmas.{class-round-is, domain-some, drawn-movable}
 use Rattle.tt_deluge.proofs.RoundLemmas.{if_ok_join, on_ok_any}
 use Rattle.tt_deluge.proofs.pouring.round_on_class.Goals as goal
@@ -51,7 +51,7 @@ returns-clause-random c =
     let there : slice_get classes at ≡ Some class = slice_get-get_or classes at 0 (c.draw_below.ensures.below c.requires.some) in
     let size : c.domain_size-size.result ≡ length (domain_of h.problem class) = rw c.problem.ensures at c.domain_size-size.ensures.size in
     let second = rw (c.from.ensures, size) at c.draw_below-place.ensures.draw in
-    let is = class-round-is h.problem classes h.present c.args.kind (random_of c.args.random.now) (random_of c.draw_below.new.random) (random_of c.draw_below-place.new.random) at class c.draw_below-place.result c.draw_below.ensures.draw there second in
+    let is = class-round-is h.problem classes h.present c.args.kind (random_of c.args.random.now) (random_of c.draw_below.new.random) (random_of c.draw_below-place.new.random) at class c.draw_below-place.result c.requires.classes c.draw_below.ensures.draw there second in
     on_ok_any c.class_round.result (sym (ap (λ f. f.1) is))
 
 pub returns-clause-round : goal.returns-clause-round
@@ -64,12 +64,12 @@ returns-clause-round c =
     let there : slice_get classes at ≡ Some class = slice_get-get_or classes at 0 (c.draw_below.ensures.below c.requires.some) in
     let size : c.domain_size-size.result ≡ length (domain_of h.problem class) = rw c.problem.ensures at c.domain_size-size.ensures.size in
     let second = rw (c.from.ensures, size) at c.draw_below-place.ensures.draw in
-    let is = class-round-is h.problem classes h.present c.args.kind (random_of c.args.random.now) (random_of c.draw_below.new.random) (random_of c.draw_below-place.new.random) at class c.draw_below-place.result c.draw_below.ensures.draw there second in
-    let found : (class_round h.problem classes h.present c.args.kind (random_of c.args.random.now)).0 ≡ class_change h.problem h.present c.args.kind class c.draw_below-place.result = ap (λ f. f.0) is in
+    let is = class-round-is h.problem classes h.present c.args.kind (random_of c.args.random.now) (random_of c.draw_below.new.random) (random_of c.draw_below-place.new.random) at class c.draw_below-place.result c.requires.classes c.draw_below.ensures.draw there second in
+    let found : (class_round h.problem h.present c.args.kind (random_of c.args.random.now)).0 ≡ class_change h.problem h.present c.args.kind class c.draw_below-place.result = ap (λ f. f.0) is in
     if_ok_join c.class_round.result
     (λ (made : Bool). made_within h.problem c.args.level (class_change h.problem h.present c.args.kind class c.draw_below-place.result) ≡ cond made (Some end.present) None)
     (λ (made : Bool). made ≡ false → end.present ≡ h.present)
-    (IsRound c.args.level (class_round h.problem classes h.present c.args.kind (random_of c.args.random.now)).0 (with_taken h []) (with_taken end []))
+    (IsRound c.args.level (class_round h.problem h.present c.args.kind (random_of c.args.random.now)).0 (with_taken h []) (with_taken end []))
     (BeginsWith (trail h) (trail end)) (StandsAs h.problem h.present end.present)
     (λ made change same front stands. record { change = ap (made_within h.problem c.args.level) found ∙ change; same = same; front = front; stands = stands })
     c.class_round.ensures.made c.class_round.ensures.same c.class_round.ensures.trail c.class_round.ensures.stands

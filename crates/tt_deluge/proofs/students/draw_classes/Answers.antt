@@ -7,7 +7,8 @@ use Rattle.tt_problem.specs.ListLengths.{spans_at}
 use Rattle.tt_struct.proofs.SpanWalks.{from}
 use Rattle.tt_draw.specs.Draws.{drawn}
 use Rattle.tt_deluge.specs.Reading.{random_of}
-use Rattle.tt_deluge.specs.StudentRounds.{drawn_choice, fitting}
+use Rattle.tt_deluge.specs.StudentRounds.{drawn_choice}
+use Rattle.tt_deluge.specs.Pieces.{fitting}
 use Rattle.tt_deluge.proofs.ChoiceLemmas.{choice_goes, choice_stops}
 use Rattle.tt_deluge.proofs.students.draw_classes.Goals as goal
 

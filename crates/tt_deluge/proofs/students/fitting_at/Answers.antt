@@ -1,9 +1,9 @@
 use Rattle.std.proofs.Common.{◌++◌, ◌<◌, sym, ◌∙◌, arith}
 use Rattle.std.specs.Prelude.{slice_get}
-use Rattle.tt_deluge.specs.StudentRounds.{fits_beside, fitting}
 use Rattle.tt_deluge.proofs.PlaceLemmas.{at_later, at_skips}
 use Rattle.tt_deluge.proofs.students.fitting_at.Goals as goal
 use Rattle.tt_deluge.proofs.students.fitting_at.Goals.{then-fits_beside+else-before-eq0, else-fits_beside}
+use Rattle.tt_deluge.specs.Pieces.{fits_beside, fitting}
 
 pub loop-class-preserved : goal.loop-class-preserved
 loop-class-preserved c =

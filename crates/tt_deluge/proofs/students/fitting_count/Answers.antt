@@ -1,8 +1,8 @@
 use Rattle.std.proofs.Common.{◌++◌, length, sym, ◌∙◌, arith}
-use Rattle.tt_deluge.specs.StudentRounds.{fits_beside, fitting}
 use Rattle.tt_deluge.proofs.PlaceLemmas.{count_takes, count_skips}
 use Rattle.tt_deluge.proofs.students.fitting_count.Goals as goal
 use Rattle.tt_deluge.proofs.students.fitting_count.Goals.{then-fits_beside, else-fits_beside}
+use Rattle.tt_deluge.specs.Pieces.{fits_beside, fitting}
 
 pub loop-class-preserved : goal.loop-class-preserved
 loop-class-preserved c =

@@ -1,7 +1,7 @@
 use Rattle.std.proofs.Common.{◌≡◌, ◌+◌, ◌-◌, ◌++◌, ◌≤◌, length}
 use Rattle.std.specs.List.{filter, range_with_len}
-use Rattle.tt_deluge.specs.StudentRounds.{fits_beside, fitting}
 use Rattle.tt_deluge.proofs.students.fitting_count.Given as goal
+use Rattle.tt_deluge.specs.Pieces.{fits_beside, fitting}
 
 abbrev pub invariant-loop-class : goal.invariant-loop-class
 invariant-loop-class l = record {

@@ -1,7 +1,7 @@
 use Rattle.std.proofs.Common.{◌≡◌, ℕ, ◌<◌, false, length}
 use Rattle.std.specs.Prelude.{slice_index_or}
-use Rattle.tt_deluge.specs.StudentRounds.{has_choice}
 use Rattle.tt_deluge.proofs.targets.choice_flags.Given as goal
+use Rattle.tt_deluge.specs.Pieces.{has_choice}
 
 abbrev pub invariant-loop-course : goal.invariant-loop-course
 invariant-loop-course l = record {
