@@ -11,5 +11,6 @@ pub mod TotalLemmas
 pub mod WordLemmas
 pub mod PlaceLemmas
 pub mod ChoiceLemmas
+pub mod ManyLemmas
 pub mod TargetLemmas
 pub mod StudentLemmas

@@ -1,6 +1,6 @@
 -- What rounds are made over: the targets of a descent, parted, without the courses of which a student has no choice.
 use Rattle.std.proofs.Common.{◌≡◌, ℕ, zero, suc, ◌+◌, ◌-◌, ◌^◌, ◌<◌, ◌≤◌, Bool, true, false, cond, List, [], ◌∷◌, ◌++◌, Some, length, map, drop, take, refl, sym, ap, ◌∙◌, arith, append-nil, length-append}
-use Rattle.std.specs.Prelude.{not, nat_le, slice_get}
+use Rattle.std.specs.Prelude.{not, nat_le, nat_lt, slice_get}
 use Rattle.std.specs.List.{filter, flat_map, list_all, range_with_len}
 use Rattle.std.proofs.lemmas.Grind.{flat_map-append}
 use Rattle.std.proofs.lemmas.List.{length-map, length-take, length-drop, take_all}
@@ -14,6 +14,8 @@ use Rattle.tt_problem.specs.Valid.{IsValid}
 use Rattle.tt_struct.proofs.SpanWalks.{from, next_span}
 use Rattle.tt_state.specs.Snapshots.{Snapshot, list_in}
 use Rattle.tt_state.specs.Sound.{IsSound}
+use Rattle.tt_choice.specs.Choices.{choices_at}
+use Rattle.tt_choice.specs.Pieces.{course_choices}
 use Rattle.tt_choice.specs.Situations.{courses_of}
 use Rattle.tt_improve.specs.Targets.{courses_with, movable_classes, targets_of, seated_courses}
 use Rattle.tt_improve.specs.Standing.{IsTargetOf}
@@ -22,27 +24,32 @@ use Rattle.tt_improve.specs.declared.targets.Target.TheVariants.{Class, Course}
 use Rattle.tt_improve.proofs.TargetLemmas.{at_place, few_targets, targets_are}
 use Rattle.tt_improve.proofs.StudentLemmas.{within_courses}
 use Rattle.tt_deluge.specs.declared.targets.Targets.{Targets as Kept}
-use Rattle.tt_deluge.specs.StudentRounds.{choices_in, is_choice, is_single}
+use Rattle.tt_deluge.specs.StudentRounds.{choices_in, is_choice}
 use Rattle.tt_deluge.specs.Views.{IsCourseWithin, class_of, target_of, targets_in}
 use Rattle.tt_deluge.specs.Pieces.{Targets, targets_at, has_choice}
 use Rattle.tt_deluge.proofs.ChoiceLemmas.{configurations_are}
+use Rattle.tt_deluge.proofs.ManyLemmas.{several-choices, single-choices, subparts-some}
 
--- a second configuration
-many : (f : Span → List Span) (config : Span) (xs : List Span) → 0 < length xs → not (is_single (map f (config ∷ xs))) ≡ true
-many f config [] some = absurd (omega arith)
-many f config (x ∷ xs) some = refl
-
-single : (f : Span → List Span) (config : Span) (xs : List Span) → length xs ≡ 0 → not (is_single (map f (config ∷ xs))) ≡ not (list_all (λ subpart. nat_le (span_length subpart) 1) (f config))
-single f config [] none = refl
-single f config (x ∷ xs) none = absurd (omega arith)
-
-module _ (p : Parts) (course : ℕ) (part : CoursePart) (config : Span) (is : slice_get p.courses course ≡ Some part) (within : IsSpanWithin (length p.configs) part.configs) (at : slice_get p.configs part.configs.first ≡ Some config) where
+module _ (p : Parts) (valid : IsValid p) (course : ℕ) (part : CoursePart) (config : Span) (is : slice_get p.courses course ≡ Some part) (within : IsSpanWithin (length p.configs) part.configs) (at : slice_get p.configs part.configs.first ≡ Some config) where
   abbrev others : List Span
   others = spans_at p.configs (from (part.configs.first + 1) part.configs.after)
 
-  parted : has_choice p course ≡ not (is_single (map (spans_at p.subparts) (config ∷ others)))
-  parted = ap (λ (l : List (List Span)). not (is_single l)) (configurations_are p course part is)
-      ∙ ap (λ (l : List Span). not (is_single (map (spans_at p.subparts) l))) (next_span p.configs part.configs.first part.configs.after config within.some at)
+  abbrev has_several : List Span → Bool
+  has_several configs = nat_lt 1 (length (course_choices (map (spans_at p.subparts) configs)))
+
+  -- a second configuration
+  many : (xs : List Span) → 0 < length xs → has_several (config ∷ xs) ≡ true
+  many [] some = absurd (omega arith)
+  many (x ∷ xs) some = several-choices (spans_at p.subparts) config x xs (subparts-some p valid config) (subparts-some p valid x)
+
+  single : (xs : List Span) → length xs ≡ 0 → has_several (config ∷ xs) ≡ not (list_all (λ subpart. nat_le (span_length subpart) 1) (spans_at p.subparts config))
+  single [] none = single-choices (spans_at p.subparts) config (subparts-some p valid config)
+  single (x ∷ xs) none = absurd (omega arith)
+
+  parted : has_choice p course ≡ has_several (config ∷ others)
+  unfolding choices_at
+  parted = ap (λ (l : List (List Span)). nat_lt 1 (length (course_choices l))) (configurations_are p course part is)
+      ∙ ap has_several (next_span p.configs part.configs.first part.configs.after config within.some at)
 
   others_long : length others ≡ part.configs.after - (part.configs.first + 1)
   others_long =
@@ -50,11 +57,11 @@ module _ (p : Parts) (course : ℕ) (part : CoursePart) (config : Span) (is : sl
 
   -- a course with a second configuration
   pub choice_many : 1 < part.configs.after - part.configs.first → true ≡ has_choice p course
-  choice_many more = sym (parted ∙ many (spans_at p.subparts) config others (omega (arith, others_long, more)))
+  choice_many more = sym (parted ∙ many others (omega (arith, others_long, more)))
 
   -- a course with one configuration
   pub choice_single : (b : Bool) → part.configs.after - part.configs.first ≤ 1 → b ≡ list_all (λ subpart. nat_le (span_length subpart) 1) (spans_at p.subparts config) → not b ≡ has_choice p course
-  choice_single b few tested = ap not tested ∙ sym (parted ∙ single (spans_at p.subparts) config others (omega (arith, others_long, few)))
+  choice_single b few tested = ap not tested ∙ sym (parted ∙ single others (omega (arith, others_long, few)))
 
 -- the classes among the targets
 classes_among : (xs : List ℕ) → flat_map class_of (map (λ class. Class class) xs) ≡ xs

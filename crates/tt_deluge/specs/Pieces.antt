@@ -1,5 +1,5 @@
 -- Proof. Pieces of what is said of a deluge.
-use Rattle.std.specs.Prelude.{ℕ, ◌-◌, ◌*◌, ◌/◌, ◌%◌, Bool, ◌&&◌, ◌||◌, ◌==◌, not, nat_le, max, List, Option, Some, None, filter, length, if◌then◌else◌}
+use Rattle.std.specs.Prelude.{ℕ, ◌-◌, ◌*◌, ◌/◌, ◌%◌, Bool, ◌&&◌, ◌||◌, ◌==◌, not, nat_le, nat_lt, max, List, Option, Some, None, filter, length, if◌then◌else◌}
 use Rattle.std.specs.Option.{option_and_then, option_map, option_map_or}
 use Rattle.rand_core.specs.Stream.{Stream, next_u32}
 use Rattle.tt_draw.specs.Draws.{random_words}
@@ -9,14 +9,14 @@ use Rattle.tt_problem.specs.declared.parts.Span.{Span}
 use Rattle.tt_plan.specs.Domain.{domain_of}
 use Rattle.tt_struct.specs.Enrolments.{has_parent}
 use Rattle.tt_state.specs.Snapshots.{Snapshot, with_value}
-use Rattle.tt_choice.specs.Choices.{configurations_of, span_places}
+use Rattle.tt_choice.specs.Choices.{choices_at, span_places}
 use Rattle.tt_improve.specs.Classes.{total_of}
 use Rattle.tt_improve.specs.Rounds.{Improvement}
 use Rattle.tt_improve.specs.Targets.{movable_classes}
 use Rattle.tt_improve.specs.declared.targets.Target.{Target}
 use Rattle.tt_deluge.specs.Draws.{draw_next}
 use Rattle.tt_deluge.specs.ClassRounds.{class_change, class_round, next_free}
-use Rattle.tt_deluge.specs.StudentRounds.{choices_in, is_single, student_round}
+use Rattle.tt_deluge.specs.StudentRounds.{choices_in, student_round}
 
 -- what an item gives with the words after the one that drew it; without an item nothing, and no word is drawn
 abbrev pub by_item : {A B : Type 0} → (A → Stream → Option B × Stream) → Stream → Option A → Option B × Stream
@@ -37,7 +37,7 @@ class_drawn p s kind class random =
 
 -- a student has a choice of classes of a course
 abbrev pub has_choice : Parts → (course : ℕ) → Bool
-has_choice p course = not (is_single (configurations_of p course))
+has_choice p course = nat_lt 1 (length (choices_at p course))
 
 -- a class fits beside others: it has no parent, or its parent is one of them
 abbrev pub fits_beside : Parts → (others : List ℕ) → (class : ℕ) → Bool

@@ -1,30 +1,24 @@
 -- Theorem. A round on a student: other classes of a course.
-use Rattle.std.specs.Prelude.{ℕ, Bool, false, not, ◌&&◌, nat_eq, nat_le, List, [], ◌∷◌, ◌++◌, Option, Some, None, if◌then◌else◌}
+use Rattle.std.specs.Prelude.{ℕ, Bool, false, not, ◌&&◌, nat_eq, nat_lt, List, [], ◌∷◌, ◌++◌, Option, Some, None, length, if◌then◌else◌}
 use Rattle.std.specs.Cmp.Lexicographic.{pointwise}
-use Rattle.std.specs.List.{filter, list_all}
+use Rattle.std.specs.List.{filter}
 use Rattle.std.specs.Option.{option_and_then}
 use Rattle.rand_core.specs.Stream.{Stream}
 use Rattle.tt_problem.specs.declared.parts.Span.{Span}
 use Rattle.tt_problem.specs.declared.parts.Parts.{Parts}
-use Rattle.tt_problem.specs.ListLengths.{span_length}
 use Rattle.tt_struct.specs.Enrolments.{has_parent}
 use Rattle.tt_state.specs.Snapshots.{Snapshot, classes_in_order, list_in, with_list}
-use Rattle.tt_choice.specs.Choices.{configurations_of, span_places}
+use Rattle.tt_choice.specs.Choices.{choices_at, configurations_of, span_places}
 use Rattle.tt_improve.specs.Courses.{may_replace, own_of, rest_of}
 use Rattle.tt_improve.specs.Targets.{seated_courses}
 use Rattle.tt_improve.specs.declared.targets.Target.{Target}
 use Rattle.tt_improve.specs.declared.targets.Target.TheVariants.{Class, Course}
 use Rattle.tt_deluge.specs.Draws.{by_draw}
 
--- there is one configuration, and each of its subparts has at most one class
-abbrev pub is_single : List (List Span) → Bool
-is_single (subparts ∷ []) = list_all (λ subpart. nat_le (span_length subpart) 1) subparts
-is_single _ = false
-
--- the target is a course of a student with a choice of its classes
+-- the target is a course of a student with more than one choice of its classes
 abbrev pub is_choice : Parts → Target → Bool
 is_choice p (Class class) = false
-is_choice p (Course student course) = not (is_single (configurations_of p course))
+is_choice p (Course student course) = nat_lt 1 (length (choices_at p course))
 
 -- the courses with a choice of each student who has classes, in order
 unfoldable pub choices_in : Parts → Snapshot → List Target

@@ -35,6 +35,7 @@ fn has_choice(problem: &Problem, course: u32) -> bool
     requires { course < length problem.now.courses }
     ensures { result ≡ has_choice problem.now course }
 {
+    problem.validity();
     let configs = problem.course(course).configs;
     configs.after - configs.first > 1 || !is_single(problem, problem.config(configs.first))
 }

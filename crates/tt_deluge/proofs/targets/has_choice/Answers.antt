@@ -14,9 +14,9 @@ returns-then-configs-gt1 c =
     let within = c.course.ensures.within in
     let at = slice_get-get_or p.configs part.configs.first part.configs (omega (arith, within.some, within.within)) in
     let more : 1 < part.configs.after - part.configs.first = omega arith in
-    several (part.configs.after - part.configs.first) more ∙ choice_many p c.args.course part (get_or p.configs part.configs.first part.configs) c.course.ensures.part within at more
+    several (part.configs.after - part.configs.first) more ∙ choice_many p c.validity.ensures c.args.course part (get_or p.configs part.configs.first part.configs) c.course.ensures.part within at more
 
 pub returns-else-configs-gt1 : goal.returns-else-configs-gt1
 returns-else-configs-gt1 c =
     let p = c.args.problem.now in
-    choice_single p c.args.course c.course.result.now c.config.result c.course.ensures.part c.course.ensures.within c.config.ensures.part c.is_single.result (omega arith) c.is_single.ensures
+    choice_single p c.validity.ensures c.args.course c.course.result.now c.config.result c.course.ensures.part c.course.ensures.within c.config.ensures.part c.is_single.result (omega arith) c.is_single.ensures
