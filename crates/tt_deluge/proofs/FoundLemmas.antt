@@ -18,8 +18,8 @@ use Rattle.tt_improve.proofs.TargetLemmas.{at_place, targets_are}
 use Rattle.tt_deluge.specs.ClassRounds.{class_change, class_round}
 use Rattle.tt_deluge.specs.Deluged.{found_by}
 use Rattle.tt_deluge.specs.Draws.{by_draw, draw_next}
-use Rattle.tt_deluge.specs.StudentRounds.{choice_drawn, choices_in, is_choice, student_round}
-use Rattle.tt_deluge.specs.Pieces.{class_drawn, Targets, are_none, found_of_kind, has_no_item, is_on_class, by_item, targets_at}
+use Rattle.tt_deluge.specs.StudentRounds.{choice_drawn, choices_in, is_choice}
+use Rattle.tt_deluge.specs.Pieces.{student_round, class_drawn, Targets, are_none, found_of_kind, has_no_item, is_on_class, by_item, targets_at}
 use Rattle.tt_deluge.proofs.ChangeLemmas.{movable-parts}
 
 front-all : {A : Type 0} (P : A → Type 0) (xs ys : List A) → AllByRecursion P (xs ++ ys) → AllByRecursion P xs × AllByRecursion P ys
@@ -90,7 +90,7 @@ student-round-is p choices s random one at count target are long first is =
 
 -- a round by its kind
 pub found-of : (p : Parts) (s : Snapshot) (random one : Stream) (kind : ℕ) → (kind, one) ≡ draw_next 32 random → found_by p s random ≡ found_of_kind p s kind one
-unfolding found_by
+unfolding found_by student_round
 found-of p s random one kind drawn = ap (λ (d : ℕ × Stream). found_of_kind p s d.0 d.1) (sym drawn)
 
 pub found-class : (p : Parts) (o : Targets) (s : Snapshot) (random one : Stream) (kind : ℕ) → o ≡ targets_at p s → (kind, one) ≡ draw_next 32 random → is_on_class o kind ≡ true → found_by p s random ≡ class_round p s kind one

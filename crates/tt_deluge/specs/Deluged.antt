@@ -11,17 +11,17 @@ use Rattle.tt_state.specs.Snapshots.{Snapshot}
 use Rattle.tt_improve.specs.Classes.{total_of}
 use Rattle.tt_improve.specs.Targets.{movable_classes}
 use Rattle.tt_improve.specs.Rounds.{Improvement, round_more}
-use Rattle.tt_deluge.specs.Draws.{draw_next}
+use Rattle.tt_deluge.specs.Draws.{by_draw, draw_next}
 use Rattle.tt_deluge.specs.ClassRounds.{class_round}
-use Rattle.tt_deluge.specs.StudentRounds.{choices_in, student_round}
+use Rattle.tt_deluge.specs.StudentRounds.{choice_drawn, choices_in}
 
 -- what a round finds: first its kind is drawn, and the round is one on a class where no student has a choice, or there is a class
--- and the kind is odd
+-- and the kind is odd; else one on a course with a choice of a student, which is drawn
 unfoldable pub found_by : Parts → Snapshot → Stream → Option Snapshot × Stream
 found_by p s random =
     let kind = draw_next 32 random in
     if length (choices_in p s) == 0 || (not (length (movable_classes p s) == 0) && kind.0 % 2 == 1)
-    then class_round p s kind.0 kind.1 else student_round p s kind.1
+    then class_round p s kind.0 kind.1 else by_draw (choices_in p s) (choice_drawn p s) kind.1
 
 -- one round more of n, of a moment on the way, which is the rounds so far with the words to come: what the round finds is made where
 -- the total with it is at most the level, which sinks from the first total to 0, but not below the present total

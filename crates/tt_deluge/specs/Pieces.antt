@@ -14,9 +14,9 @@ use Rattle.tt_improve.specs.Classes.{total_of}
 use Rattle.tt_improve.specs.Rounds.{Improvement}
 use Rattle.tt_improve.specs.Targets.{movable_classes}
 use Rattle.tt_improve.specs.declared.targets.Target.{Target}
-use Rattle.tt_deluge.specs.Draws.{draw_next}
+use Rattle.tt_deluge.specs.Draws.{by_draw, draw_next}
 use Rattle.tt_deluge.specs.ClassRounds.{class_change, class_round, next_free}
-use Rattle.tt_deluge.specs.StudentRounds.{choices_in, student_round}
+use Rattle.tt_deluge.specs.StudentRounds.{choice_drawn, choices_in}
 
 -- what an item gives with the words after the one that drew it; without an item nothing, and no word is drawn
 abbrev pub by_item : {A B : Type 0} → (A → Stream → Option B × Stream) → Stream → Option A → Option B × Stream
@@ -67,6 +67,10 @@ are_none o = has_no_item o.classes && has_no_item o.choices
 -- a round of a kind below 32 is one on a class: there is no choice, or there is a class and the kind is odd
 abbrev pub is_on_class : Targets → (kind : ℕ) → Bool
 is_on_class o kind = has_no_item o.choices || (not (has_no_item o.classes) && (kind % 2 == 1))
+
+-- what a round on a course with a choice of a student finds
+unfoldable pub student_round : Parts → Snapshot → Stream → Option Snapshot × Stream
+student_round p s random = by_draw (choices_in p s) (choice_drawn p s) random
 
 -- what a round of a kind finds
 abbrev pub found_of_kind : Parts → Snapshot → (kind : ℕ) → Stream → Option Snapshot × Stream

@@ -37,18 +37,11 @@ abbrev pub replaced : Parts → Snapshot → (student : ℕ) → (rest own choic
 replaced p s student rest own choice =
     if not (pointwise nat_eq choice own) && may_replace p s student rest choice then Some (with_list s student (classes_in_order (rest ++ choice))) else None
 
--- the change of a student by a choice of these subparts that the words draw
-abbrev pub student_drawn : Parts → Snapshot → (student course : ℕ) → List Span → Stream → Option Snapshot × Stream
-student_drawn p s student course subparts random =
-    let rest = rest_of p course (list_in s student) in
-    let choice = drawn_choice p rest [] subparts random in
-    (option_and_then (replaced p s student rest (own_of p course (list_in s student))) choice.0, choice.1)
-
--- the change of a course of a student: first a configuration is drawn
+-- the change of a course of a student: first a configuration is drawn, and then a choice of its subparts, if there is one
 abbrev pub choice_drawn : Parts → Snapshot → Target → Stream → Option Snapshot × Stream
 choice_drawn p s (Class class) random = (None, random)
-choice_drawn p s (Course student course) random = by_draw (configurations_of p course) (student_drawn p s student course) random
-
--- what a round on a course with a choice of a student finds
-unfoldable pub student_round : Parts → Snapshot → Stream → Option Snapshot × Stream
-student_round p s random = by_draw (choices_in p s) (choice_drawn p s) random
+choice_drawn p s (Course student course) random = by_draw (configurations_of p course) (λ subparts words.
+    let rest = rest_of p course (list_in s student) in
+    let own = own_of p course (list_in s student) in
+    let choice = drawn_choice p rest [] subparts words in
+    (option_and_then (replaced p s student rest own) choice.0, choice.1)) random

@@ -8,14 +8,14 @@ ghost use Rattle.tt_improve.specs.Classes.{total_of};
 ghost use Rattle.tt_improve.specs.UnderWay.{totals_in};
 ghost use Rattle.tt_improve.specs.Targets.{movable_classes};
 ghost use Rattle.tt_deluge.specs.ClassRounds.{class_round};
-ghost use Rattle.tt_deluge.specs.StudentRounds.{choices_in, student_round};
+ghost use Rattle.tt_deluge.specs.StudentRounds.{choices_in};
 ghost use Rattle.tt_deluge.specs.Deluged.{best_moment, deluged, found_by};
 ghost use Rattle.tt_deluge.specs.Pouring.{IsMomentOf, IsPouring};
 ghost use Rattle.tt_deluge.specs.Reading.{random_of};
 ghost use Rattle.tt_deluge.specs.Standing.{IsRound, StandsAs};
 ghost use Rattle.tt_deluge.specs.UnderWay.{ended_at};
 ghost use Rattle.tt_deluge.specs.Views.{target_of, targets_in};
-ghost use Rattle.tt_deluge.specs.Pieces.{are_none, is_on_class, level_at, targets_at};
+ghost use Rattle.tt_deluge.specs.Pieces.{student_round, are_none, is_on_class, level_at, targets_at};
 
 use crate::classes::class_round;
 use crate::drawing::draw_below;

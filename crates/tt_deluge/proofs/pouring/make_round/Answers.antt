@@ -6,9 +6,8 @@ use Rattle.tt_state.specs.Snapshots.{Snapshot}
 use Rattle.tt_deluge.specs.ClassRounds.{class_round}
 use Rattle.tt_deluge.specs.Reading.{random_of}
 use Rattle.tt_deluge.specs.Standing.{IsRound}
-use Rattle.tt_deluge.specs.StudentRounds.{student_round}
 use Rattle.tt_deluge.specs.Views.{targets_in}
-use Rattle.tt_deluge.specs.Pieces.{is_on_class}
+use Rattle.tt_deluge.specs.Pieces.{student_round, is_on_class}
 use Rattle.tt_deluge.proofs.FoundLemmas.{found-class, found-student}
 use Rattle.tt_deluge.proofs.pouring.make_round.Goals as goal
 

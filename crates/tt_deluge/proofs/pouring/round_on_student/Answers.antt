@@ -8,9 +8,9 @@ use Rattle.tt_improve.specs.declared.targets.Target.TheVariants.{Course}
 use Rattle.tt_deluge.specs.declared.targets.Choice.{Choice}
 use Rattle.tt_deluge.specs.Reading.{random_of}
 use Rattle.tt_deluge.specs.Standing.{BeginsWith, IsRound, StandsAs}
-use Rattle.tt_deluge.specs.StudentRounds.{choice_drawn, student_round}
+use Rattle.tt_deluge.specs.StudentRounds.{choice_drawn}
 use Rattle.tt_deluge.specs.Views.{target_of}
-use Rattle.tt_deluge.specs.Pieces.{made_within}
+use Rattle.tt_deluge.specs.Pieces.{student_round, made_within}
 use Rattle.tt_deluge.proofs.FoundLemmas.{drawn-seated, student-round-is}
 use Rattle.tt_deluge.proofs.RoundLemmas.{if_ok_join}
 use Rattle.tt_deluge.proofs.pouring.round_on_student.Goals as goal
