@@ -25,18 +25,18 @@ found_by p s random =
 
 -- one round more of n, of a moment on the way, which is the rounds so far with the words to come: what the round finds is made where
 -- the total with it is at most the level, which sinks from the first total to 0, but not below the present total
-abbrev pub after_round : Parts → (first rounds : ℕ) → Improvement × Stream → Improvement × Stream
-after_round p first rounds m =
+abbrev pub after_round : Parts → (first n : ℕ) → Improvement × Stream → Improvement × Stream
+after_round p first n m =
     let found = found_by p m.0.snapshot m.1 in
-    let level = max (total_of p m.0.snapshot) (first - first * m.0.rounds / rounds) in
+    let level = max (total_of p m.0.snapshot) (first - first * m.0.rounds / n) in
     let new = option_and_then (λ t. if nat_le (total_of p t) level then Some t else None) found.0 in
     (round_more m.0 new, found.1)
 
 -- the moments after each of so many rounds more of n
-unfoldable pub moments_after : Parts → (first rounds more : ℕ) → Improvement × Stream → List (Improvement × Stream)
-moments_after p first rounds zero m = []
-moments_after p first rounds (suc more) m =
-    let next = after_round p first rounds m in next ∷ moments_after p first rounds more next
+unfoldable pub moments_after : Parts → (first n more : ℕ) → Improvement × Stream → List (Improvement × Stream)
+moments_after p first n zero m = []
+moments_after p first n (suc more) m =
+    let next = after_round p first n m in next ∷ moments_after p first n more next
 
 -- the first moment of the way, from the one before the first round on, that has the least total
 unfoldable pub best_moment : Parts → (rounds seed : ℕ) → Snapshot → Improvement × Stream
