@@ -1,5 +1,5 @@
 -- Theorem. What each command does on a plain desk, which keeps whole snapshots.
-use Rattle.std.specs.Prelude.{ℕ, Bool, true, false, ◌==◌, nat_le, List, [], ◌∷◌, ◌++◌, length, Option, None, Some, Result, Ok, Err, codes, decimal, ok_or, option_and_then, option_map, if◌then◌else◌}
+use Rattle.std.specs.Prelude.{ℕ, Bool, true, false, not, ◌==◌, nat_le, List, [], ◌∷◌, ◌++◌, length, Option, None, Some, Result, Ok, Err, codes, decimal, ok_or, option_and_then, option_map, if◌then◌else◌}
 use Rattle.std.specs.List.{flat_map, list_any}
 use Rattle.std.specs.Option.{option_map_or}
 use Rattle.std.specs.Result.{result_map_both}
@@ -34,7 +34,6 @@ use Rattle.tt_solution.specs.Text.{published_text}
 use Rattle.tt_enrol.specs.Enrolled.{AllEnrolled, enrolled, all_enrolled}
 use Rattle.tt_improve.specs.Rounds.{Improvement, improved}
 use Rattle.tt_deluge.specs.Deluged.{deluged}
-use Rattle.tt_deluge.specs.Deluged as deluge
 use Rattle.tt_search.specs.PlaceTurns.{all_placed}
 use Rattle.tt_search.specs.Recalled.{recalled}
 use Rattle.tt_search.specs.Searched.{searched, repaired}
@@ -108,10 +107,6 @@ known_time p days start length weeks = ok_or (written_time p days start length w
 abbrev pub true_or : Refusal → Bool → Result (Unit {0}) Refusal
 true_or refusal is_so = if is_so then Ok tt else Err refusal
 
--- there are fewer closures than there may be
-abbrev pub may_close : Snapshot → Result (Unit {0}) Refusal
-may_close s = if length s.closures == most_closures then Err TooManyClosures else Ok tt
-
 -- why there is no such value
 abbrev pub value_refusal : NoValue → Refusal
 value_refusal no_value.Time = NoSuchTime
@@ -131,11 +126,6 @@ abbrev pub lock_refusal : LockFault → Refusal
 lock_refusal lock_fault.NotPlaced = NotPlaced
 lock_refusal lock_fault.Locked = Locked
 
--- the classes that a student has, of which there is one at least
-abbrev pub sectioned : List ℕ → Result (List ℕ) Refusal
-sectioned [] = Err NotSectioned
-sectioned (class ∷ classes) = Ok (class ∷ classes)
-
 -- the desk with the newest of these earlier snapshots as its present one
 abbrev pub stepped_back : Parts → List Snapshot → Result Desk Refusal
 stepped_back p [] = Err NothingToUndo
@@ -149,10 +139,6 @@ not_ready t = NotReady t.unplaced t.unsectioned t.hard
 abbrev pub ready : Desk → Result Snapshot Refusal
 ready d = if is_ready d.problem d.present then Ok d.present else Err (not_ready (totals_of d.problem d.present.closures d.present.plan d.present.lists))
 
--- there are at most 1,000,000 values to try
-abbrev pub few_tries : ℕ → Result (Unit {0}) Refusal
-few_tries tries = if nat_le tries most_tries then Ok tt else Err TooManyTries
-
 -- ---- what accepted commands leave
 
 -- a session, and the command's own lines
@@ -163,6 +149,10 @@ pub record Answer : Type 0 where
 -- nothing is changed
 abbrev pub same : Session → List ℕ → Answer
 same s lines = record { session = s; lines = lines }
+
+-- what is asked about a class or a student that is known is told
+abbrev pub asked_about : Session → Result ℕ Refusal → (Parts → Snapshot → ℕ → List ℕ) → Result Answer Refusal
+asked_about s known lines = known >>= λ place. Ok (same s (lines s.desk.problem s.desk.present place))
 
 -- the session has this desk
 abbrev pub with_desk : Session → Desk → List ℕ → Answer
@@ -176,45 +166,29 @@ with_step s now lines = with_desk s (stepped s.desk now) lines
 abbrev pub with_published : Session → Timetable → List ℕ → Answer
 with_published s t lines = record { session = record { desk = s.desk; published = Some t }; lines = lines }
 
+-- a line of a word and a number
+abbrev pub counted_line : List ℕ → ℕ → List ℕ
+counted_line word n = field word n ++ codes "\n"
+
 -- one more step leads to where a search ended, after so many turns
 abbrev pub with_search : Session → Snapshot × ℕ → Answer
-with_search s (end, turns) = with_step s end (field (codes "turns ") turns ++ codes "\n")
+with_search s (end, turns) = with_step s end (counted_line (codes "turns ") turns)
 
 -- one more step leads to where all students are enrolled that could be
 abbrev pub with_all_enrolled : Session → AllEnrolled → Answer
 with_all_enrolled s all = with_step s all.snapshot (field (codes "enrolled ") all.enrolled ++ field (codes " left ") all.left ++ codes "\n")
 
--- one more step leads to where rounds ended, with how many were made and how many changed something
-abbrev pub with_rounds : Session → (end : Snapshot) → (rounds changed : ℕ) → Answer
-with_rounds s end rounds changed = with_step s end (field (codes "rounds ") rounds ++ field (codes " changed ") changed ++ codes "\n")
-
--- the same for the rounds of improvement
-abbrev pub with_improvement : Session → Improvement → Answer
-with_improvement s i = with_rounds s i.snapshot i.rounds i.changed
-
--- and for those of a deluge, of which the changes up to where it ended count
-abbrev pub with_deluge : Session → deluge.Deluge → Answer
-with_deluge s d = with_rounds s d.snapshot d.rounds d.changed
-
--- one more step leads to where each placed class is locked
-abbrev pub with_all_locked : Session → Answer
-with_all_locked s = with_step s (all_locked s.desk.present) (field (codes "locked ") (length (lockable s.desk.present)) ++ codes "\n")
-
--- one more step leads to where no class is locked
-abbrev pub with_none_locked : Session → Answer
-with_none_locked s = with_step s (none_locked s.desk.present) (field (codes "unlocked ") (length (locked_classes s.desk.present)) ++ codes "\n")
+-- one more step leads to where rounds ended, with how many were made and how many changes led there
+abbrev pub with_rounds : Session → Improvement → Answer
+with_rounds s i = with_step s i.snapshot (field (codes "rounds ") i.rounds ++ field (codes " changed ") i.changed ++ codes "\n")
 
 -- the text that would be published, ready or not, and the end of its line
 abbrev pub draft_line : Desk → List ℕ
 draft_line d = published_text d.problem d.present.plan d.present.lists ++ codes "\n"
 
--- `out D`: a class that is taken out
-abbrev pub taken_line : Parts → ℕ → List ℕ
-taken_line p class = field (codes "out ") (class_id p class) ++ codes "\n"
-
--- a line for each class that is taken out
+-- `out D`: a line for each class that is taken out
 abbrev pub taken_lines : Parts → List ℕ → List ℕ
-taken_lines p classes = flat_map (taken_line p) classes
+taken_lines p classes = flat_map (λ class. counted_line (codes "out ") (class_id p class)) classes
 
 -- `set D T R`: a placement
 abbrev pub set_line : Parts → Move → List ℕ
@@ -224,22 +198,17 @@ set_line p m = field (codes "set ") (class_id p m.class) ++ codes " " ++ value_t
 abbrev pub moved_text : Option ℕ → List ℕ
 moved_text moved = codes " moved " ++ option_map_or decimal moved (codes "-") ++ codes "\n"
 
--- how many published classes are moved with a suggestion, while there is a published timetable
-abbrev pub moved_then : Option Timetable → Suggestion → Option ℕ
-moved_then published x = option_map (λ t. x.moved) published
-
--- `result total E moved M`: what a suggestion comes to
+-- `result total E moved M`: what a suggestion comes to, with how many published classes are then moved while there are any
 abbrev pub result_line : Option Timetable → Suggestion → List ℕ
-result_line published x = field (codes "result total ") x.total ++ moved_text (moved_then published x)
+result_line published x = field (codes "result total ") x.total ++ moved_text (option_map (λ t. x.moved) published)
 
 -- a line for each placement of the best suggestion and what it comes to, or `none`
 abbrev pub best_lines : Parts → Option Timetable → Option Suggestion → List ℕ
-best_lines p published None = codes "none\n"
-best_lines p published (Some x) = flat_map (set_line p) x.moves ++ result_line published x
+best_lines p published best = option_map_or (λ x. flat_map (set_line p) x.moves ++ result_line published x) best (codes "none\n")
 
 -- `tried K`: how many values were tried, and the best suggestion
 unfoldable pub suggested_lines : Parts → Option Timetable → Suggested → List ℕ
-suggested_lines p published found = field (codes "tried ") found.tried ++ codes "\n" ++ best_lines p published found.best
+suggested_lines p published found = counted_line (codes "tried ") found.tried ++ best_lines p published found.best
 
 -- ---- the commands
 
@@ -266,7 +235,7 @@ carried_out s (Section student classes) = do
   Ok (with_step s (with_list s.desk.present i (classes_in_order list)) [])
 carried_out s (Drop student) = do
   i ← known_student s.desk.problem student
-  had ← sectioned (list_in s.desk.present i)
+  had ← true_or NotSectioned (not (length (list_in s.desk.present i) == 0))
   Ok (with_step s (with_list s.desk.present i []) [])
 carried_out s (Enrol student) = do
   i ← known_student s.desk.problem student
@@ -278,15 +247,15 @@ carried_out s (Repair turns seed) = do
   t ← ok_or s.published NothingPublished
   Ok (with_search s (repaired s.desk.problem t turns seed s.desk.present))
 carried_out s (Place turns seed) = Ok (with_search s (all_placed s.desk.problem turns seed s.desk.present))
-carried_out s (Improve rounds seed) = Ok (with_improvement s (improved s.desk.problem rounds seed s.desk.present))
-carried_out s (Deluge rounds seed) = Ok (with_deluge s (deluged s.desk.problem rounds seed s.desk.present))
+carried_out s (Improve rounds seed) = Ok (with_rounds s (improved s.desk.problem rounds seed s.desk.present))
+carried_out s (Deluge rounds seed) = Ok (with_rounds s (deluged s.desk.problem rounds seed s.desk.present))
 carried_out s Recall = do
   t ← ok_or s.published NothingPublished
   Ok (with_step s (recalled s.desk.problem t s.desk.present) [])
-carried_out s (Close room days start length weeks) = do
+carried_out s (Close room days start slots weeks) = do
   r ← known_room s.desk.problem room
-  t ← known_time s.desk.problem days start length weeks
-  few ← may_close s.desk.present
+  t ← known_time s.desk.problem days start slots weeks
+  few ← true_or TooManyClosures (not (length s.desk.present.closures == most_closures))
   Ok (with_step s (with_closed s.desk.present r t) [])
 carried_out s (Reopen room) = do
   r ← known_room s.desk.problem room
@@ -296,12 +265,12 @@ carried_out s (Lock class) = do
   c ← known_class s.desk.problem class
   free ← none_or lock_refusal (lock_fault_of s.desk.present c)
   Ok (with_step s (with_lock s.desk.present c true) [])
-carried_out s LockAll = Ok (with_all_locked s)
+carried_out s LockAll = Ok (with_step s (all_locked s.desk.present) (counted_line (codes "locked ") (length (lockable s.desk.present))))
 carried_out s (Unlock class) = do
   c ← known_class s.desk.problem class
   was ← true_or NotLocked (is_locked_in s.desk.present c)
   Ok (with_step s (with_lock s.desk.present c false) [])
-carried_out s UnlockAll = Ok (with_none_locked s)
+carried_out s UnlockAll = Ok (with_step s (none_locked s.desk.present) (counted_line (codes "unlocked ") (length (locked_classes s.desk.present))))
 carried_out s Undo = do
   d ← stepped_back s.desk.problem s.desk.earlier
   Ok (with_desk s d [])
@@ -312,28 +281,18 @@ carried_out s Draft = Ok (same s (draft_line s.desk))
 carried_out s Totals = Ok (same s [])
 carried_out s Violations = Ok (same s (violations_lines s.desk.problem s.desk.present))
 carried_out s Costs = Ok (same s (costs_lines s.desk.problem s.desk.present))
-carried_out s (Explain class) = do
-  c ← known_class s.desk.problem class
-  Ok (same s (explain_lines s.desk.problem s.desk.present c))
+carried_out s (Explain class) = asked_about s (known_class s.desk.problem class) explain_lines
 carried_out s (Why class time room) = do
   c ← known_class s.desk.problem class
   v ← known_value s.desk.problem c time room
   Ok (same s (why_lines s.desk.problem s.desk.present c v))
-carried_out s (Values class) = do
-  c ← known_class s.desk.problem class
-  Ok (same s (values_lines s.desk.problem s.desk.present c))
-carried_out s (Meets class) = do
-  c ← known_class s.desk.problem class
-  Ok (same s (meets_lines s.desk.problem s.desk.present c))
-carried_out s (Student student) = do
-  i ← known_student s.desk.problem student
-  Ok (same s (student_lines s.desk.problem s.desk.present i))
-carried_out s (Stats class) = do
-  c ← known_class s.desk.problem class
-  Ok (same s (stats_lines s.desk.problem s.desk.present c))
+carried_out s (Values class) = asked_about s (known_class s.desk.problem class) values_lines
+carried_out s (Meets class) = asked_about s (known_class s.desk.problem class) meets_lines
+carried_out s (Student student) = asked_about s (known_student s.desk.problem student) student_lines
+carried_out s (Stats class) = asked_about s (known_class s.desk.problem class) stats_lines
 carried_out s (Suggest class depth) = do
   c ← known_class s.desk.problem class
-  few ← few_tries (tries_of s.desk.problem depth (root_of s.desk.present c))
+  few ← true_or TooManyTries (nat_le (tries_of s.desk.problem depth (root_of s.desk.present c)) most_tries)
   Ok (same s (suggested_lines s.desk.problem s.published (suggested s.desk.problem s.published depth s.desk.present c)))
 carried_out s Quit = Ok (same s [])
 

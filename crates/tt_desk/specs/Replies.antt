@@ -57,14 +57,11 @@ abbrev pub is_end : Outcome → Bool
 is_end Ended = true
 is_end _ = false
 
--- a step and those after it, which are none where it ends the script
-abbrev pub with_later : Step → List Step → List Step
-with_later step later = step ∷ (if is_end step.outcome then [] else later)
-
 -- what the lines do, one after another, up to `quit` or the last one
 abbrev pub script_steps : Session → List (List ℕ) → List Step
 script_steps s [] = []
-script_steps s (line ∷ lines) = with_later (line_step s line) (script_steps (line_step s line).session lines)
+script_steps s (line ∷ lines) =
+    let step = line_step s line in step ∷ (if is_end step.outcome then [] else script_steps step.session lines)
 
 -- a reply for each of these lines
 abbrev pub replies_to : Session → List (List ℕ) → List (List ℕ)

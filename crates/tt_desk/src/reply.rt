@@ -1,14 +1,15 @@
 //! The reply to a line: own lines, and the line of totals or refusal.
 
-ghost use Rattle.std.specs.Prelude.{◌≡◌, ◌<◌, ◌≤◌, ◌+◌, ◌++◌, [], IfOk, OnOk, OnErr, codes, decimal, length};
+ghost use Rattle.std.specs.Prelude.{◌≡◌, ◌<◌, ◌≤◌, ◌+◌, ◌++◌, [], IfOk, OnOk, OnErr, codes, decimal, length, option_map};
 ghost use Rattle.std.specs.List.{flat_map};
 ghost use Rattle.std.specs.Option.{option_map_or};
+ghost use Rattle.tt_problem.specs.Places.{class_id};
 ghost use Rattle.tt_text.specs.Fields.{field};
 ghost use Rattle.tt_text.specs.Reply.{kept_bytes, most_digits};
 ghost use Rattle.tt_state.specs.History.{desk_of};
 ghost use Rattle.tt_published.specs.Timetable.{IsTimetableOf};
 ghost use Rattle.tt_published.specs.Published.{timetable_of};
-ghost use Rattle.tt_desk.specs.Desk.{best_lines, draft_line, moved_text, moved_then, result_line, set_line, suggested_lines, taken_line, taken_lines};
+ghost use Rattle.tt_desk.specs.Desk.{best_lines, counted_line, draft_line, moved_text, result_line, set_line, suggested_lines, taken_lines};
 ghost use Rattle.tt_desk.specs.Refusals.{refusal_text, refusal_line};
 ghost use Rattle.tt_desk.specs.Lengths.{most_counts_bytes, most_moved_bytes, most_refusal_bytes, most_sums_bytes, most_totals_bytes};
 ghost use Rattle.tt_desk.specs.Replies.{counts_text, reply_to, sums_text, totals_line};
@@ -185,7 +186,8 @@ pub(crate) fn add_published(
 // Appends a line for a class that was taken out.
 #[tactic(auto, using(std::proofs::Common::append_assoc))]
 fn add_taken_line(reply: &mut Reply, problem: &Problem, class: u32) -> Result<(), AllocError>
-    ensures { OnOk result (reply.new ≡ reply.old ++ taken_line problem.now class) }
+    ensures { OnOk result (reply.new
+        ≡ reply.old ++ counted_line (codes "out ") (class_id problem.now class)) }
 {
     reply.field("out ", u128::from(problem.class_id(class)))?;
     reply.text("\n")
@@ -228,7 +230,7 @@ fn add_sets(reply: &mut Reply, problem: &Problem, moves: &[Move]) -> Result<(), 
 
 // How many published classes are moved with a suggestion, while there is a published timetable.
 fn moved_then(aim: &Aim, suggestion: &Suggestion) -> Option<u32>
-    ensures { result ≡ moved_then aim.now suggestion.now }
+    ensures { result ≡ option_map (λ t. suggestion.now.moved) aim.now }
 {
     match aim.published() {
         None => None,
