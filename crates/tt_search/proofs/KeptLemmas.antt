@@ -21,9 +21,10 @@ use Rattle.tt_state.specs.Snapshots.{Snapshot, StaysLocked, is_locked_in, value_
 use Rattle.tt_state.specs.Values.{obstacle_of}
 use Rattle.tt_state.specs.Forced.{forced}
 use Rattle.tt_state.proofs.FitsLemmas.{forced_locks, forced_stays}
-use Rattle.tt_search.specs.Turns.{after_turn, available_values, candidates, chosen_value, forced_if, has_open_value, is_available, is_candidate, price_of, turn_of}
-use Rattle.tt_search.specs.Searched.{after_turns, onward, rank_of, search_end}
-use Rattle.tt_search.specs.PlaceTurns.{PlaceMoment, TurnWords, after_forcing, after_places, all_least, burden_of, least_values, place_end, place_turn, places_after, two_words}
+use Rattle.tt_search.specs.Turns.{after_turn, available_values, candidates, chosen_value, has_open_value, is_available, is_candidate, price_of, turn_of}
+use Rattle.tt_search.specs.Searched.{after_turns, onward, rank_of}
+use Rattle.tt_search.specs.PlaceTurns.{PlaceMoment, after_forcing, after_places, all_least, burden_of, least_values, place_turn, two_words}
+use Rattle.tt_search.specs.UnderWay.{place_end, places_after, search_end}
 use Rattle.tt_search.specs.Least.{IsFirstLeast}
 use Rattle.tt_search.specs.Numbers.{IsAvailable}
 use Rattle.tt_search.proofs.ChoiceLemmas.{free_of}
@@ -87,7 +88,7 @@ forced_has p start s class v has unplaced none = record {
     was d locked = ap (λ (l : List Bool). slice_index_or l d false) (sym (forced_locks p s class v)) ∙ locked
 
 -- and so does forcing it to one, if there is one
-forced_if_has : (p : Parts) (start s : Snapshot) (class : ℕ) (o : Option Value) → HasLocksOf start s → is_none (value_in s class) ≡ true → IfSome o (λ v. obstacle_of p s class v ≡ None) → HasLocksOf start (forced_if p s class o)
+forced_if_has : (p : Parts) (start s : Snapshot) (class : ℕ) (o : Option Value) → HasLocksOf start s → is_none (value_in s class) ≡ true → IfSome o (λ v. obstacle_of p s class v ≡ None) → HasLocksOf start (option_map_or (forced p s class) o s)
 forced_if_has p start s class None has unplaced none = has
 forced_if_has p start s class (Some v) has unplaced none = forced_has p start s class v has unplaced none
 
@@ -142,24 +143,24 @@ drawn_free p m class word None from = tt
 drawn_free p m class word (Some v) from = (standing_available p m.snapshot class _ (all_least (burden_of p m class) (available_values p m.snapshot class)) (Some v) (least_available p m.snapshot class (burden_of p m class)) from).free
 
 -- the snapshot after a class is forced, if there is a value
-snapshot_after : (p : Parts) (m : PlaceMoment) (class : ℕ) (o : Option Value) → (after_forcing p m class o).snapshot ≡ forced_if p m.snapshot class o
+snapshot_after : (p : Parts) (m : PlaceMoment) (class : ℕ) (o : Option Value) → (after_forcing p m class o).snapshot ≡ option_map_or (forced p m.snapshot class) o m.snapshot
 snapshot_after p m class None = refl
 snapshot_after p m class (Some v) = refl
 
 -- a turn that learns leaves the classes that are locked
-place_turn_has : (p : Parts) (start : Snapshot) (random : TurnWords) (m n : PlaceMoment) → HasLocksOf start m.snapshot → place_turn p random m ≡ Some n → HasLocksOf start n.snapshot
+place_turn_has : (p : Parts) (start : Snapshot) (words : ℕ × ℕ) (m n : PlaceMoment) → HasLocksOf start m.snapshot → place_turn p words m ≡ Some n → HasLocksOf start n.snapshot
 unfolding place_turn
-place_turn_has p start random m n has is = by (drawn random.class (candidates p m.snapshot)) refl is
+place_turn_has p start (class_word, value_word) m n has is = by (drawn class_word (candidates p m.snapshot)) refl is
   where
     forces : (class : ℕ) → Option Value → PlaceMoment
     forces class o = after_forcing p m class o
 
-    by : (o : Option ℕ) → drawn random.class (candidates p m.snapshot) ≡ o → option_map (λ class. after_forcing p m class (drawn random.value (least_values p m class))) o ≡ Some n → HasLocksOf start n.snapshot
+    by : (o : Option ℕ) → drawn class_word (candidates p m.snapshot) ≡ o → option_map (λ class. after_forcing p m class (drawn value_word (least_values p m class))) o ≡ Some n → HasLocksOf start n.snapshot
     by None from is = absurd (cc)
     by (Some class) from is =
-        let value = drawn random.value (least_values p m class) in
+        let value = drawn value_word (least_values p m class) in
         let after : forces class value ≡ n = cc in
-        let kept = forced_if_has p start m.snapshot class value has (drawn_unplaced p m.snapshot random.class class from) (drawn_free p m class random.value value refl) in
+        let kept = forced_if_has p start m.snapshot class value has (drawn_unplaced p m.snapshot class_word class from) (drawn_free p m class value_word value refl) in
         rw after at (rw (sym (snapshot_after p m class value)) at kept)
 
 -- where all snapshots of a way leave the locked classes, so does where it ends
@@ -176,7 +177,7 @@ pub locked_stay : (p : Parts) (published : Option Timetable) (n seed : ℕ) (s t
 locked_stay p published n seed s t placed is =
     let start = starts_locked s placed in
     let all = all_onward (HasLocksOf s) next_u32 (turn_of p published) (λ word a b. turn_has p published s word a b) n (random_words seed) s start in
-    ends_locked (rank_of p published) s (after_turns p published n (random_words seed) s) t start all (ends_at_first p published n seed s t is)
+    ends_locked (rank_of p published) s (after_turns p published n seed s) t start all (ends_at_first p published n seed s t is)
 
 all_of_map : {A B : Type 0} (P : B → Type 0) (f : A → B) (xs : List A) → All (λ x. P (f x)) xs → All P (map f xs)
 all_of_map P f [] all = λ k d lt. absurd (omega (arith, lt))
@@ -186,5 +187,5 @@ all_of_map P f (x ∷ xs) all = all_cons P (f x) (map f xs) (all 0 x (omega arit
 pub place_locked_stay : (p : Parts) (n seed : ℕ) (s t : Snapshot) → ((class : ℕ) → is_locked_in s class ≡ true → is_some (value_in s class) ≡ true) → place_end p n seed s ≡ t → (class : ℕ) → StaysLocked s t class
 place_locked_stay p n seed s t placed is =
     let start = starts_locked s placed in
-    let all = all_onward (λ m. HasLocksOf s m.snapshot) two_words (place_turn p) (λ random a b. place_turn_has p s random a b) n (random_words seed) (record { snapshot = s; outs = [] }) start in
+    let all = all_onward (λ m. HasLocksOf s m.snapshot) two_words (place_turn p) (λ words a b. place_turn_has p s words a b) n (random_words seed) (record { snapshot = s; outs = [] }) start in
     ends_locked (rank_of p None) s (places_after p n seed s) t start (all_of_map (HasLocksOf s) (λ m. m.snapshot) (after_places p n seed s) all) (place_ends_at_first p n seed s t is)

@@ -15,17 +15,18 @@ use Rattle.rand_core.specs.Stream.{Stream, next_u32}
 use Rattle.tt_draw.specs.Draws.{drawn, random_words}
 use Rattle.tt_bits.specs.declared.times.Value.{Value}
 use Rattle.tt_problem.specs.declared.parts.Parts.{Parts}
+use Rattle.tt_state.specs.Forced.{forced}
 use Rattle.tt_state.specs.Snapshots.{Snapshot}
 use Rattle.tt_state.specs.Values.{conflict_set_of, total_with}
 use Rattle.tt_search.specs.declared.turn.Turn.{Turn}
 use Rattle.tt_search.specs.declared.way.Best.{Best}
 use Rattle.tt_search.specs.declared.weights.ClassWeights.{ClassWeights}
 use Rattle.tt_search.specs.Numbers.{after_making, rank_numbers}
-use Rattle.tt_search.specs.PlaceTurns.{PlaceMoment, TurnWords, after_forcing, all_least, burden_of, class_weight, least_values, place_end, place_turn, places_after, set_weight, two_words}
-use Rattle.tt_search.specs.PlacingNow.{CountsOuts, burden_by, moment_after, taken_by, weight_by}
+use Rattle.tt_search.specs.PlaceTurns.{PlaceMoment, after_forcing, all_least, burden_of, least_values, place_turn, set_weight, two_words}
+use Rattle.tt_search.specs.PlacingNow.{CountsOuts, burden_by, class_weight, moment_after, taken_by, weight_by}
 use Rattle.tt_search.specs.Searched.{onward, rank_of}
-use Rattle.tt_search.specs.Turns.{available_values, candidates, forced_if}
-use Rattle.tt_search.specs.UnderWay.{IsUnderWay, LeadsOn}
+use Rattle.tt_search.specs.Turns.{available_values, candidates}
+use Rattle.tt_search.specs.UnderWay.{IsUnderWay, LeadsOn, place_end, places_after}
 use Rattle.tt_search.proofs.WayLemmas.{made_turn, no_turn, no_turn_left, start_way}
 
 -- what is counted of a list is no more than its items
@@ -82,31 +83,31 @@ least_same p s outs w class values counts are =
     are ∙ ap (λ (before : Value → Value → Bool). filter (λ x. not (list_any (λ y. before y x) (available_values p s class))) (available_values p s class)) less
 
 -- two words that are drawn one after the other
-then_words : ℕ → ℕ × Stream → TurnWords × Stream
-then_words class next = (record { class = class; value = next.0 }, next.1)
+then_words : ℕ → ℕ × Stream → (ℕ × ℕ) × Stream
+then_words class next = ((class, next.0), next.1)
 
-all_words : ℕ × Stream → TurnWords × Stream
+all_words : ℕ × Stream → (ℕ × ℕ) × Stream
 all_words next = then_words next.0 (next_u32 next.1)
 
-pub two_drawn : (class value : ℕ) (random middle left : Stream) → (class, middle) ≡ next_u32 random → (value, left) ≡ next_u32 middle → (record { class = class; value = value }, left) ≡ two_words random
+pub two_drawn : (class value : ℕ) (random middle left : Stream) → (class, middle) ≡ next_u32 random → (value, left) ≡ next_u32 middle → ((class, value), left) ≡ two_words random
 unfolding then_words all_words
 two_drawn class value random middle left first second = ap (then_words class) second ∙ ap all_words first
 
 -- the turn where no word draws a class, and where one does
-pub no_class : (p : Parts) (random : TurnWords) (m : PlaceMoment) → drawn random.class (candidates p m.snapshot) ≡ None → place_turn p random m ≡ None
+pub no_class : (p : Parts) (class_word value_word : ℕ) (m : PlaceMoment) → drawn class_word (candidates p m.snapshot) ≡ None → place_turn p (class_word, value_word) m ≡ None
 unfolding place_turn
-no_class p random m none = rw none refl
+no_class p class_word value_word m none = rw none refl
 
-pub one_class : (p : Parts) (random : TurnWords) (m : PlaceMoment) (class : ℕ) (value : Option Value) → drawn random.class (candidates p m.snapshot) ≡ Some class → drawn random.value (least_values p m class) ≡ value
-    → place_turn p random m ≡ Some (after_forcing p m class value)
+pub one_class : (p : Parts) (class_word value_word : ℕ) (m : PlaceMoment) (class : ℕ) (value : Option Value) → drawn class_word (candidates p m.snapshot) ≡ Some class → drawn value_word (least_values p m class) ≡ value
+    → place_turn p (class_word, value_word) m ≡ Some (after_forcing p m class value)
 unfolding place_turn
-one_class p random m class value is chosen = rw is (rw chosen refl)
+one_class p class_word value_word m class value is chosen = rw is (rw chosen refl)
 
 -- what a turn leaves behind
 pub after_same : (p : Parts) (s t : Snapshot) (outs taken : List ℕ) (m : Turn) → t ≡ after_making p s m → IfSome m.value (λ v. taken ≡ conflict_set_of p s m.class v) → moment_after p s outs m ≡ record { snapshot = t; outs = taken_by m taken ++ outs }
 after_same p s t outs taken m is found = by m.value is found
   where
-    by : (o : Option Value) → t ≡ forced_if p s m.class o → IfSome o (λ v. taken ≡ conflict_set_of p s m.class v)
+    by : (o : Option Value) → t ≡ option_map_or (forced p s m.class) o s → IfSome o (λ v. taken ≡ conflict_set_of p s m.class v)
         → after_forcing p (record { snapshot = s; outs = outs }) m.class o ≡ record { snapshot = t; outs = option_map_or (λ v. taken) o [] ++ outs }
     by None is found = rw is refl
     by (Some v) is found = rw (is, found) refl
@@ -137,17 +138,17 @@ starts_placing p turns seed s random trail w best counts seeded is ranked first 
     }
 
 -- a turn that is made
-pub next_placing : (p : Parts) (turns seed : ℕ) (start : Snapshot) (made : ℕ) (random left : Stream) (pair : TurnWords) (now next : Snapshot) (before after : List Snapshot) (w v : ClassWeights) (old new : Best) (m : Turn) (taken : List ℕ)
-    → IsPlacing p turns seed start made random now before w old → made < turns → (pair, left) ≡ two_words random
-    → ((outs : List ℕ) → CountsOuts p outs w → place_turn p pair (record { snapshot = now; outs = outs }) ≡ Some (moment_after p now outs m))
+pub next_placing : (p : Parts) (turns seed : ℕ) (start : Snapshot) (made : ℕ) (random left : Stream) (words : ℕ × ℕ) (now next : Snapshot) (before after : List Snapshot) (w v : ClassWeights) (old new : Best) (m : Turn) (taken : List ℕ)
+    → IsPlacing p turns seed start made random now before w old → made < turns → (words, left) ≡ two_words random
+    → ((outs : List ℕ) → CountsOuts p outs w → place_turn p words (record { snapshot = now; outs = outs }) ≡ Some (moment_after p now outs m))
     → next ≡ after_making p now m → IfSome m.value (λ v. taken ≡ conflict_set_of p now m.class v) → LeadsOn (rank_of p None) before after next old new
     → length v.outs.items ≡ length w.outs.items → ((class : ℕ) → slice_index_or v.outs.items class 0 ≡ slice_index_or w.outs.items class 0 + count_by (nat_eq class) (taken_by m taken)) → length (taken_by m taken) ≤ 20000
     → IsPlacing p turns seed start (made + 1) left next after v new
-next_placing p turns seed start made random left pair now next before after w v old new m taken on below is turn moved found leads whole more few =
+next_placing p turns seed start made random left words now next before after w v old new m taken on below is turn moved found leads whole more few =
     let outs = taken_by m taken ++ on.outs in
     let moment : PlaceMoment = record { snapshot = next; outs = outs } in
     let made_now = turn on.outs on.counts ∙ ap Some (after_same p now next on.outs taken m moved found) in
-    let onward_is = made_turn two_words (place_turn p) turns made random left pair (record { snapshot = now; outs = on.outs }) moment below is made_now in
+    let onward_is = made_turn two_words (place_turn p) turns made random left words (record { snapshot = now; outs = on.outs }) moment below is made_now in
     record {
       outs = outs;
       counts = counts_more p on.outs (taken_by m taken) w v on.counts whole more;
@@ -156,11 +157,11 @@ next_placing p turns seed start made random left pair now next before after w v 
     }
 
 -- without a candidate the way is at its end
-pub no_placing : (p : Parts) (turns seed : ℕ) (start : Snapshot) (made : ℕ) (random left : Stream) (pair : TurnWords) (now : Snapshot) (trail : List Snapshot) (w : ClassWeights) (best : Best) → IsPlacing p turns seed start made random now trail w best
-    → (pair, left) ≡ two_words random → ((outs : List ℕ) → CountsOuts p outs w → place_turn p pair (record { snapshot = now; outs = outs }) ≡ None)
+pub no_placing : (p : Parts) (turns seed : ℕ) (start : Snapshot) (made : ℕ) (random left : Stream) (words : ℕ × ℕ) (now : Snapshot) (trail : List Snapshot) (w : ClassWeights) (best : Best) → IsPlacing p turns seed start made random now trail w best
+    → (words, left) ≡ two_words random → ((outs : List ℕ) → CountsOuts p outs w → place_turn p words (record { snapshot = now; outs = outs }) ≡ None)
     → IsUnderWay (rank_of p None) trail [] best made (place_end p turns seed start) (length (places_after p turns seed start))
-no_placing p turns seed start made random left pair now trail w best on is turn =
-    let onward_is = no_turn two_words (place_turn p) (turns - made) random left pair (record { snapshot = now; outs = on.outs }) is (turn on.outs on.counts) in
+no_placing p turns seed start made random left words now trail w best on is turn =
+    let onward_is = no_turn two_words (place_turn p) (turns - made) random left words (record { snapshot = now; outs = on.outs }) is (turn on.outs on.counts) in
     rw onward_is at on.way
 
 -- and so it is once all turns are made
@@ -172,15 +173,15 @@ all_placing p turns seed start made random now trail w best on all =
     record { now = way.now; at = way.at; ranked = way.ranked; ends = way.ends; counts = ap (λ n. n + 0) all ∙ way.counts }
 
 -- where a turn leads on, one is made
-pub turn_made : (p : Parts) (turns seed : ℕ) (start : Snapshot) (made : ℕ) (random left : Stream) (pair : TurnWords) (now : Snapshot) (trail : List Snapshot) (w : ClassWeights) (best : Best) → IsPlacing p turns seed start made random now trail w best
-    → made < turns → (pair, left) ≡ two_words random → ((outs : List ℕ) → CountsOuts p outs w → IsSome (place_turn p pair (record { snapshot = now; outs = outs }))) → 0 < length (places_after p turns seed start)
-turn_made p turns seed start made random left pair now trail w best on below is turn = by (place_turn p pair m) refl (turn on.outs on.counts)
+pub turn_made : (p : Parts) (turns seed : ℕ) (start : Snapshot) (made : ℕ) (random left : Stream) (words : ℕ × ℕ) (now : Snapshot) (trail : List Snapshot) (w : ClassWeights) (best : Best) → IsPlacing p turns seed start made random now trail w best
+    → made < turns → (words, left) ≡ two_words random → ((outs : List ℕ) → CountsOuts p outs w → IsSome (place_turn p words (record { snapshot = now; outs = outs }))) → 0 < length (places_after p turns seed start)
+turn_made p turns seed start made random left words now trail w best on below is turn = by (place_turn p words m) refl (turn on.outs on.counts)
   where
     m : PlaceMoment
     m = record { snapshot = now; outs = on.outs }
 
-    by : (o : Option PlaceMoment) → place_turn p pair m ≡ o → IsSome o → 0 < length (places_after p turns seed start)
+    by : (o : Option PlaceMoment) → place_turn p words m ≡ o → IsSome o → 0 < length (places_after p turns seed start)
     by None e some = absurd (cc some)
     by (Some next) e some =
-        let way = rw (made_turn two_words (place_turn p) turns made random left pair m next below is e) at on.way in
+        let way = rw (made_turn two_words (place_turn p) turns made random left words m next below is e) at on.way in
         omega (arith, way.counts)

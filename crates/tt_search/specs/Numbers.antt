@@ -1,16 +1,18 @@
 -- Proof. What the code of a turn keeps: the numbers of prices and ranks, in the order in which they are compared, and turns.
 use Rattle.std.specs.Prelude.{ℕ, ◌≡◌, ◌<◌, List, [], ◌∷◌, Option, Some, None, IfSome, if◌then◌else◌}
+use Rattle.std.specs.Option.{option_map_or}
 use Rattle.tt_plan.specs.Domain.{IsOfDomain}
 use Rattle.tt_bits.specs.declared.times.Value.{Value}
 use Rattle.tt_problem.specs.declared.parts.Parts.{Parts}
 use Rattle.tt_search.specs.declared.price.Price.{Price}
 use Rattle.tt_search.specs.declared.price.Rank.{Rank}
 use Rattle.tt_search.specs.declared.turn.Turn.{Turn}
+use Rattle.tt_state.specs.Forced.{forced}
 use Rattle.tt_state.specs.Snapshots.{Snapshot}
 use Rattle.tt_state.specs.Values.{obstacle_of}
 use Rattle.tt_state.specs.Tolls.{tolls_of}
 use Rattle.tt_published.specs.Timetable.{Timetable}
-use Rattle.tt_search.specs.Turns.{forced_if, strays_in}
+use Rattle.tt_search.specs.Turns.{strays_in}
 
 -- the numbers of a price
 abbrev pub price_numbers : Price → List ℕ
@@ -40,4 +42,4 @@ MayMake p s m = IfSome m.value (IsAvailable p s m.class)
 
 -- a snapshot after such a turn
 abbrev pub after_making : Parts → Snapshot → Turn → Snapshot
-after_making p s m = forced_if p s m.class m.value
+after_making p s m = option_map_or (forced p s m.class) m.value s

@@ -11,7 +11,11 @@ use Rattle.tt_search.specs.declared.weights.ClassWeights.{ClassWeights}
 use Rattle.tt_search.specs.LeastNow.{then_by, total_numbers}
 use Rattle.tt_search.specs.PlaceTurns.{PlaceMoment, after_forcing}
 
--- what a class weighs, by how often each was taken out
+-- what a class weighs, by those that were taken out
+abbrev pub class_weight : (outs : List ℕ) → (class : ℕ) → ℕ
+class_weight outs class = 1 + count_by (nat_eq class) outs
+
+-- the same, by how often each was taken out
 abbrev pub weight_by : (outs : List ℕ) → (class : ℕ) → ℕ
 weight_by outs class = 1 + slice_index_or outs class 0
 

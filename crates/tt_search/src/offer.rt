@@ -31,13 +31,9 @@ fn find_lighter(state: &mut State, placement: &Placement, least: Option<Price>) 
     ensures present { state.new.present ≡ state.old.present }
     ensures entries { state.new.entries ≡ state.old.entries }
 {
-    let Some(price) = least else {
-        state.find_conflicts(placement.class, placement.value);
-        return true;
-    };
-    match u32::try_from(price.weight) {
-        Ok(most) => state.find_conflict_set_within(placement, most),
-        Err(_) => {
+    match least.and_then(|price| u32::try_from(price.weight).ok()) {
+        Some(most) => state.find_conflict_set_within(placement, most),
+        None => {
             state.find_conflicts(placement.class, placement.value);
             true
         }

@@ -7,11 +7,11 @@ ghost use Rattle.tt_state.specs.History.{IsWithinStep, desk_of, earlier, trail, 
 ghost use Rattle.tt_state.specs.Snapshots.{StaysLocked};
 ghost use Rattle.tt_search.specs.Least.{IsFirstLeast};
 ghost use Rattle.tt_search.specs.Searched.{rank_of};
-ghost use Rattle.tt_search.specs.PlaceTurns.{all_placed, place_end, place_turn, place_way, places_after};
+ghost use Rattle.tt_search.specs.PlaceTurns.{all_placed, place_turn, place_way};
 ghost use Rattle.tt_search.specs.Drawing.{AreCandidates};
 ghost use Rattle.tt_search.specs.LeastNow.{HasRoomForValues};
 ghost use Rattle.tt_search.specs.Numbers.{MayMake};
-ghost use Rattle.tt_search.specs.UnderWay.{IsUnderWay};
+ghost use Rattle.tt_search.specs.UnderWay.{IsUnderWay, place_end, places_after};
 ghost use Rattle.tt_search.specs.WayNow.{BeginsAt};
 ghost use Rattle.tt_search.specs.PlacingNow.{CountsOuts, moment_after};
 
@@ -46,7 +46,7 @@ fn next_turn(
     ensures room { HasRoomForValues state.old.problem least.new }
     ensures turn { (outs : List ℕ)
         → CountsOuts state.old.problem outs weights.now
-        → place_turn state.old.problem (record { class = class_word; value = value_word })
+        → place_turn state.old.problem (class_word, value_word)
         (record { snapshot = state.old.present; outs = outs })
         ≡ option_map (moment_after state.old.problem state.old.present outs) result }
     ensures may { IfSome result (MayMake state.old.problem state.old.present) }
@@ -138,7 +138,7 @@ fn place_on<W: Watcher>(
 /// is forced to. Where it has none, the turn changes nothing. So each locked class stays where it is.
 /// The answer is the number of turns. Where memory is wanting, only the conflict set found last may
 /// differ. The watcher is told of each turn.
-#[tactic(auto, using(crate::proofs::FirstLemmas::place_ends_at_first))]
+#[tactic(auto, unfolding(crate::specs::UnderWay::place_end), using(crate::proofs::FirstLemmas::place_ends_at_first))]
 pub fn place<W: Watcher>(
     alloc: Global,
     state: &mut State,

@@ -7,8 +7,8 @@ ghost use Rattle.tt_state.specs.Desk.{stepped};
 ghost use Rattle.tt_state.specs.History.{IsWithinStep, desk_of, earlier, trail, with_taken};
 ghost use Rattle.tt_state.specs.Snapshots.{StaysLocked};
 ghost use Rattle.tt_search.specs.Least.{IsFirstLeast};
-ghost use Rattle.tt_search.specs.Searched.{rank_of, search_end, way_of, turns_made, searched, repaired};
-ghost use Rattle.tt_search.specs.UnderWay.{IsUnderWay};
+ghost use Rattle.tt_search.specs.Searched.{rank_of, way_of, searched, repaired};
+ghost use Rattle.tt_search.specs.UnderWay.{IsUnderWay, search_end, turns_made};
 ghost use Rattle.tt_search.specs.WayNow.{BeginsAt};
 
 use crate::turn::next_turn;
@@ -88,7 +88,7 @@ fn seek<W: Watcher>(
 /// place in its domain. Where it has none, the turn changes nothing. So each locked class stays where it
 /// is. The answer is the number of turns. Where memory is wanting, only the conflict set found last may
 /// differ. The watcher is told of each turn.
-#[tactic(auto, using(crate::proofs::FirstLemmas::ends_at_first))]
+#[tactic(auto, unfolding(crate::specs::UnderWay::search_end), using(crate::proofs::FirstLemmas::ends_at_first))]
 pub fn search<W: Watcher>(
     alloc: Global,
     state: &mut State,
@@ -115,7 +115,7 @@ pub fn search<W: Watcher>(
 /// the fewer published classes are moved the better, before the total. The answer is the number of
 /// turns. Where memory is wanting, only the conflict set found last may differ. The watcher is told of
 /// each turn.
-#[tactic(auto, using(crate::proofs::FirstLemmas::ends_at_first))]
+#[tactic(auto, unfolding(crate::specs::UnderWay::search_end), using(crate::proofs::FirstLemmas::ends_at_first))]
 pub fn repair<W: Watcher>(
     alloc: Global,
     state: &mut State,

@@ -12,7 +12,8 @@ use Rattle.tt_state.specs.Snapshots.{is_locked_in}
 use Rattle.tt_state.specs.Values.{blocked_of, conflict_set_of, obstacle_of}
 use Rattle.tt_state.proofs.ObstacleLemmas.{clear_exactly}
 use Rattle.tt_suggest.specs.declared.suggestion.Move.{Move}
-use Rattle.tt_suggest.specs.Tree.{Node, gives_child, is_on, may_follow, stays_at_root}
+use Rattle.tt_suggest.specs.Tree.{Node, gives_child}
+use Rattle.tt_suggest.specs.Walks.{is_on, may_follow, stays_at_root}
 
 -- too many wait already
 pub follows_none : (spare : ℕ) (path : List Move) (others conflicts : List ℕ) → spare < length others → may_follow spare path others conflicts ≡ false
@@ -33,17 +34,29 @@ follows_within spare most path others conflicts is =
           rw (both, many.0) refl
     ]
 
-last_fails : (a b c : Bool) → c ≡ false → (a && b && c) ≡ false
-last_fails true true c fails = fails
-last_fails true false c fails = refl
-last_fails false b c fails = refl
+last_fail : (a b c d : Bool) → (c && d) ≡ false → (a && b && c && d) ≡ false
+last_fail true true c d fail = fail
+last_fail true false c d fail = refl
+last_fail false b c d fail = refl
+
+last_hold : (a b c d : Bool) → b ≡ true → (c && d) ≡ true → a ≡ (a && b && c && d)
+last_hold true true c d second hold = sym hold
+last_hold true false c d second hold = absurd (cc)
+last_hold false b c d second hold = refl
 
 -- where no placement may follow there is no child
 pub barren : (p : Parts) (spare : ℕ) (node : Node) (class : ℕ) (others : List ℕ) (v : Value) → may_follow spare node.path others (conflict_set_of p node.snapshot class v) ≡ false
     → false ≡ gives_child p spare node class others v
 unfolding gives_child
 barren p spare node class others v none =
-    sym (last_fails (is_none (obstacle_of p node.snapshot class v)) (not (stays_at_root node.snapshot node.path class v)) (may_follow spare node.path others (conflict_set_of p node.snapshot class v)) none)
+    let conflicts = conflict_set_of p node.snapshot class v in
+    sym
+    (last_fail
+    (is_none (obstacle_of p node.snapshot class v))
+    (not (stays_at_root node.snapshot node.path class v))
+    (nat_le (length others + length conflicts) spare)
+    (not (list_any (is_on node.path) conflicts))
+    none)
 
 -- and else there is one unless a class that would be pushed out is locked
 pub gives_unless_held : (p : Parts) (spare : ℕ) (node : Node) (class : ℕ) (others : List ℕ) (v : Value) (taken : List ℕ) (locked : Option ℕ) → blocked_of p node.snapshot.closures class v ≡ None
@@ -51,11 +64,15 @@ pub gives_unless_held : (p : Parts) (spare : ℕ) (node : Node) (class : ℕ) (o
     → taken ≡ conflict_set_of p node.snapshot class v → locked ≡ find (is_locked_in node.snapshot) taken → is_none locked ≡ gives_child p spare node class others v
 unfolding gives_child
 gives_unless_held p spare node class others v taken locked open_one moves follows found is =
-    rw (moves, follows) (by (is_none locked) ∙ ap (λ (b : Bool). b && true && true) (sym (clear_exactly p node.snapshot class v taken locked open_one found is)))
-  where
-    by : (b : Bool) → b ≡ (b && true && true)
-    by true = refl
-    by false = refl
+    let conflicts = conflict_set_of p node.snapshot class v in
+    sym (clear_exactly p node.snapshot class v taken locked open_one found is)
+    ∙ last_hold
+    (is_none (obstacle_of p node.snapshot class v))
+    (not (stays_at_root node.snapshot node.path class v))
+    (nat_le (length others + length conflicts) spare)
+    (not (list_any (is_on node.path) conflicts))
+    (ap not moves)
+    follows
 
 -- none is locked where it isn't so that some is
 none_by : (locked : Option ℕ) (answer : Bool) → is_some locked ≡ not answer → answer ≡ is_none locked

@@ -21,8 +21,8 @@ use Rattle.tt_suggest.specs.declared.suggestion.Suggested.{Suggested}
 use Rattle.tt_suggest.specs.declared.suggestion.Suggestion.{Suggestion}
 use Rattle.tt_suggest.specs.Ranks.{rank_numbers}
 use Rattle.tt_suggest.specs.Suggestions.{suggestion_rank, suggestion_of}
-use Rattle.tt_suggest.specs.Tree.{Node, emptied, gives_child, is_on, leaves_of, stays_at_root, tries_of}
-use Rattle.tt_suggest.specs.Walks.{AreFoundIn, child_of, leaf_of, node_of, suggestions_by, tries_by}
+use Rattle.tt_suggest.specs.Tree.{Node, gives_child, leaves_of, tries_of}
+use Rattle.tt_suggest.specs.Walks.{AreFoundIn, child_of, emptied, is_on, leaf_of, node_of, stays_at_root, suggestions_by, tries_by}
 use Rattle.tt_suggest.proofs.TreeLemmas.{barren_suggestions, barren_tries, child_suggestions, child_tries, leaf_leaves, leaf_tries}
 
 -- the class of a branch gives a child at a value
@@ -102,7 +102,7 @@ leaf_above p published s b v now some alone none few above =
     let rank : Rank = record { total = total_with p s b.class v; moved = moved_in p published (with_value s b.class (Some v)).plan } in
     leaf_found p published s b v rank now now some alone none refl refl few (found_stays now.best (leaf_of b v rank) above)
 
-first_and_third : (a b c d : Bool) → (a && b && (c && d)) ≡ true → (a ≡ true) × (c ≡ true)
+first_and_third : (a b c d : Bool) → (a && b && c && d) ≡ true → (a ≡ true) × (c ≡ true)
 first_and_third true true true d is = (refl, refl)
 first_and_third true true false d is = absurd (cc)
 first_and_third true false c d is = absurd (cc)

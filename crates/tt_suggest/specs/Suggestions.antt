@@ -18,17 +18,14 @@ suggestion_of p published node = record {
   moved = moved_in p published node.snapshot.plan;
 }
 
--- the suggestions for a class by at most so many placements, in the order of a depth-first walk
-abbrev pub suggestions_of : Parts → Option Timetable → (depth : ℕ) → Snapshot → (class : ℕ) → List Suggestion
-suggestions_of p published depth s class = map (suggestion_of p published) (leaves_of p depth (root_of s class))
-
 -- the numbers by which a suggestion is chosen: the total, and how many published classes are moved
 abbrev pub suggestion_rank : Suggestion → List ℕ
 suggestion_rank x = x.total ∷ x.moved ∷ []
 
--- how many values are tried for a class by at most so many placements, and the first suggestion that has the least rank
+-- How many values are tried for a class by at most so many placements, and the first suggestion that has the least rank, in the
+-- order of a depth-first walk.
 abbrev pub suggested : Parts → Option Timetable → (depth : ℕ) → Snapshot → (class : ℕ) → Suggested
 suggested p published depth s class = record {
   tried = tries_of p depth (root_of s class);
-  best = first_least suggestion_rank (suggestions_of p published depth s class);
+  best = first_least suggestion_rank (map (suggestion_of p published) (leaves_of p depth (root_of s class)));
 }

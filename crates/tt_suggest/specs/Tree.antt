@@ -22,49 +22,30 @@ pub record Node : Type 0 where
 abbrev pub root_of : Snapshot → (class : ℕ) → Node
 root_of s class = record { snapshot = s; path = []; waiting = class ∷ [] }
 
--- a snapshot without the values of some classes
-abbrev pub emptied : Snapshot → List ℕ → Snapshot
-emptied s classes = fold (λ now class. with_value now class None) s classes
-
--- a snapshot with a class at a value, without the classes that it pushes out
-abbrev pub placed_without : Parts → Snapshot → (class : ℕ) → Value → Snapshot
-placed_without p s class v = with_value (emptied s (conflict_set_of p s class v)) class (Some v)
-
--- the class was placed on the way
-abbrev pub is_on : List Move → (class : ℕ) → Bool
-is_on path class = list_any (λ m. m.class == class) path
-
--- the node is the root, and the value is the one that the class has there
-abbrev pub stays_at_root : Snapshot → List Move → (class : ℕ) → Value → Bool
-stays_at_root s path class v = length path == 0 && is_value (value_in s class) v
-
--- no more classes wait than may be placed, and none of those pushed out was placed on the way
-abbrev pub may_follow : (spare : ℕ) → List Move → (others conflicts : List ℕ) → Bool
-may_follow spare path others conflicts = nat_le (length others + length conflicts) spare && not (list_any (is_on path) conflicts)
-
 -- A class at a value gives a child of a node, where `spare` placements may follow it: nothing stands in its way; at the root it isn't
 -- the one that the class has; no more classes wait then than may be placed; and no class is pushed out that was placed on the way.
 unfoldable pub gives_child : Parts → (spare : ℕ) → Node → (class : ℕ) → (others : List ℕ) → Value → Bool
 gives_child p spare node class others v =
+    let conflicts = conflict_set_of p node.snapshot class v in
     is_none (obstacle_of p node.snapshot class v)
-    && not (stays_at_root node.snapshot node.path class v)
-    && may_follow spare node.path others (conflict_set_of p node.snapshot class v)
+    && not (length node.path == 0 && is_value (value_in node.snapshot class) v)
+    && nat_le (length others + length conflicts) spare
+    && not (list_any (λ other. list_any (λ m. m.class == other) node.path) conflicts)
 
--- the child of a node by a class at a value
+-- the child of a node by a class at a value: the classes that it pushes out lose theirs, and wait after the others
 abbrev pub child_by : Parts → Node → (class : ℕ) → (others : List ℕ) → Value → Node
-child_by p node class others v = record {
-  snapshot = placed_without p node.snapshot class v;
-  path = node.path ++ record { class = class; value = v } ∷ [];
-  waiting = others ++ conflict_set_of p node.snapshot class v;
-}
-
--- the children of a node by a class at some values
-abbrev pub children_by : Parts → (spare : ℕ) → Node → (class : ℕ) → (others : List ℕ) → List Value → List Node
-children_by p spare node class others values = map (child_by p node class others) (filter (gives_child p spare node class others) values)
+child_by p node class others v =
+    let conflicts = conflict_set_of p node.snapshot class v in
+    record {
+      snapshot = with_value (fold (λ s other. with_value s other None) node.snapshot conflicts) class (Some v);
+      path = node.path ++ record { class = class; value = v } ∷ [];
+      waiting = others ++ conflicts;
+    }
 
 -- the children of a node by each value of a class, in the order of its domain
 abbrev pub children_of : Parts → (spare : ℕ) → Node → (class : ℕ) → (others : List ℕ) → List Node
-children_of p spare node class others = children_by p spare node class others (domain_of p class)
+children_of p spare node class others =
+    map (child_by p node class others) (filter (gives_child p spare node class others) (domain_of p class))
 
 -- what there is for no class, or else for the first class and the others
 abbrev pub at_first : {A : Type 0} → List ℕ → A → (ℕ → List ℕ → A) → A

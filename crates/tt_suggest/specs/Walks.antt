@@ -1,19 +1,41 @@
 -- Proof. Where the walk is, and what it has found.
-use Rattle.std.specs.Prelude.{ℕ, ◌≡◌, ◌+◌, ◌<◌, ◌≤◌, ◌∷◌, ◌++◌, [], All, List, Option, length, map, suc}
-use Rattle.std.specs.List.{flat_map, sum_by}
+use Rattle.std.specs.Prelude.{ℕ, ◌≡◌, ◌+◌, ◌<◌, ◌≤◌, nat_le, Bool, not, ◌&&◌, ◌==◌, ◌∷◌, ◌++◌, [], All, List, None, Option, fold, length, map, suc}
+use Rattle.std.specs.List.{filter, flat_map, list_any, sum_by}
 use Rattle.tt_base.specs.Lists.{least_after}
 use Rattle.tt_bits.specs.declared.times.Value.{Value}
 use Rattle.tt_problem.specs.declared.parts.Parts.{Parts}
 use Rattle.tt_published.specs.Published.{moved_in}
 use Rattle.tt_published.specs.Timetable.{Timetable}
 use Rattle.tt_state.specs.History.{Contents, IsWithinStep, trail, with_taken}
-use Rattle.tt_state.specs.Snapshots.{Snapshot}
+use Rattle.tt_state.specs.Snapshots.{Snapshot, value_in, with_value}
+use Rattle.tt_state.specs.Values.{is_value}
+use Rattle.tt_suggest.specs.declared.suggestion.Move.{Move}
 use Rattle.tt_suggest.specs.declared.branch.Branch.{Branch}
 use Rattle.tt_suggest.specs.declared.suggestion.Rank.{Rank}
 use Rattle.tt_suggest.specs.declared.suggestion.Suggested.{Suggested}
 use Rattle.tt_suggest.specs.declared.suggestion.Suggestion.{Suggestion}
 use Rattle.tt_suggest.specs.Suggestions.{suggestion_rank, suggestion_of}
-use Rattle.tt_suggest.specs.Tree.{Node, child_by, children_by, leaves_of, most_tries, tries_of}
+use Rattle.tt_suggest.specs.Tree.{Node, child_by, gives_child, leaves_of, most_tries, tries_of}
+
+-- a snapshot without the values of some classes
+abbrev pub emptied : Snapshot → List ℕ → Snapshot
+emptied s classes = fold (λ now class. with_value now class None) s classes
+
+-- the class was placed on the way
+abbrev pub is_on : List Move → (class : ℕ) → Bool
+is_on path class = list_any (λ m. m.class == class) path
+
+-- the node is the root, and the value is the one that the class has there
+abbrev pub stays_at_root : Snapshot → List Move → (class : ℕ) → Value → Bool
+stays_at_root s path class v = length path == 0 && is_value (value_in s class) v
+
+-- no more classes wait than may be placed, and none of those pushed out was placed on the way
+abbrev pub may_follow : (spare : ℕ) → List Move → (others conflicts : List ℕ) → Bool
+may_follow spare path others conflicts = nat_le (length others + length conflicts) spare && not (list_any (is_on path) conflicts)
+
+-- the children of a node by a class at some values
+abbrev pub children_by : Parts → (spare : ℕ) → Node → (class : ℕ) → (others : List ℕ) → List Value → List Node
+children_by p spare node class others values = map (child_by p node class others) (filter (gives_child p spare node class others) values)
 
 -- the node of a branch at a snapshot
 abbrev pub node_of : Snapshot → Branch → Node

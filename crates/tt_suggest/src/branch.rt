@@ -5,8 +5,8 @@ ghost use Rattle.std.specs.List.{list_any};
 ghost use Rattle.tt_plan.specs.Placements.{IsPlacement};
 ghost use Rattle.tt_state.specs.History.{with_taken};
 ghost use Rattle.tt_state.specs.Values.{blocked_of, conflict_set_of, is_value};
-ghost use Rattle.tt_suggest.specs.Tree.{gives_child, is_on, may_follow, stays_at_root};
-ghost use Rattle.tt_suggest.specs.Walks.{node_of};
+ghost use Rattle.tt_suggest.specs.Tree.{gives_child};
+ghost use Rattle.tt_suggest.specs.Walks.{is_on, may_follow, node_of, stays_at_root};
 
 use crate::suggestion::Move;
 use std::alloc::{AllocError, Global};

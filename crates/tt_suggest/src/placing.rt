@@ -1,14 +1,14 @@
 //! The changes of the last step that lead from a node to its child.
 
-ghost use Rattle.std.specs.Prelude.{◌≡◌, ◌+◌, ◌<◌, ◌≤◌, All, IfOk, OnOk, None, false, length};
+ghost use Rattle.std.specs.Prelude.{◌≡◌, ◌+◌, ◌<◌, ◌≤◌, All, IfOk, OnOk, None, Some, false, length};
 ghost use Rattle.tt_plan.specs.Domain.{IsOfDomain};
 ghost use Rattle.tt_published.specs.Published.{moved_in};
 ghost use Rattle.tt_published.specs.Aim.{IsAimOf};
 ghost use Rattle.tt_state.specs.History.{earlier};
 ghost use Rattle.tt_state.specs.Snapshots.{is_locked_in, with_value};
 ghost use Rattle.tt_state.specs.Values.{MayHave, conflict_set_of};
-ghost use Rattle.tt_suggest.specs.Tree.{child_by, emptied, placed_without};
-ghost use Rattle.tt_suggest.specs.Walks.{node_of, IsBranchOf, HasGoneOn};
+ghost use Rattle.tt_suggest.specs.Tree.{child_by};
+ghost use Rattle.tt_suggest.specs.Walks.{emptied, node_of, IsBranchOf, HasGoneOn};
 
 use crate::branch::Branch;
 use crate::moved::moved_with;
@@ -82,7 +82,8 @@ fn exchange(
     ensures moved { IfOk result
         (λ moved. moved ≡ moved_in state.old.problem aim.now state.new.present.plan) }
     ensures present { OnOk result
-        (state.new.present ≡ placed_without state.old.problem state.old.present class value) }
+        (state.new.present
+        ≡ with_value (emptied state.old.present conflicts.now) class (Some value)) }
     ensures on { HasGoneOn state.old state.new }
 {
     let moved = empty(state, aim, moved, conflicts)?;

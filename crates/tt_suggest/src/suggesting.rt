@@ -1,6 +1,6 @@
 //! The walk over the tree of placements, and `suggest`.
 
-ghost use Rattle.std.specs.Prelude.{◌≡◌, ◌≢◌, ◌↔◌, ◌+◌, ◌==◌, true, false, ◌∷◌, [], ◌<◌, ◌≤◌, Option, Err, Ok, IfNone, IfOk, IfSome, IsSomeAnd, OnOk, OnErr, None, Some, length};
+ghost use Rattle.std.specs.Prelude.{◌≡◌, ◌≢◌, ◌↔◌, ◌+◌, ◌==◌, true, false, ◌∷◌, [], ◌<◌, ◌≤◌, Option, Err, Ok, IfNone, IfOk, IfSome, IsSomeAnd, OnOk, OnErr, None, Some, length, map};
 ghost use Rattle.std.specs.Option.{option_copied};
 ghost use Rattle.tt_base.specs.Lists.{least_after};
 ghost use Rattle.tt_plan.specs.Domain.{IsOfDomain};
@@ -10,8 +10,8 @@ ghost use Rattle.tt_published.specs.Aim.{IsAimOf};
 ghost use Rattle.tt_state.specs.History.{IsWithinStep, earlier, with_taken};
 ghost use Rattle.tt_state.specs.Snapshots.{with_value};
 ghost use Rattle.tt_state.specs.Values.{conflict_set_of, total_with};
-ghost use Rattle.tt_suggest.specs.Suggestions.{suggestion_rank, suggested, suggestions_of};
-ghost use Rattle.tt_suggest.specs.Tree.{gives_child, most_tries, root_of, tries_of};
+ghost use Rattle.tt_suggest.specs.Suggestions.{suggestion_of, suggestion_rank, suggested};
+ghost use Rattle.tt_suggest.specs.Tree.{gives_child, leaves_of, most_tries, root_of, tries_of};
 ghost use Rattle.tt_suggest.specs.Ranks.{is_better, rank_numbers};
 ghost use Rattle.tt_suggest.specs.Walks.{FindsAtChild, FindsBelow, FindsBy, IsBack, IsBranchOf, leaf_of, node_of, tries_at_child, tries_below, tries_by};
 
@@ -316,8 +316,8 @@ pub fn suggest(
         class) }
     ensures none { IfOk result (λ now.
         (now.best ≡ None)
-        ↔ (suggestions_of state.old.problem (option_copied published.entry) depth
-        state.old.present class
+        ↔ (map (suggestion_of state.old.problem (option_copied published.entry))
+        (leaves_of state.old.problem depth (root_of state.old.present class))
         ≡ [])) }
     ensures few { IfOk result (λ now. now.tried ≤ most_tries) }
     ensures too_many { result ≢ Err SuggestEnd.Memory

@@ -13,7 +13,7 @@ use Rattle.tt_search.proofs.placing.next_turn.Goals as goal
 pub returns-in_default-clause-turn : goal.returns-in_default-clause-turn
 returns-in_default-clause-turn c = λ outs counts.
     let start = c.args.state.now in
-    no_class start.problem (record { class = c.args.class_word; value = c.args.value_word }) (record { snapshot = start.present; outs = outs })
+    no_class start.problem c.args.class_word c.args.value_word (record { snapshot = start.present; outs = outs })
     (sym (c.drawn.ensures start.problem start.present c.requires.candidates) ∙ c.in_default.is)
 
 pub find_lightest-requires-clause-class : goal.find_lightest-requires-clause-class
@@ -40,7 +40,7 @@ returns-clause-turn c = λ outs counts.
     let least = rw (found.problem, found.present) at c.keep_least.ensures.least in
     let values = least_by_both start.problem start.present class (prices_by start.problem start.present c.args.weights.now.outs.items class) (λ x y. refl) _ _ found.lightest.items least in
     let same = least_same start.problem start.present outs c.args.weights.now class _ counts values in
-    one_class start.problem (record { class = c.args.class_word; value = c.args.value_word }) (record { snapshot = start.present; outs = outs }) class c.drawn-value.result
+    one_class start.problem c.args.class_word c.args.value_word (record { snapshot = start.present; outs = outs }) class c.drawn-value.result
     (sym (c.drawn.ensures start.problem start.present c.requires.candidates) ∙ c.in-Some.is)
     (ap (drawn c.args.value_word) (sym same) ∙ sym c.drawn-value.ensures)
 

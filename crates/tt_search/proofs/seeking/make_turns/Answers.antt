@@ -4,9 +4,9 @@ use Rattle.rand_core.specs.Stream.{next_u32}
 use Rattle.rand_pcg.specs.Pcg.{pcg32}
 use Rattle.tt_state.specs.History.{earlier, trail, with_taken}
 use Rattle.tt_search.specs.Turns.{turn_of}
-use Rattle.tt_draw.specs.Draws.{random_words}
 use Rattle.tt_draw.proofs.WordLemmas.{random_from}
-use Rattle.tt_search.specs.Searched.{after_turns, rank_of, search_end}
+use Rattle.tt_search.specs.Searched.{after_turns, rank_of}
+use Rattle.tt_search.specs.UnderWay.{search_end}
 use Rattle.tt_state.proofs.StepLemmas.{within_next, within_same, within_still}
 use Rattle.tt_search.proofs.WayLemmas.{made_turn, makes_one, no_turn, no_turn_left, start_way}
 use Rattle.tt_search.proofs.ListLemmas.{on_err}
@@ -23,7 +23,7 @@ loop-made-init g c =
     record {
       step = within_same (with_taken start []);
       at = begins.at;
-      way = rw (whole, random) (start_way (rank_of start.problem aim) start.present (trail start) (after_turns start.problem aim c.args.turns (random_words c.args.seed) start.present) c.args.way.now.best c.requires.trail begins.ranked begins.first);
+      way = rw (whole, random) (start_way (rank_of start.problem aim) start.present (trail start) (after_turns start.problem aim c.args.turns c.args.seed start.present) c.args.way.now.best c.requires.trail begins.ranked begins.first);
     }
 
 pub next_turn-requires-clause-candidates : goal.next_turn-requires-clause-candidates

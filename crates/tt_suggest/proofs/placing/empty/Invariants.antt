@@ -1,6 +1,6 @@
 use Rattle.std.proofs.Common.{◌≡◌, take}
 use Rattle.tt_published.specs.Published.{moved_in}
-use Rattle.tt_suggest.specs.Tree.{emptied}
+use Rattle.tt_suggest.specs.Walks.{emptied}
 use Rattle.tt_suggest.specs.Walks.{HasGoneOn}
 use Rattle.tt_suggest.proofs.placing.empty.Given as goal
 
