@@ -20,7 +20,7 @@ use Rattle.tt_desk.proofs.ReplyLemmas.{cause_replies}
 use Rattle.tt_top.specs.Pieces.{ends_script, has_quit_line}
 use Rattle.tt_top.specs.Opening.{opening_line}
 use Rattle.tt_top.specs.PlainRun.{Phase}
-use Rattle.tt_top.specs.Wanting.{session_after, WantsAfter, SessionLines, IsWanting}
+use Rattle.tt_top.specs.Wanting.{session_after, WantsAfter, IsWanting}
 use Rattle.tt_top.specs.Ends.{Answers, WritesFirst, WritesLess, WritesBefore}
 use Rattle.tt_top.proofs.ServeLemmas.{HasSent, replies-next, replies-last, reply_is_next}
 
@@ -204,7 +204,7 @@ before_less before now d lines wrote =
     )
 
 -- nothing was written
-pub wanting_none : (before now : Option (List ℕ)) (q : Phase SessionLines) → now ≡ before → IsWanting q before now
+pub wanting_none : (before now : Option (List ℕ)) (q : Phase (Session × List (List ℕ))) → now ≡ before → IsWanting q before now
 wanting_none before now (Ok (s, lines)) same = inl (nothing_written before now same)
 wanting_none before now (Err None) same = tt
 wanting_none before now (Err (Some r)) same = nothing_written before now same

@@ -7,8 +7,8 @@ use Rattle.tt_desk.specs.Desk.{Session}
 use Rattle.tt_top.specs.declared.end.End.{End}
 use Rattle.tt_top.specs.declared.end.End.TheVariants.{Files, Sink, Memory, TooLong}
 use Rattle.tt_top.specs.declared.end.InputFault.{InputFault}
-use Rattle.tt_top.specs.Opening.{FaultyFile, opening_session, published_in, started}
-use Rattle.tt_top.specs.PlainRun.{published_phase, start_phase}
+use Rattle.tt_top.specs.Opening.{FaultyFile, opening_session}
+use Rattle.tt_top.specs.Phases.{published_in, started, published_phase, start_phase}
 use Rattle.tt_top.specs.Ends.{Agrees, HasEndCause, seen}
 use Rattle.tt_top.specs.Started.{fetched_by}
 use Rattle.tt_top.proofs.EndLemmas.{done_cause, other_end}

@@ -15,7 +15,8 @@ use Rattle.tt_top.specs.declared.end.Input.TheVariants.{Published}
 use Rattle.tt_top.specs.declared.end.InputFault.{InputFault}
 use Rattle.tt_top.specs.declared.verify_run.Check.{Check}
 use Rattle.tt_top.specs.Words.{FileWords, verify_words}
-use Rattle.tt_top.specs.PlainRun.{PlainRun, Phase, text_of, ends, last_phase, problem_phase, timetable_phase, checking, solution_phase, check_phase, verify_run}
+use Rattle.tt_top.specs.PlainRun.{PlainRun, Phase, text_of, ends, last_phase, problem_phase, timetable_phase, checking, verify_run}
+use Rattle.tt_top.specs.Phases.{solution_phase, check_phase}
 use Rattle.tt_top.specs.Run.{Outside, IsFront, Follows, HasCauses, ReadsWithin, AsksInOrder, IsVerifyRun}
 use Rattle.tt_top.specs.Ends.{faulty_file, end_status, done_status, status_of, HasEndCause, Agrees, Fetches}
 use Rattle.tt_top.specs.Checks.{check_text, check_status, check_run, check_seen}

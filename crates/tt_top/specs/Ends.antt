@@ -22,7 +22,8 @@ use Rattle.tt_top.specs.Opening.{FaultyFile, fault_line, opening_line, opened}
 use Rattle.tt_top.specs.Pieces.{whole_lines, has_quit, is_long_script, answered_part, taken_of}
 use Rattle.tt_top.specs.Wanting.{WantsAfter}
 use Rattle.tt_top.specs.PlainRun.{PlainRun, text_of, Phase, ends, read_phase}
-use Rattle.tt_top.specs.Run.{Outside, moment, IsFront, HasAtMost, ReadsWithin}
+use Rattle.tt_top.specs.Run.{Outside, moment, IsFront, ReadsWithin}
+use Rattle.tt_top.specs.Phases.{HasAtMost}
 
 -- ---- files with a fault
 

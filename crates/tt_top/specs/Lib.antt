@@ -4,6 +4,7 @@ pub mod Pieces
 pub mod PlainRun
 pub mod Wanting
 pub mod Run
+pub mod Phases
 pub mod Ends
 pub mod Started
 pub mod Forms

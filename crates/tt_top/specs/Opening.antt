@@ -32,28 +32,21 @@ abbrev pub timetable_read : Result Timetable Fault → Result Timetable FaultyFi
 timetable_read (Ok t) = Ok t
 timetable_read (Err f) = Err (record { line = fault_line (codes "published") f; status = 4 })
 
--- nothing is published where there is no such file
-abbrev pub published_in : Parts → Option (List ℕ) → Result (Option Timetable) FaultyFile
-published_in p None = Ok None
-published_in p (Some bytes) = do
-  t ← timetable_read (published_of p bytes)
-  Ok (Some t)
+-- what is read of what is there, if anything is
+abbrev pub read_if_any : {A B E : Type 0} → (A → Result B E) → Option A → Result (Option B) E
+read_if_any read None = Ok None
+read_if_any read (Some x) = read x >>= λ found. Ok (Some found)
 
 -- the session with which the script begins
 abbrev pub opening_session : Parts → Option Timetable → Session
 opening_session p t = record { desk = opening_desk p; published = t }
 
--- the same by what the published file gives
-abbrev pub started : Parts → Result (Option Timetable) FaultyFile → Result Session FaultyFile
-started p read = do
-  t ← read
-  Ok (opening_session p t)
-
--- the same by what the files hold, or the first file that has a fault
+-- the same by what the files hold, or the first file that has a fault; nothing is published where there is no such file
 unfoldable pub opened : (problem : List ℕ) → (published : Option (List ℕ)) → Result Session FaultyFile
 opened problem published = do
   p ← problem_read (problem_of problem)
-  started p (published_in p published)
+  t ← read_if_any (λ bytes. timetable_read (published_of p bytes)) published
+  Ok (opening_session p t)
 
 -- ---- what is written
 

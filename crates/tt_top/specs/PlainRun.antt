@@ -14,7 +14,7 @@ use Rattle.tt_desk.specs.Replies.{refuses}
 use Rattle.tt_verify.specs.Verified.{verified_text}
 use Rattle.tt_verify.specs.Violations.{violations_of}
 use Rattle.tt_top.specs.Words.{FileWords, first_words, file_words, usage_line}
-use Rattle.tt_top.specs.Opening.{FaultyFile, problem_read, timetable_read, opening_session, opened, session_pieces}
+use Rattle.tt_top.specs.Opening.{FaultyFile, read_if_any, problem_read, timetable_read, opening_session, opened, session_pieces}
 use Rattle.tt_top.specs.Pieces.{is_long_script, answered_part}
 
 -- what a plain run does: what it writes, piece by piece, the status with which it ends, and the names that it asks for
@@ -64,24 +64,12 @@ timetable_phase limit holds names p name = do
   bytes ← bytes_phase limit names (holds name)
   read_phase names (timetable_read (published_of p bytes))
 
--- the published timetable, if a file is named
-abbrev pub published_phase : (limit : ℕ) → (holds : List ℕ → Option (List ℕ)) → (names : List (List ℕ)) → Parts → Option (List ℕ) → Phase (Option Timetable)
-published_phase limit holds names p None = Ok None
-published_phase limit holds names p (Some name) = do
-  t ← timetable_phase limit holds names p name
-  Ok (Some t)
-
--- the session of a problem, with what is published for it
-abbrev pub start_phase : (limit : ℕ) → (holds : List ℕ → Option (List ℕ)) → (names : List (List ℕ)) → Parts → Option (List ℕ) → Phase Session
-start_phase limit holds names p published = do
-  t ← published_phase limit holds names p published
-  Ok (opening_session p t)
-
--- the session that the files before the script open
+-- the session that the files before the script open; nothing is published where no such file is named
 abbrev pub session_phase : (limit : ℕ) → (holds : List ℕ → Option (List ℕ)) → FileWords → Phase Session
 session_phase limit holds words = do
   p ← problem_phase limit holds words.problem
-  start_phase limit holds (first_words words) p words.published
+  t ← read_if_any (timetable_phase limit holds (first_words words) p) words.published
+  Ok (opening_session p t)
 
 -- the script, which is empty where none is named
 abbrev pub script_phase : (holds : List ℕ → Option (List ℕ)) → Option (List ℕ) → Phase (List ℕ)
@@ -119,21 +107,12 @@ lines_run limit holds words lines = last_phase (do
 abbrev pub checking : (names : List (List ℕ)) → Parts → Timetable → PlainRun
 checking names p t = record { pieces = verified_text p t ∷ []; status = if length (violations_of p t) == 0 then 0 else 1; names = names }
 
--- what is found of the solution of a problem
-abbrev pub solution_phase : (limit : ℕ) → (holds : List ℕ → Option (List ℕ)) → (names : List (List ℕ)) → Parts → (solution : List ℕ) → Phase PlainRun
-solution_phase limit holds names p solution = do
-  t ← timetable_phase limit holds names p solution
-  Ok (checking names p t)
-
--- the run that checks a solution file, by its phases
-abbrev pub check_phase : (limit : ℕ) → (holds : List ℕ → Option (List ℕ)) → (problem solution : List ℕ) → Phase PlainRun
-check_phase limit holds problem solution = do
-  p ← problem_phase limit holds problem
-  solution_phase limit holds (problem ∷ solution ∷ []) p solution
-
--- the same as a whole
+-- the run that checks a solution file
 abbrev pub verify_run : (limit : ℕ) → (holds : List ℕ → Option (List ℕ)) → (problem solution : List ℕ) → Option PlainRun
-verify_run limit holds problem solution = last_phase (check_phase limit holds problem solution)
+verify_run limit holds problem solution = last_phase (do
+  p ← problem_phase limit holds problem
+  t ← timetable_phase limit holds (problem ∷ solution ∷ []) p solution
+  Ok (checking (problem ∷ solution ∷ []) p t))
 
 -- the script of `demo`
 abbrev pub demo_script : (seed turns : ℕ) → List ℕ

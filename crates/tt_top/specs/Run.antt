@@ -85,11 +85,7 @@ pub record HasCauses (o : Outside) (status : ℕ) : Type 0 where
 
 -- ---- what is read of long files
 
--- The file of this name has at most so many bytes, where it is told what it holds.
-abbrev pub HasAtMost : (most : ℕ) → (holds : List ℕ → Option (List ℕ)) → (name : List ℕ) → Type 0
-HasAtMost most holds name = IfSome (holds name) (λ all. length all ≤ most)
-
--- At most so many bytes of it are read, where it is also told what is left of it.
+-- At most so many bytes of the file of this name are read, where it is told what it holds and what is left of it.
 abbrev pub IsReadAtMost : (most : ℕ) → (holds : List ℕ → Option (List ℕ)) → (left : Option (List ℕ)) → (name : List ℕ) → Type 0
 IsReadAtMost most holds left name = IfSome (holds name) (λ all. IfSome left (λ rest. length all ≤ length rest + most))
 
@@ -98,7 +94,7 @@ IsReadAtMost most holds left name = IfSome (holds name) (λ all. IfSome left (λ
 abbrev pub ReadsWithin : (limit : ℕ) → (holds : List ℕ → Option (List ℕ)) → (left : Option (List ℕ)) → (names : List (List ℕ)) → Type 0
 ReadsWithin limit holds left [] = ⊤
 ReadsWithin limit holds left (name ∷ []) = IsReadAtMost (limit + most_read) holds left name
-ReadsWithin limit holds left (name ∷ next ∷ names) = HasAtMost limit holds name × ReadsWithin limit holds left (next ∷ names)
+ReadsWithin limit holds left (name ∷ next ∷ names) = IfSome (holds name) (λ all. length all ≤ limit) × ReadsWithin limit holds left (next ∷ names)
 
 -- ---- what runs with files do
 

@@ -24,25 +24,21 @@ pub record WantsAfter (s : Session) (lines answered : List (List ℕ)) : Type 0 
   pub goes_on : has_quit_line answered ≡ false
   pub cause : IsMemoryCause (session_after s answered) next
 
--- a session, and the lines that it answers
-abbrev pub SessionLines : Type 0
-SessionLines = Session × List (List ℕ)
-
 -- the session that the files open, and the lines of the script that are answered
-abbrev pub served_phase : (limit : ℕ) → (holds : List ℕ → Option (List ℕ)) → FileWords → Phase SessionLines
+abbrev pub served_phase : (limit : ℕ) → (holds : List ℕ → Option (List ℕ)) → FileWords → Phase (Session × List (List ℕ))
 served_phase limit holds words = do
   s ← session_phase limit holds words
   script ← script_phase holds words.script
   Ok (s, lines_of (answered_part limit script))
 
 -- the session that a problem opens, and the lines of a script that asks for no file
-abbrev pub made_phase : (script : List ℕ) → Result Session FaultyFile → Phase SessionLines
+abbrev pub made_phase : (script : List ℕ) → Result Session FaultyFile → Phase (Session × List (List ℕ))
 made_phase script (Ok s) = Ok (s, lines_of script)
 made_phase script (Err faulty) = Err (Some (made_run script (Err faulty)))
 
 -- What was written where memory is wanting: nothing, or the first line and the replies to the lines before one whose command wants
 -- memory. Where a file ends the run it is nothing.
-abbrev pub IsWanting : Phase SessionLines → (before now : Option (List ℕ)) → Type 0
+abbrev pub IsWanting : Phase (Session × List (List ℕ)) → (before now : Option (List ℕ)) → Type 0
 IsWanting (Ok (s, lines)) before now = Writes before now [] ⊎ ((answered : List (List ℕ)) × WantsAfter s lines answered × Writes before now (concat (session_pieces s answered)))
 IsWanting (Err (Some r)) before now = Writes before now []
 IsWanting (Err None) before now = ⊤

@@ -14,6 +14,7 @@ use crate::outside::Outside;
 use crate::plain_run::{demo, make};
 use crate::serve::hand_on;
 use crate::verify_run::verify_files;
+use crate::workspace::Setting;
 use std::alloc::Global;
 use tt_io::{Files, Sink};
 use tt_watch::{Silent, Watcher};
@@ -37,13 +38,12 @@ fn usage<S: Sink>(out: &mut S) -> Result<Done, End>
 
 // Does what a form asks for, or writes the usage line where the words are in none.
 fn run_form<F: Files, S: Sink, W: Watcher>(
-    limit: u64,
-    alloc: Global,
+    setting: Setting,
     form: Option<Form<'_>>,
     outside: &mut Outside<'_, F, S, W>,
 ) -> Result<Done, End>
     requires { IfSome form HasClasses }
-    ensures runs { IsRun (option_map form_seen form.entry) limit
+    ensures runs { IsRun (option_map form_seen form.entry) setting.limit
         (outside_of F.holds F.asked F.is_open F.left F.faults S.written S.faults
         outside.old.files.now outside.new.files.now outside.old.out.now outside.new.out.now)
         (status_of result) }
@@ -51,9 +51,9 @@ fn run_form<F: Files, S: Sink, W: Watcher>(
     ensures same_out { outside.new.out.ghost_name ≡ outside.old.out.ghost_name }
 {
     match form {
-        Some(Form::Files(words)) => run_files(limit, alloc, words, outside),
+        Some(Form::Files(words)) => run_files(setting, words, outside),
         Some(Form::Verify { problem, solution }) => {
-            verify_files(limit, alloc, problem, solution, outside)
+            verify_files(setting, problem, solution, outside)
         }
         Some(
             Form::Demo {
@@ -61,8 +61,15 @@ fn run_form<F: Files, S: Sink, W: Watcher>(
                 classes,
                 turns,
             },
-        ) => demo(alloc, seed, classes, turns, outside.out, outside.watcher),
-        Some(Form::Make { seed, classes }) => make(alloc, seed, classes, outside.out),
+        ) => demo(
+            setting.alloc,
+            seed,
+            classes,
+            turns,
+            outside.out,
+            outside.watcher,
+        ),
+        Some(Form::Make { seed, classes }) => make(setting.alloc, seed, classes, outside.out),
         None => usage(outside.out),
     }
 }
@@ -87,7 +94,8 @@ pub fn run_within<F: Files, S: Sink, W: Watcher>(
 {
     let form = read_form(words);
     let mut outside = Outside::new(files, out, watcher);
-    let ended = run_form(limit, alloc, form, &mut outside);
+    let setting = Setting { limit, alloc };
+    let ended = run_form(setting, form, &mut outside);
     status(ended)
 }
 

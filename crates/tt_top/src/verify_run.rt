@@ -4,8 +4,9 @@ ghost use Rattle.std.specs.Prelude.{◌≡◌, ◌≢◌, ◌+◌, ◌∷◌, []
 ghost use Rattle.tt_io.specs.Causes.{Asks, Writes, most_read};
 ghost use Rattle.tt_io.specs.Whole.{WritesFront};
 ghost use Rattle.tt_published.specs.Timetable.{IsTimetableOf};
-ghost use Rattle.tt_top.specs.PlainRun.{check_phase, checking, solution_phase};
-ghost use Rattle.tt_top.specs.Run.{HasAtMost, IsReadAtMost, IsVerifyRun, left_open};
+ghost use Rattle.tt_top.specs.PlainRun.{checking};
+ghost use Rattle.tt_top.specs.Run.{IsReadAtMost, IsVerifyRun, left_open};
+ghost use Rattle.tt_top.specs.Phases.{check_phase, solution_phase, HasAtMost};
 ghost use Rattle.tt_top.specs.Ends.{Agrees, Fetches, HasEndCause, done_status, outside_of, status_of};
 ghost use Rattle.tt_top.specs.Checks.{check_run, check_seen, check_status, check_text};
 ghost use Rattle.tt_top.specs.Words.{verify_words};
@@ -15,6 +16,7 @@ use crate::fetch::{fetch_problem, fetch_timetable};
 use crate::outside::Outside;
 use crate::reply::put_fault;
 use crate::serve::hand_on;
+use crate::workspace::Setting;
 use std::alloc::{AllocError, Global};
 use tt_io::{Files, Sink};
 use tt_problem::Problem;
@@ -43,46 +45,45 @@ fn found(alloc: Global, problem: &Problem, solution: &Published) -> Result<Check
 
 // Reads the solution file, and checks it against the problem.
 fn check_solution<F: Files>(
-    limit: u64,
-    alloc: Global,
+    setting: Setting,
     problem: &Problem,
     solution: &str,
     files: &mut F,
 ) -> Result<Fetched<Check>, End>
     ensures agrees { (names : List (List ℕ))
-        → Agrees names (solution_phase limit (F.holds files.old) names problem.now solution.now)
+        → Agrees names
+        (solution_phase setting.limit (F.holds files.old) names problem.now solution.now)
         (check_seen names result) }
     ensures input { IfOk result (λ l. IfErr l (λ f. f.input ≡ Input.Published)) }
-    ensures reads { IsReadAtMost (limit + most_read) (F.holds files.old)
+    ensures reads { IsReadAtMost (setting.limit + most_read) (F.holds files.old)
         (left_open (F.is_open files.new) (F.left files.new)) solution.now }
-    ensures fits { IsOk result → HasAtMost limit (F.holds files.old) solution.now }
+    ensures fits { IsOk result → HasAtMost setting.limit (F.holds files.old) solution.now }
     ensures no_sink { result ≢ Err End.Sink }
     ensures asks { Asks (F.asked files.old) (F.asked files.new) solution.now }
     ensures cause { HasEndCause End.Files (F.faults files.old) (F.faults files.new) result }
 {
-    match fetch_timetable(limit, alloc, problem, solution, files)? {
-        Ok(timetable) => Ok(Ok(found(alloc, problem, &timetable)?)),
+    match fetch_timetable(setting, problem, solution, files)? {
+        Ok(timetable) => Ok(Ok(found(setting.alloc, problem, &timetable)?)),
         Err(fault) => Ok(Err(fault)),
     }
 }
 
 // Reads both files, and checks the solution against the problem.
 fn check_files<F: Files>(
-    limit: u64,
-    alloc: Global,
+    setting: Setting,
     problem: &str,
     solution: &str,
     files: &mut F,
 ) -> Result<Fetched<Check>, End>
-    ensures checks { Fetches (verify_words problem.now solution.now) limit (F.holds files.old)
-        (left_open (F.is_open files.new) (F.left files.new))
-        (check_phase limit (F.holds files.old) problem.now solution.now) (F.asked files.old)
+    ensures checks { Fetches (verify_words problem.now solution.now) setting.limit
+        (F.holds files.old) (left_open (F.is_open files.new) (F.left files.new))
+        (check_phase setting.limit (F.holds files.old) problem.now solution.now) (F.asked files.old)
         (F.asked files.new) (check_seen (problem.now ∷ solution.now ∷ []) result) }
     ensures no_sink { result ≢ Err End.Sink }
     ensures cause { HasEndCause End.Files (F.faults files.old) (F.faults files.new) result }
 {
-    match fetch_problem(limit, alloc, problem, files)? {
-        Ok(problem) => check_solution(limit, alloc, &problem, solution, files),
+    match fetch_problem(setting, problem, files)? {
+        Ok(problem) => check_solution(setting, &problem, solution, files),
         Err(fault) => Ok(Err(fault)),
     }
 }
@@ -121,20 +122,19 @@ fn done_of(check: &Fetched<Check>) -> Done
 
 /// Checks a solution file against a problem, and writes what is found.
 pub fn verify_files<F: Files, S: Sink, W: Watcher>(
-    limit: u64,
-    alloc: Global,
+    setting: Setting,
     problem: &str,
     solution: &str,
     outside: &mut Outside<'_, F, S, W>,
 ) -> Result<Done, End>
-    ensures runs { IsVerifyRun problem.now solution.now limit
+    ensures runs { IsVerifyRun problem.now solution.now setting.limit
         (outside_of F.holds F.asked F.is_open F.left F.faults S.written S.faults
         outside.old.files.now outside.new.files.now outside.old.out.now outside.new.out.now)
         (status_of result) }
     ensures same_files { outside.new.files.ghost_name ≡ outside.old.files.ghost_name }
     ensures same_out { outside.new.out.ghost_name ≡ outside.old.out.ghost_name }
 {
-    let check = check_files(limit, alloc, problem, solution, outside.files)?;
-    write_check(alloc, &check, outside.out)?;
+    let check = check_files(setting, problem, solution, outside.files)?;
+    write_check(setting.alloc, &check, outside.out)?;
     Ok(done_of(&check))
 }

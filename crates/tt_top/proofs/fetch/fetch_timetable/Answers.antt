@@ -11,23 +11,23 @@ use Rattle.tt_top.proofs.fetch.fetch_timetable.Goals as goal
 pub returns-clause-agrees : goal.returns-clause-agrees
 returns-clause-agrees g c = λ names.
     let e = c.timetable_in.ensures in
-    read_agrees c.args.limit names (g.F.Files.holds c.args.files.now c.args.name.now) (λ b. timetable_read (published_of c.args.problem.now b)) _ c.in_ok-bytes.ensures.bytes c.timetable_in.result (rw c.deref.ensures.value at e.reads) e.only
+    read_agrees c.args.setting.limit names (g.F.Files.holds c.args.files.now c.args.name.now) (λ b. timetable_read (published_of c.args.problem.now b)) _ c.in_ok-bytes.ensures.bytes c.timetable_in.result (rw c.deref.ensures.value at e.reads) e.only
 
 pub returns-in_err-bytes-clause-agrees : goal.returns-in_err-bytes-clause-agrees
 returns-in_err-bytes-clause-agrees g c = λ names.
     rw (handed_on _ _ c.from_residual.ensures.1)
-    (unread_agrees c.args.limit names (g.F.Files.holds c.args.files.now c.args.name.now) (λ b. timetable_read (published_of c.args.problem.now b)) c.in_err-bytes.field-0.0 (λ is. c.in_err-bytes.ensures.long (ap Err is)))
+    (unread_agrees c.args.setting.limit names (g.F.Files.holds c.args.files.now c.args.name.now) (λ b. timetable_read (published_of c.args.problem.now b)) c.in_err-bytes.field-0.0 (λ is. c.in_err-bytes.ensures.long (ap Err is)))
 
 pub returns-clause-read : goal.returns-clause-read
 returns-clause-read g c = some_bytes (λ bytes l. timetable_read (published_of c.args.problem.now bytes) ≡ seen l) _ c.timetable_in.result c.timetable_in.ensures.reads
 
 pub returns-clause-fits : goal.returns-clause-fits
-returns-clause-fits g c = λ _. held_told c.args.limit (g.F.Files.holds c.args.files.now) c.args.name.now _ c.in_ok-bytes.ensures.bytes
+returns-clause-fits g c = λ _. held_told c.args.setting.limit (g.F.Files.holds c.args.files.now) c.args.name.now _ c.in_ok-bytes.ensures.bytes
 
 pub returns-clause-reads : goal.returns-clause-reads
 returns-clause-reads g c =
     let holds = g.F.Files.holds c.args.files.now in
-    within_read c.args.limit holds _ c.args.name.now (held_told c.args.limit holds c.args.name.now _ c.in_ok-bytes.ensures.bytes)
+    within_read c.args.setting.limit holds _ c.args.name.now (held_told c.args.setting.limit holds c.args.name.now _ c.in_ok-bytes.ensures.bytes)
 
 pub returns-in_err-bytes-clause-reads : goal.returns-in_err-bytes-clause-reads
-returns-in_err-bytes-clause-reads g c = read_told (c.args.limit + most_read) (g.F.Files.holds c.args.files.now) c.args.name.now _ _ c.in_err-bytes.ensures.reads
+returns-in_err-bytes-clause-reads g c = read_told (c.args.setting.limit + most_read) (g.F.Files.holds c.args.files.now) c.args.name.now _ _ c.in_err-bytes.ensures.reads
