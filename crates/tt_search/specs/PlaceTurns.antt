@@ -10,7 +10,7 @@ use Rattle.tt_state.specs.Values.{conflict_set_of, total_with}
 use Rattle.tt_state.specs.Forced.{forced}
 use Rattle.tt_base.specs.Lists.{is_less}
 use Rattle.tt_draw.specs.Draws.{drawn, random_words}
-use Rattle.tt_search.specs.Searched.{end_of, onward}
+use Rattle.tt_search.specs.Searched.{onward, way_end}
 use Rattle.tt_search.specs.Turns.{available_values, candidates}
 
 -- a moment on the way: a snapshot, and the classes that the turns so far took out, as often as they did
@@ -59,4 +59,4 @@ place_way p turns seed s = s ∷ map (λ m. m.snapshot) (after_places p turns se
 -- where so many turns end, at the first of the way that is least by unplaced classes, hard conflicts and total, as a search; and how
 -- many are made
 abbrev pub all_placed : Parts → (turns seed : ℕ) → Snapshot → Snapshot × ℕ
-all_placed p turns seed s = end_of p None s (map (λ m. m.snapshot) (after_places p turns seed s))
+all_placed p turns seed s = way_end p None s (map (λ m. m.snapshot) (after_places p turns seed s))
