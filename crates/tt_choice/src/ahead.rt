@@ -1,6 +1,6 @@
 //! What is sure of the subparts still to come: classes that may come, and pairs that do.
 
-ghost use Rattle.std.specs.Prelude.{[], ◌≡◌, ◌+◌, ◌<◌, ◌≤◌, length};
+ghost use Rattle.std.specs.Prelude.{◌≡◌, ◌+◌, ◌<◌, ◌≤◌, length};
 ghost use Rattle.std.specs.List.{list_any};
 ghost use Rattle.tt_problem.specs.Spans.{is_in};
 ghost use Rattle.tt_base.specs.Limits.{most_classes};

@@ -15,7 +15,7 @@ use Rattle.tt_clash.specs.Amounts.{rule_amounts}
 use Rattle.tt_clash.specs.Blocked.{blocked_by}
 use Rattle.tt_clash.specs.ConflictSet.{conflict_set}
 use Rattle.tt_score.specs.Forcing.{among}
-use Rattle.tt_score.specs.Placed.{unplaced_count}
+use Rattle.tt_score.specs.Additions.{unplaced_count}
 use Rattle.tt_state.specs.Snapshots.{Snapshot, StaysLocked, is_locked_in, may_lock, value_in, with_value}
 use Rattle.tt_state.specs.Values.{blocked_of, conflict_set_of}
 use Rattle.tt_improve.specs.Classes.{is_free}

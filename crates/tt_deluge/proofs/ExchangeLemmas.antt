@@ -26,7 +26,8 @@ use Rattle.tt_occupancy.proofs.ClashLemmas.{clash_pairs-full}
 use Rattle.tt_clash.specs.Amounts.{kind_amount, rule_amounts}
 use Rattle.tt_clash.specs.Blocked.{blocked_by}
 use Rattle.tt_clash.specs.ConflictSet.{conflict_set}
-use Rattle.tt_score.specs.Amounts.{hard_of, hard_sum, held_by, kind_hard, rule_amount, rule_hard}
+use Rattle.tt_score.specs.Amounts.{hard_of, hard_sum, held_by, kind_hard, rule_amount}
+use Rattle.tt_score.specs.Additions.{rule_hard}
 use Rattle.tt_score.specs.Forcing.{among}
 use Rattle.tt_score.specs.Placed.{closed_count}
 use Rattle.tt_score.specs.Totals.{totals_of}

@@ -2,8 +2,7 @@
 use Rattle.std.specs.Prelude.{◌≡◌, ℕ, ◌≤◌, Bool, false, cond, List, Option, Some, None, length, take}
 use Rattle.tt_problem.specs.declared.parts.Parts.{Parts}
 use Rattle.tt_state.specs.History.{Contents, trail}
-use Rattle.tt_state.specs.Snapshots.{Snapshot, StaysLocked}
-use Rattle.tt_improve.specs.UnderWay.{totals_in}
+use Rattle.tt_state.specs.Snapshots.{Snapshot, StaysLocked, totals_in}
 use Rattle.tt_deluge.specs.Pieces.{made_within, targets_at}
 
 -- the second snapshot is no harder than the first, has no class more unplaced, and the same statistics, closures, locks and targets;

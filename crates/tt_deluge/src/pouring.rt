@@ -3,9 +3,8 @@
 ghost use Rattle.std.specs.Prelude.{◌≡◌, ◌↔◌, ℕ, ◌<◌, ◌≤◌, ◌^◌, [], ◌∷◌, IfOk, OnErr, OnOk, false, if◌then◌else◌, length, map, nat_lt};
 ghost use Rattle.tt_state.specs.Desk.{stepped};
 ghost use Rattle.tt_state.specs.History.{IsWithinStep, desk_of, earlier, trail, with_taken};
-ghost use Rattle.tt_state.specs.Snapshots.{StaysLocked};
+ghost use Rattle.tt_state.specs.Snapshots.{StaysLocked, totals_in};
 ghost use Rattle.tt_improve.specs.Classes.{total_of};
-ghost use Rattle.tt_improve.specs.UnderWay.{totals_in};
 ghost use Rattle.tt_improve.specs.Targets.{movable_classes};
 ghost use Rattle.tt_deluge.specs.ClassRounds.{class_round};
 ghost use Rattle.tt_deluge.specs.StudentRounds.{choices_in};
@@ -162,7 +161,8 @@ fn round_on_student(
     ensures random { OnOk result (random_of random.new
         ≡ (student_round state.old.problem state.old.present (random_of random.old)).1) }
     ensures round { IfOk result (IsRound level
-        (student_round state.old.problem state.old.present (random_of random.old)).0 (with_taken state.old []) (with_taken state.new [])) }
+        (student_round state.old.problem state.old.present (random_of random.old)).0
+        (with_taken state.old []) (with_taken state.new [])) }
 {
     let choice = choices[draw_below(random, choices.len() as u64) as usize];
     student_round(state, choice, random, level, buffers)
@@ -187,7 +187,8 @@ fn make_round(
     ensures random { OnOk result (random_of random.new
         ≡ (found_by state.old.problem state.old.present (random_of random.old)).1) }
     ensures round { IfOk result (IsRound level
-        (found_by state.old.problem state.old.present (random_of random.old)).0 (with_taken state.old []) (with_taken state.new [])) }
+        (found_by state.old.problem state.old.present (random_of random.old)).0
+        (with_taken state.old []) (with_taken state.new [])) }
 {
     let kind = draw_below(random, 32) as u32;
     if is_on_class(&work.targets, kind) {

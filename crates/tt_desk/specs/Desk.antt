@@ -1,5 +1,5 @@
 -- Theorem. What each command does on a plain desk, which keeps whole snapshots.
-use Rattle.std.specs.Prelude.{ℕ, Bool, true, false, not, ◌==◌, nat_le, List, [], ◌∷◌, ◌++◌, length, Option, None, Some, Result, Ok, Err, codes, decimal, ok_or, option_and_then, option_map, if◌then◌else◌}
+use Rattle.std.specs.Prelude.{ℕ, Bool, true, false, not, ◌==◌, nat_le, List, [], ◌∷◌, ◌++◌, length, Option, Some, Result, Ok, Err, codes, decimal, ok_or, option_and_then, option_map, if◌then◌else◌}
 use Rattle.std.specs.List.{flat_map, list_any}
 use Rattle.std.specs.Option.{option_map_or}
 use Rattle.std.specs.Result.{result_map_both}
@@ -16,8 +16,7 @@ use Rattle.tt_plan.specs.declared.named.NoValue.TheVariants as no_value
 use Rattle.tt_plan.specs.Named.{find_value}
 use Rattle.tt_struct.specs.Enrolments.{is_enrolment}
 use Rattle.tt_score.specs.declared.totals.Totals as totals
-use Rattle.tt_score.specs.Totals.{totals_of}
-use Rattle.tt_state.specs.Snapshots.{Snapshot, opening_snapshot, value_in, with_value, list_in, with_list, classes_in_order, is_open_in, with_closed, with_reopened, is_locked_in, with_lock, with_unplaced, lockable, all_locked, locked_classes, none_locked}
+use Rattle.tt_state.specs.Snapshots.{Snapshot, opening_snapshot, value_in, with_value, list_in, with_list, classes_in_order, is_open_in, with_closed, with_reopened, is_locked_in, with_lock, with_unplaced, lockable, all_locked, locked_classes, none_locked, totals_in}
 use Rattle.tt_state.specs.Seats.{first_without_seat}
 use Rattle.tt_state.specs.Values.{conflict_set_of, obstacle_of}
 use Rattle.tt_state.specs.Faults.{lock_fault_of}
@@ -68,9 +67,9 @@ pub record Session : Type 0 where
   pub desk : Desk
   pub published : Option Timetable
 
--- nothing is placed, no student has a class, and there is no earlier snapshot
-abbrev pub opening_desk : Parts → Desk
-opening_desk p = record { problem = p; present = opening_snapshot p; earlier = [] }
+-- nothing is placed, no student has a class, there is no earlier snapshot, and this is published
+abbrev pub opening_session : Parts → Option Timetable → Session
+opening_session p published = record { desk = record { problem = p; present = opening_snapshot p; earlier = [] }; published = published }
 
 -- ---- the checks of a command, each of which gives what the next ones need, or its refusal
 
@@ -90,18 +89,10 @@ known_classes p (id ∷ ids) = do
   places ← known_classes p ids
   Ok (place ∷ places)
 
--- the place of the room with this id
-abbrev pub known_room : Parts → ℕ → Result ℕ Refusal
-known_room p id = ok_or (room_of p id) NoSuchRoom
-
 -- the time that two words and two numbers of slots write, within the days and weeks of the problem
 abbrev pub written_time : Parts → BitWord → (start length : ℕ) → BitWord → Option Time
 written_time p days start length weeks =
     option_and_then (λ d. option_and_then (λ w. time_of d w start length) (weeks_word weeks p.nr_weeks)) (days_word days p.nr_days)
-
--- the same, or its refusal
-abbrev pub known_time : Parts → BitWord → (start length : ℕ) → BitWord → Result Time Refusal
-known_time p days start length weeks = ok_or (written_time p days start length weeks) BadTime
 
 -- it is so, or this is the refusal
 abbrev pub true_or : Refusal → Bool → Result (Unit {0}) Refusal
@@ -134,10 +125,6 @@ stepped_back p (s ∷ ss) = Ok (record { problem = p; present = s; earlier = ss 
 -- how far a snapshot with these totals is from being ready
 abbrev pub not_ready : totals.Totals → Refusal
 not_ready t = NotReady t.unplaced t.unsectioned t.hard
-
--- the present snapshot, in which all classes are placed, all students are sectioned, and nothing is in conflict
-abbrev pub ready : Desk → Result Snapshot Refusal
-ready d = if is_ready d.problem d.present then Ok d.present else Err (not_ready (totals_of d.problem d.present.closures d.present.plan d.present.lists))
 
 -- ---- what accepted commands leave
 
@@ -182,7 +169,7 @@ with_all_enrolled s all = with_step s all.snapshot (field (codes "enrolled ") al
 abbrev pub with_rounds : Session → Improvement → Answer
 with_rounds s i = with_step s i.snapshot (field (codes "rounds ") i.rounds ++ field (codes " changed ") i.changed ++ codes "\n")
 
--- the text that would be published, ready or not, and the end of its line
+-- the text that `publish` writes, ready or not, and the end of its line
 abbrev pub draft_line : Desk → List ℕ
 draft_line d = published_text d.problem d.present.plan d.present.lists ++ codes "\n"
 
@@ -253,12 +240,12 @@ carried_out s Recall = do
   t ← ok_or s.published NothingPublished
   Ok (with_step s (recalled s.desk.problem t s.desk.present) [])
 carried_out s (Close room days start slots weeks) = do
-  r ← known_room s.desk.problem room
-  t ← known_time s.desk.problem days start slots weeks
+  r ← ok_or (room_of s.desk.problem room) NoSuchRoom
+  t ← ok_or (written_time s.desk.problem days start slots weeks) BadTime
   few ← true_or TooManyClosures (not (length s.desk.present.closures == most_closures))
   Ok (with_step s (with_closed s.desk.present r t) [])
 carried_out s (Reopen room) = do
-  r ← known_room s.desk.problem room
+  r ← ok_or (room_of s.desk.problem room) NoSuchRoom
   some ← true_or NothingClosed (list_any (is_open_in r) s.desk.present.closures)
   Ok (with_step s (with_reopened s.desk.present r) [])
 carried_out s (Lock class) = do
@@ -275,8 +262,8 @@ carried_out s Undo = do
   d ← stepped_back s.desk.problem s.desk.earlier
   Ok (with_desk s d [])
 carried_out s Publish = do
-  now ← ready s.desk
-  Ok (with_published s (timetable_of s.desk.problem now.plan now.lists) (published_text s.desk.problem now.plan now.lists ++ codes "\n"))
+  whole ← true_or (not_ready (totals_in s.desk.problem s.desk.present)) (is_ready s.desk.problem s.desk.present)
+  Ok (with_published s (timetable_of s.desk.problem s.desk.present.plan s.desk.present.lists) (draft_line s.desk))
 carried_out s Draft = Ok (same s (draft_line s.desk))
 carried_out s Totals = Ok (same s [])
 carried_out s Violations = Ok (same s (violations_lines s.desk.problem s.desk.present))

@@ -28,7 +28,3 @@ refusal_text TooManyTries = codes "26 too many tries"
 refusal_text TooManyClosures = codes "27 too many closures"
 refusal_text Locked = codes "28 locked"
 refusal_text NotLocked = codes "29 not locked"
-
--- the line of a refusal
-abbrev pub refusal_line : Refusal → List ℕ
-refusal_line r = codes "refused " ++ refusal_text r ++ codes "\n"

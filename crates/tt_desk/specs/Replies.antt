@@ -1,13 +1,13 @@
 -- Theorem. The replies to the lines of a script.
-use Rattle.std.specs.Prelude.{ℕ, Bool, true, false, List, [], ◌∷◌, ◌++◌, map, if◌then◌else◌, Option, option_map, codes}
+use Rattle.std.specs.Prelude.{ℕ, Bool, true, false, List, [], ◌∷◌, ◌++◌, if◌then◌else◌, Option, option_map, codes}
 use Rattle.std.specs.List.{list_any}
 use Rattle.tt_score.specs.declared.totals.Totals.{Totals}
-use Rattle.tt_score.specs.Totals.{totals_of}
+use Rattle.tt_state.specs.Snapshots.{totals_in}
 use Rattle.tt_published.specs.Published.{moved_of}
 use Rattle.tt_text.specs.Fields.{field}
 use Rattle.tt_desk.specs.declared.refusal.Outcome.{Outcome}
 use Rattle.tt_desk.specs.declared.refusal.Outcome.TheVariants.{Accepted, Refused, Ended}
-use Rattle.tt_desk.specs.Refusals.{refusal_line}
+use Rattle.tt_desk.specs.Refusals.{refusal_text}
 use Rattle.tt_desk.specs.Desk.{Session, Step, line_step, moved_text}
 
 -- the sums and their weighted total
@@ -30,10 +30,6 @@ counts_text t =
 abbrev pub totals_line : Totals → Option ℕ → List ℕ
 totals_line t moved = sums_text t ++ counts_text t ++ moved_text moved
 
--- the totals of the present snapshot
-unfoldable pub present_totals : Session → Totals
-present_totals s = totals_of s.desk.problem s.desk.present.closures s.desk.present.plan s.desk.present.lists
-
 -- how many published classes moved in the present snapshot
 unfoldable pub present_moved : Session → Option ℕ
 present_moved s = option_map (moved_of s.desk.problem s.desk.present.plan) s.published
@@ -41,8 +37,8 @@ present_moved s = option_map (moved_of s.desk.problem s.desk.present.plan) s.pub
 -- an accepted command writes its own lines and the line of totals, a refused one why it is refused; a skipped line and `quit`
 -- write nothing
 abbrev pub reply_to : Session → List ℕ → Outcome → List ℕ
-reply_to s lines Accepted = lines ++ totals_line (present_totals s) (present_moved s)
-reply_to s lines (Refused r) = refusal_line r
+reply_to s lines Accepted = lines ++ totals_line (totals_in s.desk.problem s.desk.present) (present_moved s)
+reply_to s lines (Refused r) = codes "refused " ++ refusal_text r ++ codes "\n"
 reply_to s lines _ = []
 
 -- the reply to a line
@@ -62,10 +58,6 @@ abbrev pub script_steps : Session → List (List ℕ) → List Step
 script_steps s [] = []
 script_steps s (line ∷ lines) =
     let step = line_step s line in step ∷ (if is_end step.outcome then [] else script_steps step.session lines)
-
--- a reply for each of these lines
-abbrev pub replies_to : Session → List (List ℕ) → List (List ℕ)
-replies_to s lines = map reply_of (script_steps s lines)
 
 -- whether one of these lines is refused
 abbrev pub refuses : Session → List (List ℕ) → Bool

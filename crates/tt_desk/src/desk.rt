@@ -3,7 +3,7 @@
 ghost use Rattle.std.specs.Prelude.{◌≡◌, ◌<◌, [], Err, IfOk, OnErr, OnOk, length};
 ghost use Rattle.tt_script.specs.Forms.{HasDepth};
 ghost use Rattle.tt_desk.specs.Desk.{line_step};
-ghost use Rattle.tt_desk.specs.Refusals.{refusal_line};
+ghost use Rattle.tt_desk.specs.Lines.{refusal_line};
 ghost use Rattle.tt_desk.specs.Replies.{reply_of};
 ghost use Rattle.tt_desk.specs.Causes.{IsMemoryCause};
 ghost use Rattle.tt_desk.specs.Carried.{IsDone};
@@ -13,7 +13,7 @@ use crate::reply::put_refusal;
 use crate::session::Session;
 use crate::unmet::{Unmet, is_quit, outcome_of};
 use crate::wanting::Wanting;
-use std::alloc::{AllocError, Global};
+use std::alloc::Global;
 use tt_script::{Command, Line, read_line};
 use tt_text::Reply;
 use tt_watch::Watcher;

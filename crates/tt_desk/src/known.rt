@@ -1,9 +1,10 @@
 //! What the ids and words of a command name, or its refusal.
 
-ghost use Rattle.std.specs.Prelude.{◌≡◌, ◌<◌, All, Ok, Err, IfOk, IfErr, IfSome, length};
+ghost use Rattle.std.specs.Prelude.{◌≡◌, ◌<◌, All, Ok, Err, IfOk, IfErr, IfSome, length, ok_or};
+ghost use Rattle.tt_problem.specs.Places.{room_of};
 ghost use Rattle.tt_problem.specs.Valid.{IsTimeOf};
 ghost use Rattle.tt_plan.specs.Domain.{IsOfDomain};
-ghost use Rattle.tt_desk.specs.Desk.{known_class, known_classes, known_room, known_student, known_time, known_value, value_refusal, written_time};
+ghost use Rattle.tt_desk.specs.Desk.{known_class, known_classes, known_student, known_value, value_refusal, written_time};
 
 use crate::refusal::Refusal;
 use tt_bits::{BitWord, Days, Time, Value, Weeks};
@@ -43,7 +44,7 @@ pub(crate) fn known_student(problem: &Problem, id: u32) -> Result<u32, Refusal>
 
 // The place of the room with an id.
 pub(crate) fn known_room(problem: &Problem, id: u32) -> Result<u32, Refusal>
-    ensures room { result ≡ known_room problem.now id }
+    ensures room { result ≡ ok_or (room_of problem.now id) Refusal.NoSuchRoom }
     ensures in_range { IfOk result (λ room. room < length problem.now.rooms) }
 {
     problem.room_of(id).ok_or(Refusal::NoSuchRoom)
@@ -73,7 +74,8 @@ pub(crate) fn known_time(
     length: u16,
     weeks: BitWord,
 ) -> Result<Time, Refusal>
-    ensures time { result ≡ known_time problem.now days start length weeks }
+    ensures time { result
+        ≡ ok_or (written_time problem.now days start length weeks) Refusal.BadTime }
     ensures within { IfOk result (IsTimeOf problem.now.nr_days problem.now.nr_weeks) }
 {
     written_time(problem, days, start, length, weeks).ok_or(Refusal::BadTime)

@@ -1,6 +1,6 @@
 //! How many published classes are moved, kept from step to step.
 
-ghost use Rattle.std.specs.Prelude.{◌≡◌, ◌+◌, ◌<◌, ◌≤◌, ◌^◌, ◌∷◌, [], ℕ, All, IfSome, List, None, Option, count_by, length};
+ghost use Rattle.std.specs.Prelude.{◌≡◌, ◌+◌, ◌<◌, ◌≤◌, ◌^◌, ◌∷◌, [], All, IfSome, List, None, Option, count_by, length};
 ghost use Rattle.tt_problem.specs.declared.parts.Parts.{Parts};
 ghost use Rattle.tt_problem.specs.Valid.{IsValid};
 ghost use Rattle.tt_plan.specs.Domain.{IsOfDomain};

@@ -10,7 +10,8 @@ ghost use Rattle.tt_state.specs.History.{desk_of};
 ghost use Rattle.tt_published.specs.Timetable.{IsTimetableOf};
 ghost use Rattle.tt_published.specs.Published.{timetable_of};
 ghost use Rattle.tt_desk.specs.Desk.{best_lines, counted_line, draft_line, moved_text, result_line, set_line, suggested_lines, taken_lines};
-ghost use Rattle.tt_desk.specs.Refusals.{refusal_text, refusal_line};
+ghost use Rattle.tt_desk.specs.Refusals.{refusal_text};
+ghost use Rattle.tt_desk.specs.Lines.{refusal_line};
 ghost use Rattle.tt_desk.specs.Lengths.{most_counts_bytes, most_moved_bytes, most_refusal_bytes, most_sums_bytes, most_totals_bytes};
 ghost use Rattle.tt_desk.specs.Replies.{counts_text, reply_to, sums_text, totals_line};
 

@@ -1,6 +1,6 @@
 //! The enrolment of all students who have a course and no class.
 
-ghost use Rattle.std.specs.Prelude.{◌≡◌, ◌+◌, ◌<◌, ◌≤◌, [], ℕ, None, Some, IfOk, IsSome, OnOk, OnErr, if◌then◌else◌, false, true, length};
+ghost use Rattle.std.specs.Prelude.{◌≡◌, ◌+◌, ◌<◌, ◌≤◌, ℕ, None, Some, IfOk, IsSome, OnOk, OnErr, if◌then◌else◌, false, true, length};
 ghost use Rattle.tt_state.specs.Desk.{stepped};
 ghost use Rattle.tt_state.specs.History.{IsWithinStep, desk_of, earlier};
 ghost use Rattle.tt_state.specs.Snapshots.{StaysLocked};

@@ -17,9 +17,10 @@ use Rattle.tt_plan.specs.Domain.{IsSpotOf, spots_of, time_penalty, room_penalty}
 use Rattle.tt_roster.specs.Conflicts.{class_conflicts, conflicts_in, student_conflicts}
 use Rattle.tt_roster.specs.Lists.{Ascends}
 use Rattle.tt_roster.proofs.KeptLemmas.{room_is}
-use Rattle.tt_score.specs.Amounts.{rule_amount, cost_of, rule_cost, kind_cost}
+use Rattle.tt_score.specs.Amounts.{rule_amount, cost_of, kind_cost}
+use Rattle.tt_score.specs.Additions.{paid_at, rule_cost}
 use Rattle.tt_score.specs.Members.{AreSpotsOf}
-use Rattle.tt_score.specs.Placed.{over_placed, paid_at}
+use Rattle.tt_score.specs.Placed.{over_placed}
 use Rattle.tt_score.specs.Totals.{totals_of}
 use Rattle.tt_state.specs.Snapshots.{Snapshot, list_in}
 use Rattle.tt_verify.specs.Costs.{cost_at}
@@ -27,8 +28,8 @@ use Rattle.tt_verify.specs.Pairs.{related_pairs}
 use Rattle.tt_verify.proofs.PairLemmas.{costs_by_place, length-related_pairs}
 use Rattle.tt_explain.specs.declared.costing.ClassCosts.{ClassCosts}
 use Rattle.tt_explain.specs.Explain.{amount_line, line_at, pair_count, rule_line}
-use Rattle.tt_explain.specs.Pairs.{pairs_of, times_in}
-use Rattle.tt_explain.specs.Student.{conflict_between, student_pairs}
+use Rattle.tt_explain.specs.Pairs.{conflict_between, pairs_of, times_in}
+use Rattle.tt_explain.specs.Student.{student_pairs}
 use Rattle.tt_explain.specs.Meets.{all_met, met_classes, met_students}
 use Rattle.tt_explain.specs.Costs.{AddUp, class_costs, costly_classes, costly_rules, costly_sum, is_costly_class, is_costly_rule}
 use Rattle.tt_explain.proofs.ConflictLaws.{conflicts-by_class, conflicts-by_other, pairs-by_class}
@@ -151,14 +152,14 @@ add_up p s valid fit whole ordered = record {
 
 -- the students whom `meets` counts are the conflicting pairs with the class
 pub met_add_up : (p : Parts) (s : Snapshot) (class : ℕ) → All (Ascends 0 (length p.classes)) s.lists → all_met p s class ≡ pair_count p s class
-unfolding all_met met_classes met_students conflict_between pair_count
+unfolding all_met met_classes met_students pair_count
 met_add_up p s class ordered =
     sum-filter (met_students p s class) (λ other. nat_lt 0 (met_students p s class other)) (range_with_len 0 (length p.classes)) (λ other none. none_above (met_students p s class other) none)
     ∙ conflicts-by_other p.travel (spots_of p s.plan) (length p.classes) s.lists ordered class
 
 -- the pairs that `student` writes are the student's conflicts
 pub pairs_counted : (p : Parts) (s : Snapshot) (student : ℕ) → length (student_pairs p s student) ≡ conflicts_in p.travel (spots_of p s.plan) (list_in s student)
-unfolding student_pairs conflict_between
+unfolding student_pairs
 pairs_counted p s student = length-related_pairs (conflict_between p s) (list_in s student)
 
 -- over all students they are the student conflicts
@@ -171,7 +172,7 @@ pairs_add_up p s whole =
 -- the pairs of all students with a class in them are the conflicting pairs with it
 pub all_counted : (p : Parts) (s : Snapshot) (class : ℕ) → length s.lists ≡ length p.students → All (Ascends 0 (length p.classes)) s.lists → IsTravel p.travel → ((c : ℕ) → IfSome (spot_at (spots_of p s.plan) c) (λ x. IsRoomOf p.travel x.room))
     → sum_by (pairs_of p s class) (range_with_len 0 (length p.students)) ≡ pair_count p s class
-unfolding pair_count student_pairs conflict_between
+unfolding pair_count student_pairs
 all_counted p s class whole ordered sound rooms =
     ap (λ n. sum_by (pairs_of p s class) (range_with_len 0 n)) (sym whole)
     ∙ sum-places (λ list. times_in class (related_pairs (conflict_between p s) list)) s.lists []

@@ -13,7 +13,7 @@ use Rattle.tt_problem.specs.declared.parts.Parts.{Parts}
 use Rattle.tt_plan.specs.Domain.{spots_of}
 use Rattle.tt_roster.specs.Lists.{list_of}
 use Rattle.tt_score.specs.declared.totals.Totals.{Totals}
-use Rattle.tt_score.specs.Placed.{unplaced_count}
+use Rattle.tt_score.specs.Additions.{unplaced_count}
 use Rattle.tt_score.specs.Totals.{totals_of}
 use Rattle.tt_score.specs.Unsectioned.{is_unsectioned, unsectioned_count}
 use Rattle.tt_state.specs.Seats.{may_have}

@@ -4,9 +4,10 @@ use Rattle.std.specs.List.{flat_map, range_with_len}
 use Rattle.tt_base.specs.Lists.{is_listed}
 use Rattle.tt_problem.specs.declared.parts.Parts.{Parts}
 use Rattle.tt_problem.specs.Places.{class_id}
+use Rattle.tt_plan.specs.Domain.{spots_of}
+use Rattle.tt_roster.specs.Conflicts.{in_conflict}
 use Rattle.tt_state.specs.Snapshots.{Snapshot}
 use Rattle.tt_text.specs.Fields.{field}
-use Rattle.tt_explain.specs.Student.{conflict_between}
 
 -- how many students have a class and another one; none for the class itself
 abbrev pub students_of_both : List (List ℕ) → (class other : ℕ) → ℕ
@@ -14,7 +15,7 @@ students_of_both lists class other = if nat_eq other class then 0 else count_by 
 
 -- how many have a class and another one that nobody can attend beside it
 unfoldable pub met_students : Parts → Snapshot → (class other : ℕ) → ℕ
-met_students p s class other = if conflict_between p s class other then students_of_both s.lists class other else 0
+met_students p s class other = if in_conflict p.travel (spots_of p s.plan) class other then students_of_both s.lists class other else 0
 
 -- the classes with such students, in the problem's order
 unfoldable pub met_classes : Parts → Snapshot → (class : ℕ) → List ℕ

@@ -1,23 +1,18 @@
 -- Theorem. What `student` writes of a student.
-use Rattle.std.specs.Prelude.{◌≡◌, ℕ, Bool, List, ◌++◌, codes, length, sum_by}
+use Rattle.std.specs.Prelude.{◌≡◌, ℕ, List, ◌++◌, codes, length, sum_by}
 use Rattle.std.specs.List.{flat_map, range_with_len}
-use Rattle.tt_bits.specs.Spots.{spot_at}
 use Rattle.tt_problem.specs.declared.parts.Parts.{Parts}
 use Rattle.tt_problem.specs.Places.{class_id}
 use Rattle.tt_plan.specs.Domain.{spots_of}
-use Rattle.tt_roster.specs.Conflicts.{are_in_conflict, conflicts_in}
+use Rattle.tt_roster.specs.Conflicts.{conflicts_in, in_conflict}
 use Rattle.tt_score.specs.declared.totals.Totals.{Totals}
 use Rattle.tt_state.specs.Snapshots.{Snapshot, list_in}
 use Rattle.tt_text.specs.Fields.{field}
 use Rattle.tt_verify.specs.Pairs.{related_pairs}
 
--- whether two classes are placed, and nobody can attend both
-unfoldable pub conflict_between : Parts → Snapshot → (class other : ℕ) → Bool
-conflict_between p s class other = are_in_conflict p.travel (spot_at (spots_of p s.plan) class) (spot_at (spots_of p s.plan) other)
-
 -- the pairs of a student's classes that nobody can attend both, each class with each later one
 unfoldable pub student_pairs : Parts → Snapshot → (student : ℕ) → List (ℕ × ℕ)
-student_pairs p s student = related_pairs (conflict_between p s) (list_in s student)
+student_pairs p s student = related_pairs (in_conflict p.travel (spots_of p s.plan)) (list_in s student)
 
 -- `class D`
 unfoldable pub class_line : Parts → (class : ℕ) → List ℕ

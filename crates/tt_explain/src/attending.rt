@@ -5,7 +5,8 @@ ghost use Rattle.std.specs.List.{flat_map};
 ghost use Rattle.tt_score.specs.Totals.{totals_of};
 ghost use Rattle.tt_state.specs.Snapshots.{list_in};
 ghost use Rattle.tt_verify.specs.Pairs.{pairs_with};
-ghost use Rattle.tt_explain.specs.Student.{PairsAreCounted, class_line, conflict_between, pair_line, student_lines, student_pairs};
+ghost use Rattle.tt_explain.specs.Student.{PairsAreCounted, class_line, pair_line, student_lines, student_pairs};
+ghost use Rattle.tt_explain.specs.Pairs.{conflict_between};
 
 use crate::now::conflict_between;
 use std::alloc::AllocError;

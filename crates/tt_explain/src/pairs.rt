@@ -5,8 +5,7 @@ ghost use Rattle.std.specs.List.{range_with_len};
 ghost use Rattle.tt_roster.specs.Lists.{Ascends};
 ghost use Rattle.tt_verify.specs.Pairs.{pairs_with};
 ghost use Rattle.tt_explain.specs.Explain.{pair_count};
-ghost use Rattle.tt_explain.specs.Pairs.{pairs_of, times_in};
-ghost use Rattle.tt_explain.specs.Student.{conflict_between};
+ghost use Rattle.tt_explain.specs.Pairs.{conflict_between, pairs_of, times_in};
 
 use crate::attending::classes_behind;
 use crate::now::conflict_between;

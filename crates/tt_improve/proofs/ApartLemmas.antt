@@ -10,11 +10,11 @@ use Rattle.tt_bits.specs.declared.times.Spot.{Spot}
 use Rattle.tt_bits.specs.Spots.{spot_at}
 use Rattle.tt_problem.specs.declared.parts.Parts.{Parts}
 use Rattle.tt_plan.specs.Domain.{spots_of}
+use Rattle.tt_roster.specs.Conflicts.{in_conflict}
 use Rattle.tt_roster.specs.Lists.{Ascends}
 use Rattle.tt_state.specs.Snapshots.{Snapshot, list_in}
 use Rattle.tt_state.specs.Sound.{IsSound}
 use Rattle.tt_choice.specs.Least.{pairs_added}
-use Rattle.tt_choice.specs.Situations.{in_conflict}
 use Rattle.tt_choice.proofs.Order.{all-weaken}
 use Rattle.tt_improve.specs.Courses.{beside, is_of_course, own_of, rest_of}
 use Rattle.tt_improve.specs.Pairs.{has_pair, meets_another}
@@ -92,16 +92,16 @@ module _ (f : ℕ → ℕ → Bool) (test : ℕ → Bool) where
 pub no_pair : (p : Parts) (s : Snapshot) (student course : ℕ) → IsSound p s → student < length p.students → has_pair p s course (list_in s student) ≡ false
     → pairs_added (beside p s student (rest_of p course (list_in s student))) (own_of p course (list_in s student)) ≡ 0
 no_pair p s student course sound within none =
-    let f = in_conflict p (spots_of p s.plan) in
+    let f = in_conflict p.travel (spots_of p s.plan) in
     let list = list_in s student in
     let apart = apart_all f (is_of_course p course) list none in
     omega (arith, none_across f (is_of_course p course) list list apart, none_among f (is_of_course p course) 0 (length p.classes) list (sound.lists.ordered student [] (omega (arith, within, sound.lists.whole))) apart)
 
 -- a class that isn't placed conflicts with none
 pub meets_none : (p : Parts) (s : Snapshot) (list : List ℕ) (class : ℕ) → spot_at (spots_of p s.plan) class ≡ None → meets_another p s list class ≡ false
-meets_none p s list class is = none_passes (λ other. not (other == class) && in_conflict p (spots_of p s.plan) class other) fails list
+meets_none p s list class is = none_passes (λ other. not (other == class) && in_conflict p.travel (spots_of p s.plan) class other) fails list
   where
-    fails : (other : ℕ) → (not (other == class) && in_conflict p (spots_of p s.plan) class other) ≡ false
+    fails : (other : ℕ) → (not (other == class) && in_conflict p.travel (spots_of p s.plan) class other) ≡ false
     fails other = rw is (and-false (not (other == class)))
 
 -- the same, where the spots are named

@@ -33,7 +33,8 @@ use Rattle.tt_clash.specs.Freed.{IsFreed, IsFreedRule}
 use Rattle.tt_clash.proofs.AmountLemmas.{free-from_open}
 use Rattle.tt_clash.proofs.ForcedLemmas.{no-clash-left}
 use Rattle.tt_clash.proofs.FreedLemmas.{freed-all}
-use Rattle.tt_score.specs.Amounts.{held_by, kind_hard, rule_amount, hard_of, rule_hard, hard_sum}
+use Rattle.tt_score.specs.Amounts.{held_by, kind_hard, rule_amount, hard_of, hard_sum}
+use Rattle.tt_score.specs.Additions.{rule_hard}
 use Rattle.tt_score.proofs.MemberLemmas.{held_by-set, held_by-other}
 
 -- a test that no item passes counts none

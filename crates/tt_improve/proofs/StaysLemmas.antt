@@ -15,7 +15,7 @@ use Rattle.tt_problem.specs.declared.parts.Parts.{Parts}
 use Rattle.tt_problem.specs.Places.{course_of}
 use Rattle.tt_problem.specs.Valid.{IsValid}
 use Rattle.tt_plan.specs.Domain.{domain_of, spot_at_value, spots_of}
-use Rattle.tt_roster.specs.Conflicts.{conflicts_in, student_conflicts}
+use Rattle.tt_roster.specs.Conflicts.{conflicts_in, in_conflict, student_conflicts}
 use Rattle.tt_roster.proofs.ConflictLemmas.{conflicts-other}
 use Rattle.tt_score.proofs.PlanLemmas.{spots_of-set}
 use Rattle.tt_struct.specs.Enrolments.{is_enrolment}
@@ -26,7 +26,6 @@ use Rattle.tt_state.specs.Values.{conflict_set_of, total_with}
 use Rattle.tt_state.proofs.SeatLemmas.{has-ordered}
 use Rattle.tt_choice.specs.Choices.{choices_at}
 use Rattle.tt_choice.specs.Least.{pairs_added}
-use Rattle.tt_choice.specs.Situations.{in_conflict}
 use Rattle.tt_choice.proofs.CountLemmas.{not_listed}
 use Rattle.tt_choice.proofs.Order.{all-weaken}
 use Rattle.tt_choice.proofs.PlaceLemmas.{AllOfCourse}
@@ -106,7 +105,7 @@ all_kept_of f P xs all = kept_of_all f P xs (all-weaken P (λ x. f x ≡ true �
 -- a course of a student stays at its best where the list, the seats in the course and the conflicts of both are as they were
 module _ (p : Parts) (s t : Snapshot) (student course : ℕ) (valid : IsValid p) (within : course < length p.courses) (list : list_in t student ≡ list_in s student)
     (seats : (d : ℕ) → course_of p d ≡ Some course → has_seat p t.lists student d ≡ has_seat p s.lists student d)
-    (P : ℕ → Type 0) (agree : (a b : ℕ) → P a → P b → in_conflict p (spots_of p s.plan) a b ≡ in_conflict p (spots_of p t.plan) a b)
+    (P : ℕ → Type 0) (agree : (a b : ℕ) → P a → P b → in_conflict p.travel (spots_of p s.plan) a b ≡ in_conflict p.travel (spots_of p t.plan) a b)
     (of_course : (d : ℕ) → course_of p d ≡ Some course → P d) (of_list : AllByRecursion P (list_in s student)) where
   abbrev rest : List ℕ
   rest = rest_of p course (list_in s student)
@@ -116,8 +115,8 @@ module _ (p : Parts) (s t : Snapshot) (student course : ℕ) (valid : IsValid p)
 
   added_same : (choice : List ℕ) → AllByRecursion P choice → pairs_added (beside p s student rest) choice ≡ pairs_added (beside p t student rest) choice
   added_same choice all =
-      let f = in_conflict p (spots_of p s.plan) in
-      let g = in_conflict p (spots_of p t.plan) in
+      let f = in_conflict p.travel (spots_of p s.plan) in
+      let g = in_conflict p.travel (spots_of p t.plan) in
       omega (arith, across_agrees f g P agree rest choice (all_kept_of (λ d. not (is_of_course p course d)) P (list_in s student) of_list) all, pairs_agree f g P agree choice all)
 
   seats_same : (choice : List ℕ) → AllOfCourse p course choice → list_all (has_seat p t.lists student) choice ≡ list_all (has_seat p s.lists student) choice
@@ -165,7 +164,7 @@ class_apart p s c v student course valid within apart none =
     let parts = or_parts (is_listed c (list_in s student)) (is_of_course p course c) apart in
     student_stays p s (with_value s c (Some v)) student course valid within refl (λ d of. refl) (λ d. d ≢ c) agree (λ d. of_other p course c d parts.1) (all_apart c (list_in s student) parts.0) none
   where
-    agree : (a b : ℕ) → a ≢ c → b ≢ c → in_conflict p (spots_of p s.plan) a b ≡ in_conflict p (spots_of p (slice_set s.plan c (Some v))) a b
+    agree : (a b : ℕ) → a ≢ c → b ≢ c → in_conflict p.travel (spots_of p s.plan) a b ≡ in_conflict p.travel (spots_of p (slice_set s.plan c (Some v))) a b
     agree a b one two =
         let spots = spots_of p s.plan in
         let x = option_and_then (spot_at_value p c) (Some v) in

@@ -23,7 +23,7 @@ use Rattle.tt_problem.specs.declared.parts.Parts.{Parts}
 use Rattle.tt_problem.specs.Valid.{IsValid, IsValidClass, IsValidChoice}
 use Rattle.tt_plan.specs.Domain.{spot_at_value, spot_for, spots_of, value_room}
 use Rattle.tt_struct.specs.Enrolments.{is_enrolment, is_enrolment_of, takes}
-use Rattle.tt_roster.specs.Conflicts.{are_in_conflict, conflicts_in, student_conflicts}
+use Rattle.tt_roster.specs.Conflicts.{are_in_conflict, conflicts_in, in_conflict, student_conflicts}
 use Rattle.tt_roster.specs.Lists.{Ascends, list_of}
 use Rattle.tt_roster.proofs.TimeLemmas.{in_conflict-sym, in_conflict-none}
 use Rattle.tt_score.proofs.PlanLemmas.{spot_in}
@@ -34,7 +34,6 @@ use Rattle.tt_state.proofs.SeatLemmas.{length-ordered, few_ascending}
 use Rattle.tt_choice.specs.Choices.{choices_at}
 use Rattle.tt_choice.specs.Least.{Situation, choice_numbers, is_allowed, least_choice, pairs_added}
 use Rattle.tt_choice.specs.Seating.{MayGet}
-use Rattle.tt_choice.specs.Situations.{in_conflict}
 use Rattle.tt_choice.proofs.LeastLemmas.{IsAllowed, least_is}
 use Rattle.tt_choice.proofs.Order.{all-append, all-weaken}
 use Rattle.tt_choice.proofs.SeatingLemmas.{all_seats}
@@ -79,7 +78,7 @@ turned_by : (t : Table) (a b : Option Spot) → IsTravel t → IfSome a (λ y. I
 turned_by t None b sound first second = sym (in_conflict-none t b)
 turned_by t (Some x) b sound first second = in_conflict-sym t x b sound first second
 
-conflict_turned : (p : Parts) (plan : List (Option Value)) → IsValid p → (a b : ℕ) → in_conflict p (spots_of p plan) a b ≡ in_conflict p (spots_of p plan) b a
+conflict_turned : (p : Parts) (plan : List (Option Value)) → IsValid p → (a b : ℕ) → in_conflict p.travel (spots_of p plan) a b ≡ in_conflict p.travel (spots_of p plan) b a
 conflict_turned p plan valid a b = turned_by p.travel (spot_at (spots_of p plan) a) (spot_at (spots_of p plan) b) valid.travel (rooms_are p plan valid a) (rooms_are p plan valid b)
 
 -- the order of a list does not tell
@@ -263,7 +262,7 @@ module _ (p : Parts) (s : Snapshot) (student course : ℕ) (valid : IsValid p) (
   replaced_total choice =
       let spots = spots_of p s.plan in
       let new = classes_in_order (rest ++ choice) in
-      let pairs = pairs_replaced (in_conflict p spots) (conflict_turned p s.plan valid) (is_of_course p course) (list_in s student) choice in
+      let pairs = pairs_replaced (in_conflict p.travel spots) (conflict_turned p s.plan valid) (is_of_course p course) (list_in s student) choice in
       let change = sum_by-set (conflicts_in p.travel spots) s.lists student new [] within_lists in
       let all : student_conflicts p.travel spots (slice_set s.lists student new) + pairs_added sit own ≡ student_conflicts p.travel spots s.lists + pairs_added sit choice = omega (arith, change, pairs) in
       omega (arith, weighed p.weights.student (student_conflicts p.travel spots (slice_set s.lists student new)) (student_conflicts p.travel spots s.lists) (pairs_added sit own) (pairs_added sit choice) all)
@@ -297,7 +296,7 @@ module _ (p : Parts) (s : Snapshot) (student course : ℕ) (valid : IsValid p) (
       let some : 0 < length choice = choice_some p course choice valid one.is in
       let long : 0 < length new = omega (arith, length-ordered (rest ++ choice), length-append rest choice) in
       let fewer : conflicts_in p.travel spots new < conflicts_in p.travel spots (list_in s student) =
-      fewer_in (in_conflict p spots) (conflict_turned p s.plan valid) (is_of_course p course) (list_in s student) choice less in
+      fewer_in (in_conflict p.travel spots) (conflict_turned p s.plan valid) (is_of_course p course) (list_in s student) choice less in
       let change = sum_by-set (conflicts_in p.travel spots) s.lists student new [] within_lists in
       let falls : student_conflicts p.travel spots (slice_set s.lists student new) ≤ student_conflicts p.travel spots s.lists = omega (arith, change, fewer) in
       let weighs = mul-le-mul_left p.weights.student falls in

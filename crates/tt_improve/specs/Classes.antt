@@ -6,8 +6,7 @@ use Rattle.tt_base.specs.Lists.{first_least}
 use Rattle.tt_bits.specs.declared.times.Value.{Value}
 use Rattle.tt_problem.specs.declared.parts.Parts.{Parts}
 use Rattle.tt_plan.specs.Domain.{domain_of}
-use Rattle.tt_score.specs.Totals.{totals_of}
-use Rattle.tt_state.specs.Snapshots.{Snapshot, with_value}
+use Rattle.tt_state.specs.Snapshots.{Snapshot, with_value, totals_in}
 use Rattle.tt_state.specs.Values.{blocked_of, conflict_set_of, total_with}
 
 -- the value of a class isn't blocked, and its conflict set is empty
@@ -21,7 +20,7 @@ least_value p s class =
 
 -- the total of a snapshot
 abbrev pub total_of : Parts → Snapshot → ℕ
-total_of p s = (totals_of p s.closures s.plan s.lists).total
+total_of p s = (totals_in p s).total
 
 -- the snapshot with a class at a value, where the total is then below the present one
 abbrev pub at_lower : Parts → Snapshot → (class : ℕ) → Value → Option Snapshot

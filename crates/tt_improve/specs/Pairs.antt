@@ -3,13 +3,13 @@ use Rattle.std.specs.Prelude.{ℕ, Bool, not, ◌&&◌, ◌==◌, List}
 use Rattle.std.specs.List.{list_any}
 use Rattle.tt_problem.specs.declared.parts.Parts.{Parts}
 use Rattle.tt_plan.specs.Domain.{spots_of}
+use Rattle.tt_roster.specs.Conflicts.{in_conflict}
 use Rattle.tt_state.specs.Snapshots.{Snapshot}
-use Rattle.tt_choice.specs.Situations.{in_conflict}
 use Rattle.tt_improve.specs.Courses.{is_of_course}
 
 -- a class conflicts with another class of a list
 abbrev pub meets_another : Parts → Snapshot → (list : List ℕ) → (class : ℕ) → Bool
-meets_another p s list class = list_any (λ other. not (other == class) && in_conflict p (spots_of p s.plan) class other) list
+meets_another p s list class = list_any (λ other. not (other == class) && in_conflict p.travel (spots_of p s.plan) class other) list
 
 -- one of these classes is of the course, and conflicts with another class of a list
 abbrev pub has_pair_with : Parts → Snapshot → (course : ℕ) → (list : List ℕ) → (classes : List ℕ) → Bool

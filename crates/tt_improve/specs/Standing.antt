@@ -4,14 +4,13 @@ use Rattle.tt_base.specs.Lists.{is_listed}
 use Rattle.tt_bits.specs.declared.times.Value.{Value}
 use Rattle.tt_problem.specs.declared.parts.Parts.{Parts}
 use Rattle.tt_plan.specs.Domain.{IsOfDomain}
-use Rattle.tt_state.specs.Snapshots.{Snapshot, StaysLocked, list_in, may_lock}
+use Rattle.tt_state.specs.Snapshots.{Snapshot, StaysLocked, list_in, may_lock, totals_in}
 use Rattle.tt_state.specs.Values.{total_with}
 use Rattle.tt_choice.specs.Situations.{courses_of}
 use Rattle.tt_improve.specs.declared.targets.Target.{Target}
 use Rattle.tt_improve.specs.declared.targets.Target.TheVariants.{Class, Course}
 use Rattle.tt_improve.specs.Classes.{is_free, total_of}
 use Rattle.tt_improve.specs.Targets.{targets_of}
-use Rattle.tt_improve.specs.UnderWay.{totals_in}
 
 -- the class is one of the problem, it is placed, and it isn't locked
 pub record IsMovable (p : Parts) (s : Snapshot) (class : ℕ) : Type 0 where

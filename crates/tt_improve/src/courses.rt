@@ -1,6 +1,6 @@
 //! Rounds on students: the least choice of a course replaces a student's own.
 
-ghost use Rattle.std.specs.Prelude.{◌≡◌, ◌<◌, ◌≤◌, ◌++◌, [], None, Some, IfOk, IfSome, OnOk, if◌then◌else◌, false, length, take};
+ghost use Rattle.std.specs.Prelude.{◌≡◌, ◌<◌, ◌≤◌, ◌++◌, None, Some, IfOk, IfSome, OnOk, if◌then◌else◌, false, length, take};
 ghost use Rattle.std.specs.Option.{option_map};
 ghost use Rattle.tt_state.specs.History.{IsWithinStep, earlier};
 ghost use Rattle.tt_state.specs.Snapshots.{classes_in_order, list_in, with_list};

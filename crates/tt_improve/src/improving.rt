@@ -3,14 +3,14 @@
 ghost use Rattle.std.specs.Prelude.{◌≡◌, ℕ, ◌+◌, ◌<◌, ◌≤◌, ◌^◌, ◌∷◌, [], None, Some, IfOk, OnOk, OnErr, if◌then◌else◌, false, length};
 ghost use Rattle.tt_state.specs.Desk.{stepped};
 ghost use Rattle.tt_state.specs.History.{IsWithinStep, desk_of, earlier, with_taken};
-ghost use Rattle.tt_state.specs.Snapshots.{StaysLocked};
+ghost use Rattle.tt_state.specs.Snapshots.{StaysLocked, totals_in};
 ghost use Rattle.tt_choice.specs.Ready.{HasRoomToChoose};
 ghost use Rattle.tt_improve.specs.Idle.{KnowsIdle, changed_at, targets_in};
 ghost use Rattle.tt_improve.specs.Targets.{targets_of};
 ghost use Rattle.tt_improve.specs.Rounds.{changed_by, improved};
 ghost use Rattle.tt_improve.specs.Standing.{IsNoWorse, IsTargetOf};
 ghost use Rattle.tt_improve.specs.Touched.{IsTableOf};
-ghost use Rattle.tt_improve.specs.UnderWay.{so_far, totals_in};
+ghost use Rattle.tt_improve.specs.UnderWay.{so_far};
 
 use crate::classes::change_class;
 use crate::courses::change_student;

@@ -1,6 +1,6 @@
 //! The stage of the last change that touched each class, each student and each course.
 
-ghost use Rattle.std.specs.Prelude.{◌≡◌, ℕ, ◌<◌, if◌then◌else◌, IfOk, IfSome, Some, length, slice_get, slice_index};
+ghost use Rattle.std.specs.Prelude.{◌≡◌, ℕ, ◌<◌, if◌then◌else◌, IfOk, length, slice_index};
 ghost use Rattle.std.specs.List.{AllByRecursion};
 ghost use Rattle.tt_base.specs.Lists.{is_listed};
 ghost use Rattle.tt_problem.specs.Places.{course_of};

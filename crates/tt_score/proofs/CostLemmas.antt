@@ -7,7 +7,8 @@ use Rattle.tt_problem.specs.declared.parts.Rule.{Rule}
 use Rattle.tt_problem.specs.declared.parts.Parts.{Parts}
 use Rattle.tt_problem.specs.Valid.{IsValid}
 use Rattle.tt_problem.specs.RulePlaces.{place_in}
-use Rattle.tt_score.specs.Amounts.{rule_cost, cost_sum}
+use Rattle.tt_score.specs.Amounts.{cost_sum}
+use Rattle.tt_score.specs.Additions.{rule_cost}
 use Rattle.tt_score.specs.Apart.{cost_apart, cost_sum_without}
 use Rattle.tt_score.proofs.CostWalk.{IsSameOff}
 use Rattle.tt_score.proofs.TotalLemmas.{few_cost_sum}

@@ -4,7 +4,7 @@ use Rattle.tt_bits.specs.declared.times.Spot.{Spot}
 use Rattle.tt_problem.specs.declared.parts.Rule.{Rule}
 use Rattle.tt_problem.specs.declared.parts.Parts.{Parts}
 use Rattle.tt_problem.specs.RulePlaces.{place_in}
-use Rattle.tt_score.specs.Amounts.{rule_cost}
+use Rattle.tt_score.specs.Additions.{rule_cost}
 
 -- the cost of a rule of which the class is no member, and 0 for the others
 abbrev pub cost_apart : Parts → List (Option Spot) → (class : ℕ) → Rule → ℕ

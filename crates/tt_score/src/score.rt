@@ -48,7 +48,8 @@ impl Score {
     ghost use Rattle.tt_clash.specs.Closures.{made, relifted, without_last};
     ghost use Rattle.tt_plan.specs.Domain.{IsOfDomain, IsSpotOf, spot_at_value, spots_of};
     ghost use Rattle.tt_plan.specs.Placements.{IsPlacement};
-    ghost use Rattle.tt_score.specs.Amounts.{rule_amount, rule_cost, cost_sum};
+    ghost use Rattle.tt_score.specs.Amounts.{rule_amount, cost_sum};
+    ghost use Rattle.tt_score.specs.Additions.{rule_cost};
     ghost use Rattle.tt_score.specs.Apart.{cost_sum_without};
     ghost use Rattle.tt_score.specs.Fits.{Fits, plan_of, student_lists, closures_of, occupancy_of, roster_of, group_count};
     ghost use Rattle.tt_base.specs.Lists.{is_listed};

@@ -2,10 +2,9 @@
 use Rattle.std.specs.Prelude.{ℕ, List, [], ◌∷◌, Option, map}
 use Rattle.tt_base.specs.Lists.{first_least}
 use Rattle.tt_problem.specs.declared.parts.Parts.{Parts}
-use Rattle.tt_score.specs.Totals.{totals_of}
 use Rattle.tt_published.specs.Timetable.{Timetable}
 use Rattle.tt_published.specs.Published.{moved_in}
-use Rattle.tt_state.specs.Snapshots.{Snapshot}
+use Rattle.tt_state.specs.Snapshots.{Snapshot, totals_in}
 use Rattle.tt_suggest.specs.declared.suggestion.Suggestion.{Suggestion}
 use Rattle.tt_suggest.specs.declared.suggestion.Suggested.{Suggested}
 use Rattle.tt_suggest.specs.Tree.{Node, leaves_of, root_of, tries_of}
@@ -14,7 +13,7 @@ use Rattle.tt_suggest.specs.Tree.{Node, leaves_of, root_of, tries_of}
 abbrev pub suggestion_of : Parts → Option Timetable → Node → Suggestion
 suggestion_of p published node = record {
   moves = node.path;
-  total = (totals_of p node.snapshot.closures node.snapshot.plan node.snapshot.lists).total;
+  total = (totals_in p node.snapshot).total;
   moved = moved_in p published node.snapshot.plan;
 }
 

@@ -1,5 +1,5 @@
 -- Theorem. The tree of placements: a class gets a value, then a class that it pushed out gets one, and so on.
-use Rattle.std.specs.Prelude.{ℕ, zero, suc, ◌+◌, nat_le, Bool, not, ◌&&◌, ◌==◌, List, [], ◌∷◌, ◌++◌, Option, Some, None, is_none, length, map, fold}
+use Rattle.std.specs.Prelude.{ℕ, zero, suc, ◌+◌, nat_le, Bool, not, ◌&&◌, ◌==◌, List, [], ◌∷◌, ◌++◌, Some, None, is_none, length, map, fold}
 use Rattle.std.specs.List.{filter, flat_map, list_any, sum_by}
 use Rattle.tt_bits.specs.declared.times.Value.{Value}
 use Rattle.tt_problem.specs.declared.parts.Parts.{Parts}

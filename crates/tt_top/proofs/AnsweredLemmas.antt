@@ -15,13 +15,13 @@ use Rattle.tt_desk.specs.declared.refusal.Refusal.{Refusal}
 use Rattle.tt_desk.specs.declared.refusal.Outcome.{Outcome}
 use Rattle.tt_desk.specs.Causes.{IsMemoryCause}
 use Rattle.tt_desk.specs.Desk.{Session, Answer, carried_out, step_from, step_of, line_step}
-use Rattle.tt_desk.specs.Replies.{is_end, reply_of, replies_to}
+use Rattle.tt_desk.specs.Replies.{is_end, reply_of}
 use Rattle.tt_desk.proofs.ReplyLemmas.{cause_replies}
 use Rattle.tt_top.specs.Pieces.{ends_script, has_quit_line}
 use Rattle.tt_top.specs.Opening.{opening_line}
 use Rattle.tt_top.specs.PlainRun.{Phase}
 use Rattle.tt_top.specs.Wanting.{session_after, WantsAfter, IsWanting}
-use Rattle.tt_top.specs.Ends.{Answers, WritesFirst, WritesLess, WritesBefore}
+use Rattle.tt_top.specs.Ends.{Answers, WritesBefore, WritesFirst, WritesLess, replies_to}
 use Rattle.tt_top.proofs.ServeLemmas.{HasSent, replies-next, replies-last, reply_is_next}
 
 -- ---- the line that ends a script

@@ -1,5 +1,5 @@
 -- How a run follows the plain one.
-use Rattle.std.proofs.Common.{◌≡◌, ◌≢◌, ◌≤◌, ℕ, Bool, List, [], ◌∷◌, ◌++◌, None, Some, Option, Result, Ok, Err, refl, sym, ◌∙◌, ap, append_assoc, subst, arith, inl, inr, length, take}
+use Rattle.std.proofs.Common.{◌≡◌, ◌≢◌, ◌≤◌, ◌<◌, ℕ, Bool, List, [], ◌∷◌, ◌++◌, None, Some, Option, Result, Ok, Err, refl, sym, ◌∙◌, ap, append_assoc, subst, arith, inl, inr, length, take}
 use Rattle.std.specs.Prelude.{◌⊎◌, ◌+◌, IfErr, IfSome, IsOk, IsSome, option_and_then, option_to_list}
 use Rattle.std.specs.List.{concat}
 use Rattle.std.proofs.lemmas.List.{append-nil, length-append}
@@ -17,7 +17,7 @@ use Rattle.tt_top.specs.declared.end.Input.TheVariants.{Problem, Published}
 use Rattle.tt_top.specs.declared.end.InputFault.{InputFault}
 use Rattle.tt_top.specs.Words.{FileWords, first_words, file_words}
 use Rattle.tt_top.specs.PlainRun.{PlainRun, Phase, text_of, last_phase, script_phase}
-use Rattle.tt_top.specs.Run.{Outside, IsFront, IsFirst, IsLess, IsOwn, Follows, HasCauses, AsksInOrder}
+use Rattle.tt_top.specs.Run.{Outside, IsFront, IsFirst, IsOwn, Follows, HasCauses, AsksInOrder}
 use Rattle.tt_top.specs.Ends.{input_status, end_status, done_status, done_by, status_of, WritesFirst, WritesLess, IsFaultyAt, Fetches}
 use Rattle.tt_top.proofs.FetchLemmas.{whole_front}
 use Rattle.tt_top.proofs.EndLemmas.{over_four, at_most_one, three_or_four, none_first}
@@ -32,7 +32,7 @@ front_wrote before None whole front = ([], tt, (whole, refl))
 front_wrote None (Some now) whole front = absurd front
 front_wrote (Some before) (Some now) whole front = (front.0, front.3, (front.1, front.2))
 
-pub less_wrote : (before now : Option (List ℕ)) (whole : List ℕ) → WritesLess before now whole → (text : List ℕ) × Writes before now text × IsLess text whole
+pub less_wrote : (before now : Option (List ℕ)) (whole : List ℕ) → WritesLess before now whole → (text : List ℕ) × Writes before now text × (IsFront text whole × (length text < length whole))
 less_wrote before now whole less = (less.0, less.4, ((less.1, less.2), omega (arith, ap length less.2, length-append less.0 less.1, less.3)))
 
 -- a front of some words is one of all

@@ -8,8 +8,8 @@ use Rattle.tt_io.specs.Lines.{Counts}
 use Rattle.tt_desk.specs.declared.refusal.Outcome.{Outcome}
 use Rattle.tt_top.specs.declared.end.End.{End}
 use Rattle.tt_top.specs.declared.end.End.TheVariants.{Files, Sink, Memory, TooLong}
-use Rattle.tt_top.specs.Run.{left_open, IsReadAtMost, ReadsWithin}
-use Rattle.tt_top.specs.Phases.{HasAtMost}
+use Rattle.tt_top.specs.Run.{IsReadAtMost, ReadsWithin}
+use Rattle.tt_top.specs.Phases.{HasAtMost, left_open}
 use Rattle.tt_top.specs.Ends.{past_limit}
 
 -- ---- one file

@@ -10,19 +10,19 @@ use Rattle.std.proofs.Math.Seq.{take-append-add}
 use Rattle.tt_io.specs.Causes.{Writes}
 use Rattle.tt_io.specs.Whole.{Grows, WritesFront}
 use Rattle.tt_io.specs.Lines.{Reader, new_reader, has_line_end, leading_line, after_line, to_come, Counts, StopsIn, most_line}
-use Rattle.tt_io.proofs.WrittenLemmas.{Writes-append}
+use Rattle.tt_io.proofs.WrittenLemmas.{Writes-append, grows_by_front, grows_by_none}
 use Rattle.tt_desk.specs.declared.refusal.Refusal.TheVariants.{BadLine}
 use Rattle.tt_desk.specs.declared.refusal.Outcome.{Outcome}
 use Rattle.tt_desk.specs.declared.refusal.Outcome.TheVariants.{Skipped, Accepted, Refused, Ended}
 use Rattle.tt_script.specs.Script.{lines_of, line_of}
 use Rattle.tt_desk.specs.Causes.{IsMemoryCause}
-use Rattle.tt_desk.specs.Refusals.{refusal_line}
+use Rattle.tt_desk.specs.Lines.{refusal_line}
 use Rattle.tt_desk.specs.Desk.{Session, line_step}
-use Rattle.tt_desk.specs.Replies.{is_end, is_refused, reply_of, replies_to, refuses}
+use Rattle.tt_desk.specs.Replies.{is_end, is_refused, reply_of, refuses}
 use Rattle.tt_top.specs.declared.end.End.{End}
 use Rattle.tt_top.specs.declared.end.End.TheVariants.{Files, Sink, Memory, TooLong}
 use Rattle.tt_top.specs.Pieces.{whole_lines, ends_script, has_quit, is_long_script, answered_part, taken_of}
-use Rattle.tt_top.specs.Ends.{Serves, ServesNext, ServesSome, Answers, AnswersLine, TakesLine, EndsScript, WritesReplies, WritesFirst, past_limit, replies_within}
+use Rattle.tt_top.specs.Ends.{Answers, AnswersLine, EndsScript, Serves, ServesNext, ServesSome, TakesLine, WritesFirst, WritesReplies, past_limit, replies_to, replies_within}
 use Rattle.tt_top.proofs.ServeLemmas.{HasSent-more, HasSent-all, HasSent-first, HasSent-front, HasSent-same, replies-last, refuses-next, refused_more, reply_is_next}
 use Rattle.tt_top.proofs.AnsweredLemmas.{quit_ends, HasAnswered, answered_none, answered_more, answered_last, follows, HasLeft, left_all, left_sent, left_next, left_wants}
 use Rattle.tt_top.proofs.PieceLemmas.{first_of_lines, cut_at_end, leading_one, IsWhole, whole_empty, whole_more, lines_more, whole_is, taken_front, limit_front}
@@ -345,6 +345,15 @@ some_answered line before now d d' (Err Files) session outcome_is written memory
 some_answered line before now d d' (Err Sink) session outcome_is written memory no_files no_limit = λ ne. absurd (ne refl)
 some_answered line before now d d' (Err Memory) session outcome_is written memory no_files no_limit = λ ne. memory refl
 some_answered line before now d d' (Err TooLong) session outcome_is written memory no_files no_limit = absurd (no_limit refl)
+
+-- whatever the answer is, what is written only grew
+pub grown_by_answer : (before now : Option (List ℕ)) (reply : List ℕ) (r : Result Outcome End) → OnOk r (Writes before now reply) → (r ≡ Err Memory → now ≡ before) → (r ≡ Err Sink → WritesFront before now reply) → r ≢ Err Files → r ≢ Err TooLong
+    → Grows before now
+grown_by_answer before now reply (Ok outcome) written memory front no_files no_limit = (reply, written)
+grown_by_answer before now reply (Err Files) written memory front no_files no_limit = absurd (no_files refl)
+grown_by_answer before now reply (Err Sink) written memory front no_files no_limit = grows_by_front before now reply (front refl)
+grown_by_answer before now reply (Err Memory) written memory front no_files no_limit = grows_by_none before now (memory refl)
+grown_by_answer before now reply (Err TooLong) written memory front no_files no_limit = absurd (no_limit refl)
 
 -- there is a line of each length
 line_of_length : (n : ℕ) → (line : List ℕ) × (length line ≡ n)

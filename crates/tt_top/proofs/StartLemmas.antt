@@ -3,11 +3,11 @@ use Rattle.std.proofs.Common.{◌≡◌, ◌≢◌, ◌∙◌, sym, ap, refl, �
 use Rattle.std.specs.Prelude.{IfOk, IfErr}
 use Rattle.tt_problem.specs.declared.parts.Parts.{Parts}
 use Rattle.tt_published.specs.Timetable.{Timetable}
-use Rattle.tt_desk.specs.Desk.{Session}
+use Rattle.tt_desk.specs.Desk.{Session, opening_session}
 use Rattle.tt_top.specs.declared.end.End.{End}
 use Rattle.tt_top.specs.declared.end.End.TheVariants.{Files, Sink, Memory, TooLong}
 use Rattle.tt_top.specs.declared.end.InputFault.{InputFault}
-use Rattle.tt_top.specs.Opening.{FaultyFile, opening_session}
+use Rattle.tt_top.specs.Opening.{FaultyFile}
 use Rattle.tt_top.specs.Phases.{published_in, started, published_phase, start_phase}
 use Rattle.tt_top.specs.Ends.{Agrees, HasEndCause, seen}
 use Rattle.tt_top.specs.Started.{fetched_by}

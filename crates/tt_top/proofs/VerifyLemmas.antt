@@ -98,7 +98,7 @@ module _ (problem solution : List ℕ) (limit : ℕ) (o : Outside) where
   phase = check_phase limit o.holds problem solution
 
   is_verify_run : (names : List (List ℕ)) (r : Result Done End) → IfSome (verify_run limit o.holds problem solution) (λ p. Follows p o names (status_of r)) → AsksInOrder words o names (status_of r) → HasCauses o (status_of r) → status_of r ≢ 2 → ReadsWithin limit o.holds o.now.left names → IsVerifyRun problem solution limit o (status_of r)
-  is_verify_run names r plain asks causes no_usage reads = record { names = names; run = record { plain = plain; asks = asks; causes = causes; statuses = record { at_most = most_status r; no_usage = no_usage }; reads = reads } }
+  is_verify_run names r plain asks causes no_usage reads = record { names = names; run = record { plain = plain; asks = asks; causes = causes; at_most = most_status r; no_usage = no_usage; reads = reads } }
 
   -- ---- before anything is written
 

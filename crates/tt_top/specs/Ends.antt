@@ -1,5 +1,5 @@
 -- Proof. How the phases of a run end, and what each of them leaves.
-use Rattle.std.specs.Prelude.{◌≡◌, ◌≢◌, ◌≤◌, ◌<◌, ◌⊎◌, ℕ, Bool, true, false, ⊤, IfErr, IfSome, IsOk, IsSome, List, [], ◌∷◌, ◌++◌, length, take, codes, None, Some, Option, Result, Ok, Err, if◌then◌else◌}
+use Rattle.std.specs.Prelude.{◌≡◌, ◌≢◌, ◌≤◌, ◌<◌, ◌⊎◌, ℕ, Bool, true, false, ⊤, IfErr, IfSome, IsOk, IsSome, List, [], ◌∷◌, ◌++◌, length, map, take, codes, None, Some, Option, Result, Ok, Err, if◌then◌else◌}
 use Rattle.std.specs.List.{AllByRecursion, concat}
 use Rattle.tt_io.specs.Causes.{Writes, one_more, AsksAll}
 use Rattle.tt_io.specs.Whole.{WritesFront}
@@ -9,7 +9,7 @@ use Rattle.tt_desk.specs.declared.refusal.Outcome.{Outcome}
 use Rattle.tt_desk.specs.declared.refusal.Outcome.TheVariants.{Ended}
 use Rattle.tt_desk.specs.Causes.{IsMemoryCause}
 use Rattle.tt_desk.specs.Desk.{Session, line_step}
-use Rattle.tt_desk.specs.Replies.{is_end, reply_of, replies_to, refuses}
+use Rattle.tt_desk.specs.Replies.{is_end, reply_of, script_steps, refuses}
 use Rattle.tt_top.specs.declared.end.End.{End}
 use Rattle.tt_top.specs.declared.end.End.TheVariants.{Files, Sink, Memory, TooLong}
 use Rattle.tt_top.specs.declared.end.Done.{Done}
@@ -24,6 +24,10 @@ use Rattle.tt_top.specs.Wanting.{WantsAfter}
 use Rattle.tt_top.specs.PlainRun.{PlainRun, text_of, Phase, ends, read_phase}
 use Rattle.tt_top.specs.Run.{Outside, moment, IsFront, ReadsWithin}
 use Rattle.tt_top.specs.Phases.{HasAtMost}
+
+-- a reply for each of these lines
+abbrev pub replies_to : Session → List (List ℕ) → List (List ℕ)
+replies_to s lines = map reply_of (script_steps s lines)
 
 -- ---- files with a fault
 

@@ -1,5 +1,5 @@
 -- Theorem. The session that the files open, and what is written of it.
-use Rattle.std.specs.Prelude.{ℕ, List, [], ◌∷◌, ◌++◌, length, None, Some, Option, Result, Ok, Err, codes}
+use Rattle.std.specs.Prelude.{ℕ, List, ◌∷◌, ◌++◌, length, map, None, Some, Option, Result, Ok, Err, codes}
 use Rattle.tt_problem.specs.declared.parts.Parts.{Parts}
 use Rattle.tt_fields.specs.Answer.{Fault}
 use Rattle.tt_fields.specs.Faults.{fault_number}
@@ -8,8 +8,8 @@ use Rattle.tt_published.specs.Timetable.{Timetable}
 use Rattle.tt_solution.specs.Tables.{published_of}
 use Rattle.tt_text.specs.Fields.{field}
 use Rattle.tt_base.specs.Chain.{◌>>=◌}
-use Rattle.tt_desk.specs.Desk.{Session, opening_desk}
-use Rattle.tt_desk.specs.Replies.{replies_to}
+use Rattle.tt_desk.specs.Desk.{Session, opening_session}
+use Rattle.tt_desk.specs.Replies.{reply_of, script_steps}
 
 -- ---- the files before the script
 
@@ -37,11 +37,8 @@ abbrev pub read_if_any : {A B E : Type 0} → (A → Result B E) → Option A �
 read_if_any read None = Ok None
 read_if_any read (Some x) = read x >>= λ found. Ok (Some found)
 
--- the session with which the script begins
-abbrev pub opening_session : Parts → Option Timetable → Session
-opening_session p t = record { desk = opening_desk p; published = t }
-
--- the same by what the files hold, or the first file that has a fault; nothing is published where there is no such file
+-- the session with which the script begins, by what the files hold, or the first file that has a fault; nothing is published
+-- where there is no such file
 unfoldable pub opened : (problem : List ℕ) → (published : Option (List ℕ)) → Result Session FaultyFile
 opened problem published = do
   p ← problem_read (problem_of problem)
@@ -61,9 +58,4 @@ opening_line p =
 
 -- the opening line, which is written before the script is opened, and the replies to these lines
 abbrev pub session_pieces : Session → (lines : List (List ℕ)) → List (List ℕ)
-session_pieces s lines = opening_line s.desk.problem ∷ replies_to s lines
-
--- the same; where a file has a fault, the line on it alone
-abbrev pub opened_pieces : Result Session FaultyFile → (lines : List (List ℕ)) → List (List ℕ)
-opened_pieces (Err faulty) lines = faulty.line ∷ []
-opened_pieces (Ok s) lines = session_pieces s lines
+session_pieces s lines = opening_line s.desk.problem ∷ map reply_of (script_steps s lines)

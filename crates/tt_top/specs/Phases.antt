@@ -1,12 +1,16 @@
 -- Proof. What single phases of a run give.
-use Rattle.std.specs.Prelude.{ℕ, List, [], ◌∷◌, Option, Result, Ok, IfSome, length, ◌≤◌}
+use Rattle.std.specs.Prelude.{ℕ, Bool, List, [], ◌∷◌, Option, None, Result, Ok, IfSome, if◌then◌else◌, length, ◌≤◌}
 use Rattle.tt_problem.specs.declared.parts.Parts.{Parts}
 use Rattle.tt_published.specs.Timetable.{Timetable}
 use Rattle.tt_solution.specs.Tables.{published_of}
 use Rattle.tt_base.specs.Chain.{◌>>=◌}
-use Rattle.tt_desk.specs.Desk.{Session}
-use Rattle.tt_top.specs.Opening.{FaultyFile, read_if_any, opening_session, timetable_read}
+use Rattle.tt_desk.specs.Desk.{Session, opening_session}
+use Rattle.tt_top.specs.Opening.{FaultyFile, read_if_any, timetable_read}
 use Rattle.tt_top.specs.PlainRun.{Phase, PlainRun, checking, problem_phase, timetable_phase}
+
+-- what is left of the open file, where one is open and it is told
+abbrev pub left_open : Bool → Option (List ℕ) → Option (List ℕ)
+left_open is_open left = if is_open then left else None
 
 -- what a published file gives, and nothing is published where there is no such file
 abbrev pub published_in : Parts → Option (List ℕ) → Result (Option Timetable) FaultyFile

@@ -9,12 +9,12 @@ use Rattle.tt_make.specs.Text.{make_text}
 use Rattle.tt_text.specs.Fields.{field}
 use Rattle.tt_base.specs.Chain.{◌>>=◌}
 use Rattle.tt_script.specs.Script.{lines_of}
-use Rattle.tt_desk.specs.Desk.{Session}
+use Rattle.tt_desk.specs.Desk.{Session, opening_session}
 use Rattle.tt_desk.specs.Replies.{refuses}
 use Rattle.tt_verify.specs.Verified.{verified_text}
 use Rattle.tt_verify.specs.Violations.{violations_of}
 use Rattle.tt_top.specs.Words.{FileWords, first_words, file_words, usage_line}
-use Rattle.tt_top.specs.Opening.{FaultyFile, read_if_any, problem_read, timetable_read, opening_session, opened, session_pieces}
+use Rattle.tt_top.specs.Opening.{FaultyFile, read_if_any, problem_read, timetable_read, opened, session_pieces}
 use Rattle.tt_top.specs.Pieces.{is_long_script, answered_part}
 
 -- what a plain run does: what it writes, piece by piece, the status with which it ends, and the names that it asks for
@@ -118,14 +118,14 @@ verify_run limit holds problem solution = last_phase (do
 abbrev pub demo_script : (seed turns : ℕ) → List ℕ
 demo_script seed turns = field (codes "enrol all\nsearch ") turns ++ field (codes " ") seed ++ codes "\ntotals\nundo\nundo\n"
 
--- the run of a script that asks for no file, by the session that a problem opens, or its fault
-abbrev pub made_run : (script : List ℕ) → Result Session FaultyFile → PlainRun
-made_run script (Ok s) = answering [] s (lines_of script)
-made_run script (Err faulty) = record { pieces = faulty.line ∷ []; status = faulty.status; names = [] }
+-- the run that answers these lines in the session that was opened, or writes the line on a fault; it asks for no file
+abbrev pub made_run : (lines : List (List ℕ)) → Result Session FaultyFile → PlainRun
+made_run lines (Ok s) = answering [] s lines
+made_run lines (Err faulty) = record { pieces = faulty.line ∷ []; status = faulty.status; names = [] }
 
 -- the run of `demo`: the generated text is the problem
 abbrev pub demo_run : (seed classes turns : ℕ) → PlainRun
-demo_run seed classes turns = made_run (demo_script seed turns) (opened (make_text seed classes) None)
+demo_run seed classes turns = made_run (lines_of (demo_script seed turns)) (opened (make_text seed classes) None)
 
 -- the run of `make`: the generated text and a line end
 abbrev pub make_run : (seed classes : ℕ) → PlainRun

@@ -5,9 +5,9 @@ use Rattle.tt_io.specs.Causes.{Writes, one_more, AsksAll, most_read}
 use Rattle.tt_make.specs.Text.{make_text}
 use Rattle.tt_script.specs.Script.{lines_of}
 use Rattle.tt_top.specs.Words.{FileWords, Form, Files, Verify, Demo, Make, first_words, file_words, verify_words}
-use Rattle.tt_top.specs.Opening.{opened, opened_pieces}
+use Rattle.tt_top.specs.Opening.{opened}
 use Rattle.tt_top.specs.Pieces.{has_quit, taken_of, whole_lines}
-use Rattle.tt_top.specs.PlainRun.{PlainRun, text_of, file_run, lines_run, verify_run, demo_script, demo_run, make_run, usage_run}
+use Rattle.tt_top.specs.PlainRun.{PlainRun, text_of, file_run, lines_run, verify_run, demo_script, demo_run, made_run, make_run, usage_run}
 use Rattle.tt_top.specs.Wanting.{served_phase, made_phase, IsWanting}
 
 -- the most bytes of a file
@@ -25,13 +25,9 @@ pub record Moment : Type 0 where
   pub files : ℕ
   pub sink : ℕ
 
--- what is left of the open file, where one is open and it is told
-abbrev pub left_open : Bool → Option (List ℕ) → Option (List ℕ)
-left_open is_open left = if is_open then left else None
-
--- the moment at which this is told
+-- the moment at which this is told; of a file that isn't open nothing is left
 abbrev pub moment : (asked : Option (List (List ℕ))) → (is_open : Bool) → (left written : Option (List ℕ)) → (files sink : ℕ) → Moment
-moment asked is_open left written files sink = record { asked = asked; left = left_open is_open left; written = written; files = files; sink = sink }
+moment asked is_open left written files sink = record { asked = asked; left = if is_open then left else None; written = written; files = files; sink = sink }
 
 -- the bytes that the files hold under a name, where they are told, and the moments before the run and after it
 pub record Outside : Type 0 where
@@ -52,10 +48,6 @@ IsFront {A} xs ys = (rest : List A) × (ys ≡ xs ++ rest)
 -- The text is the first of these pieces, each whole.
 abbrev pub IsFirst : (text : List ℕ) → (pieces : List (List ℕ)) → Type 0
 IsFirst text pieces = (count : ℕ) × (text ≡ concat (take count pieces))
-
--- The text is a front of the whole, and not the whole.
-abbrev pub IsLess : (text whole : List ℕ) → Type 0
-IsLess text whole = IsFront text whole × (length text < length whole)
 
 -- ---- what all runs do
 
@@ -113,17 +105,13 @@ pub record AsksInOrder (words : FileWords) (o : Outside) (names : List (List ℕ
 abbrev pub AsksScript : FileWords → (names : List (List ℕ)) → Type 0
 AsksScript words names = length (first_words words) < length names
 
--- the statuses that a run with files can have
-pub record IsStatus (status : ℕ) : Type 0 where
-  pub at_most : status ≤ 8
-  pub no_usage : status ≢ 2
-
 -- What a run does that asks for files, where this is the plain run if the files tell it, and a file has at most so many bytes.
 pub record UsesFiles (words : FileWords) (limit : ℕ) (due : Option PlainRun) (o : Outside) (names : List (List ℕ)) (status : ℕ) : Type 0 where
   pub plain : IfSome due (λ r. Follows r o names status)
   pub asks : AsksInOrder words o names status
   pub causes : HasCauses o status
-  pub statuses : IsStatus status
+  pub at_most : status ≤ 8
+  pub no_usage : status ≢ 2
   -- at most 65,536 bytes beyond the limit are read of any file, also where a read fails
   pub reads : ReadsWithin limit o.holds o.now.left names
 
@@ -141,7 +129,7 @@ pub record IsDeskText (text : List ℕ) : Type 0 where
   pub problem : List ℕ
   pub published : Option (List ℕ)
   pub lines : List (List ℕ)
-  pub first : IsFirst text (opened_pieces (opened problem published) lines)
+  pub first : IsFirst text (made_run lines (opened problem published)).pieces
 
 -- What a run does that answers a script, or checks a problem, where a file has at most so many bytes.
 pub record IsFileRun (words : FileWords) (limit : ℕ) (o : Outside) (status : ℕ) : Type 0 where
@@ -170,7 +158,7 @@ pub record IsVerifyRun (problem solution : List ℕ) (limit : ℕ) (o : Outside)
 pub record IsPlainRun (r : PlainRun) (o : Outside) (status : ℕ) : Type 0 where
   pub plain : Follows r o [] status
   -- where memory is wanting, less than the whole is written
-  pub wanting : status ≡ 7 → Wrote o (λ text. IsLess text (text_of r))
+  pub wanting : status ≡ 7 → Wrote o (λ text. IsFront text (text_of r) × (length text < length (text_of r)))
   -- the status is that of the plain run, or says that a write failed or memory is wanting
   pub statuses : (status ≡ r.status) ⊎ ((status ≡ 6) ⊎ (status ≡ 7))
   pub causes : HasCauses o status
@@ -180,7 +168,7 @@ pub record IsPlainRun (r : PlainRun) (o : Outside) (status : ℕ) : Type 0 where
 pub record IsDemoRun (seed classes turns : ℕ) (o : Outside) (status : ℕ) : Type 0 where
   pub run : IsPlainRun (demo_run seed classes turns) o status
   -- where memory is wanting, it is so before the first line, or for the command of the first line that wasn't answered
-  pub wanting : status ≡ 7 → IsWanting (made_phase (demo_script seed turns) (opened (make_text seed classes) None)) o.before.written o.now.written
+  pub wanting : status ≡ 7 → IsWanting (made_phase (lines_of (demo_script seed turns)) (opened (make_text seed classes) None)) o.before.written o.now.written
 
 -- Words of no form give the usage line, for which no memory is wanted.
 pub record IsUsage (o : Outside) (status : ℕ) : Type 0 where

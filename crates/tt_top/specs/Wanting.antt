@@ -31,10 +31,10 @@ served_phase limit holds words = do
   script ← script_phase holds words.script
   Ok (s, lines_of (answered_part limit script))
 
--- the session that a problem opens, and the lines of a script that asks for no file
-abbrev pub made_phase : (script : List ℕ) → Result Session FaultyFile → Phase (Session × List (List ℕ))
-made_phase script (Ok s) = Ok (s, lines_of script)
-made_phase script (Err faulty) = Err (Some (made_run script (Err faulty)))
+-- the session that was opened, and the lines that are answered, where no file is asked for
+abbrev pub made_phase : (lines : List (List ℕ)) → Result Session FaultyFile → Phase (Session × List (List ℕ))
+made_phase lines (Ok s) = Ok (s, lines)
+made_phase lines (Err faulty) = Err (Some (made_run lines (Err faulty)))
 
 -- What was written where memory is wanting: nothing, or the first line and the replies to the lines before one whose command wants
 -- memory. Where a file ends the run it is nothing.

@@ -21,8 +21,9 @@ use Rattle.tt_clash.specs.Blocked.{is_closed}
 use Rattle.tt_occupancy.specs.Clashes.{clash, clash_pairs}
 use Rattle.tt_pair.specs.ViolatedPairs.{is_violated, violated_pairs}
 use Rattle.tt_plan.specs.Domain.{spot_at_value, spots_of}
-use Rattle.tt_score.specs.Amounts.{hard_of, hard_sum, held_by, kind_hard, one_if_any, rule_amount, rule_hard}
-use Rattle.tt_score.specs.Placed.{closed_count, over_placed, paid_at}
+use Rattle.tt_score.specs.Amounts.{hard_of, hard_sum, held_by, kind_hard, one_if_any, rule_amount}
+use Rattle.tt_score.specs.Additions.{paid_at, rule_hard}
+use Rattle.tt_score.specs.Placed.{closed_count, over_placed}
 use Rattle.tt_score.specs.Totals.{totals_of}
 use Rattle.tt_score.proofs.PlanLemmas.{spot_in}
 use Rattle.tt_verify.specs.declared.violation.Violation.{Violation}

@@ -4,7 +4,8 @@ use Rattle.std.proofs.lemmas.List.Elements.{All-get_or}
 use Rattle.tt_roster.specs.Lists.{Ascends}
 use Rattle.tt_state.specs.Snapshots.{list_in}
 use Rattle.tt_verify.specs.Pairs.{pairs_with, related_pairs}
-use Rattle.tt_explain.specs.Student.{conflict_between, student_pairs, pair_line}
+use Rattle.tt_explain.specs.Student.{student_pairs, pair_line}
+use Rattle.tt_explain.specs.Pairs.{conflict_between}
 use Rattle.tt_explain.proofs.LineLemmas.{next_written, all_written, related_lines-more, pair_lines-none}
 use Rattle.tt_explain.proofs.ListLemmas.{drop-tail, length-ascending}
 use Rattle.tt_explain.proofs.attending.add_pair_lines.Goals as goal

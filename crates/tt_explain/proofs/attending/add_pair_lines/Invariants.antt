@@ -2,7 +2,8 @@ use Rattle.std.proofs.Common.{◌≡◌, ◌≤◌, ◌+◌, ◌++◌, drop, len
 use Rattle.std.specs.List.{flat_map}
 use Rattle.tt_state.specs.Snapshots.{list_in}
 use Rattle.tt_verify.specs.Pairs.{related_pairs}
-use Rattle.tt_explain.specs.Student.{conflict_between, student_pairs, pair_line}
+use Rattle.tt_explain.specs.Student.{student_pairs, pair_line}
+use Rattle.tt_explain.specs.Pairs.{conflict_between}
 use Rattle.tt_explain.proofs.attending.add_pair_lines.Given as goal
 
 abbrev pub invariant-loop-class : goal.invariant-loop-class

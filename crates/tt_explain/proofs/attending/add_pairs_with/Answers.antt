@@ -1,7 +1,8 @@
 use Rattle.std.proofs.Common.{◌≡◌, [], ◌∷◌, List, ℕ, ap, ◌∙◌, rules}
 use Rattle.std.specs.List.{flat_map}
 use Rattle.tt_verify.specs.Pairs.{pairs_with}
-use Rattle.tt_explain.specs.Student.{conflict_between, pair_line}
+use Rattle.tt_explain.specs.Student.{pair_line}
+use Rattle.tt_explain.specs.Pairs.{conflict_between}
 use Rattle.tt_explain.proofs.LineLemmas.{next_written, all_written, pair_lines-more, pair_lines-none}
 use Rattle.tt_explain.proofs.attending.add_pairs_with.Goals as goal
 

@@ -1,7 +1,7 @@
 use Rattle.std.proofs.Common.{◌≡◌, ◌+◌, ◌∷◌, length, arith}
 use Rattle.tt_roster.specs.Lists.{Ascends}
 use Rattle.tt_roster.proofs.ListLemmas.{Ascends-lower}
-use Rattle.tt_explain.specs.Student.{conflict_between}
+use Rattle.tt_explain.specs.Pairs.{conflict_between}
 use Rattle.tt_explain.proofs.PairLemmas.{times_more}
 use Rattle.tt_explain.proofs.pairs.count_pairs_with.Goals as goal
 

@@ -2,8 +2,7 @@ use Rattle.std.proofs.Common.{◌≡◌, ℕ, ◌+◌, length}
 use Rattle.std.specs.Prelude.{slice_index}
 use Rattle.tt_roster.specs.Lists.{Ascends}
 use Rattle.tt_verify.specs.Pairs.{pairs_with}
-use Rattle.tt_explain.specs.Pairs.{times_in}
-use Rattle.tt_explain.specs.Student.{conflict_between}
+use Rattle.tt_explain.specs.Pairs.{conflict_between, times_in}
 use Rattle.tt_explain.proofs.pairs.count_pairs_with.Given as goal
 
 abbrev pub invariant-loop-other : goal.invariant-loop-other

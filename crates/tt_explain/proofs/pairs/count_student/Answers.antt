@@ -3,7 +3,8 @@ use Rattle.std.proofs.lemmas.List.Elements.{All-get_or}
 use Rattle.tt_roster.specs.Lists.{Ascends}
 use Rattle.tt_roster.proofs.ListLemmas.{Ascends-lower}
 use Rattle.tt_state.specs.Snapshots.{list_in}
-use Rattle.tt_explain.specs.Student.{conflict_between, student_pairs}
+use Rattle.tt_explain.specs.Student.{student_pairs}
+use Rattle.tt_explain.specs.Pairs.{conflict_between}
 use Rattle.tt_explain.proofs.ListLemmas.{drop-tail, length-ascending}
 use Rattle.tt_explain.proofs.PairLemmas.{times_parted}
 use Rattle.tt_explain.proofs.pairs.count_student.Goals as goal

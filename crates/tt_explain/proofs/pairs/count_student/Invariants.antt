@@ -3,8 +3,7 @@ use Rattle.std.specs.Prelude.{slice_index}
 use Rattle.tt_roster.specs.Lists.{Ascends}
 use Rattle.tt_state.specs.Snapshots.{list_in}
 use Rattle.tt_verify.specs.Pairs.{related_pairs}
-use Rattle.tt_explain.specs.Pairs.{pairs_of, times_in}
-use Rattle.tt_explain.specs.Student.{conflict_between}
+use Rattle.tt_explain.specs.Pairs.{conflict_between, pairs_of, times_in}
 use Rattle.tt_explain.proofs.pairs.count_student.Given as goal
 
 abbrev pub invariant-loop-class : goal.invariant-loop-class

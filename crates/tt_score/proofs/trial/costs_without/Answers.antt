@@ -1,6 +1,7 @@
 use Rattle.std.proofs.Common.{◌≡◌, ◌∙◌, ◌+◌, get_or, drop, arith, ap}
 use Rattle.tt_problem.specs.declared.parts.RulePlace.{RulePlace}
-use Rattle.tt_score.specs.Amounts.{cost_of, rule_cost}
+use Rattle.tt_score.specs.Amounts.{cost_of}
+use Rattle.tt_score.specs.Additions.{rule_cost}
 use Rattle.tt_score.specs.Apart.{cost_apart}
 use Rattle.tt_score.specs.Members.{IsGroupOf}
 use Rattle.tt_score.proofs.AmountLemmas.{amount_is}

@@ -1,5 +1,5 @@
 use Rattle.std.proofs.Common.{drop}
-use Rattle.tt_score.specs.Amounts.{rule_cost}
+use Rattle.tt_score.specs.Additions.{rule_cost}
 use Rattle.tt_score.specs.Apart.{cost_apart}
 use Rattle.tt_score.proofs.CostWalk.{IsSumUpTo}
 use Rattle.tt_score.proofs.trial.costs_without.Given as goal
