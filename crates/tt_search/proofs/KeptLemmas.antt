@@ -1,6 +1,6 @@
 -- A class that is locked stays where it is, and locked, on the whole way of a search.
 use Rattle.std.proofs.Common.{◌≡◌, ◌≢◌, ℕ, zero, suc, Bool, true, false, Option, Some, None, List, [], ◌∷◌, length, refl, ap, sym, subst, ◌∙◌, arith}
-use Rattle.std.specs.Prelude.{All, IfSome, is_none, is_some, map, not, option_map, slice_get, slice_index_or}
+use Rattle.std.specs.Prelude.{All, IfSome, drop, is_none, is_some, map, not, option_map, slice_get, slice_index_or}
 use Rattle.std.specs.List.{best_of, list_any, range_with_len}
 use Rattle.std.specs.Option.{option_map_or}
 use Rattle.std.proofs.lemmas.Bool.{and_parts}
@@ -15,6 +15,7 @@ use Rattle.tt_bits.specs.declared.times.Value.{Value}
 use Rattle.tt_draw.specs.Draws.{drawn, random_words}
 use Rattle.tt_problem.specs.declared.parts.Parts.{Parts}
 use Rattle.tt_plan.specs.Domain.{IsOfDomain, domain_of}
+use Rattle.tt_plan.specs.declared.placement.Placement.{Placement}
 use Rattle.tt_plan.proofs.DomainLaws.{IsOfDomain_iff}
 use Rattle.tt_published.specs.Timetable.{Timetable}
 use Rattle.tt_state.specs.Snapshots.{Snapshot, StaysLocked, is_locked_in, value_in}
@@ -27,12 +28,17 @@ use Rattle.tt_search.specs.PlaceTurns.{PlaceMoment, after_forcing, after_places,
 use Rattle.tt_search.specs.UnderWay.{place_end, places_after, search_end}
 use Rattle.tt_search.specs.Least.{IsFirstLeast}
 use Rattle.tt_search.specs.Numbers.{IsAvailable}
-use Rattle.tt_search.proofs.ChoiceLemmas.{free_of}
+use Rattle.tt_search.specs.LeastNow.{IsPlacementOf}
+use Rattle.tt_search.proofs.ChoiceLemmas.{free_of, rest_at}
 use Rattle.tt_search.proofs.FirstLemmas.{ends_at_first, place_ends_at_first}
 
 -- what all of a list have, each that stands at a place has
 pub each_at : {A : Type 0} (P : A → Type 0) (xs : List A) (k : ℕ) (x : A) → All P xs → slice_get xs k ≡ Some x → P x
 each_at P xs k x all is = rw (get_or_from_slice_get xs k x x is) at (all k x (slice_get_within xs k x is))
+
+-- so of a placement that stands in what is left of a list of a class's placements
+pub stands_at : (p : Parts) (class : ℕ) (items whole : List Placement) (k : ℕ) (x : Placement) → All (IsPlacementOf p class) whole → drop k items ≡ drop k whole → slice_get items k ≡ Some x → IsPlacementOf p class x
+stands_at p class items whole k x all rest at = each_at (IsPlacementOf p class) whole k x all (rest_at items whole k x rest at).0
 
 all_cons : {A : Type 0} (P : A → Type 0) (x : A) (xs : List A) → P x → All P xs → All P (x ∷ xs)
 all_cons P x xs first rest zero d lt = first

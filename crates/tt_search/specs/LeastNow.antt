@@ -1,9 +1,11 @@
 -- Proof. Which values of a class the code of a turn has found to be least so far.
-use Rattle.std.specs.Prelude.{ℕ, ◌≡◌, ◌<◌, ◌≤◌, List, [], ◌∷◌, ◌++◌, Option, length, take, vec_capacity}
+use Rattle.std.specs.Prelude.{ℕ, ◌≡◌, ◌<◌, ◌≤◌, List, [], ◌∷◌, ◌++◌, Option, length, map, take, vec_capacity}
 use Rattle.std.specs.Option.{option_map}
 use Rattle.tt_base.specs.Lists.{first_least}
 use Rattle.tt_bits.specs.declared.times.Value.{Value}
 use Rattle.tt_plan.specs.Domain.{domain_of}
+use Rattle.tt_plan.specs.Placements.{IsPlacement}
+use Rattle.tt_plan.specs.declared.placement.Placement.{Placement}
 use Rattle.tt_problem.specs.declared.parts.Parts.{Parts}
 use Rattle.tt_search.specs.declared.least.Kept.{Kept}
 use Rattle.tt_search.specs.declared.least.LeastValues.{LeastValues}
@@ -21,9 +23,18 @@ pub record AreLeastBy {A : Type 0} (numbers : A → List ℕ) (xs : List A) (lea
   pub items : found ≡ all_least numbers xs
   pub lowest : least ≡ option_map numbers (first_least numbers xs)
 
+-- it is a placement of this class
+pub record IsPlacementOf (p : Parts) (class : ℕ) (x : Placement) : Type 0 where
+  pub class_is : x.class ≡ class
+  pub placement : IsPlacement p x
+
+-- the values of these placements
+abbrev pub values_of : List Placement → List Value
+values_of xs = map (λ x. x.value) xs
+
 -- what is kept are the values of a list with the least price, and it is this
 abbrev pub AreLightest : (prices : Value → List ℕ) → List Value → LeastValues → Type 0
-AreLightest prices xs l = AreLeastBy prices xs (option_map price_numbers l.price) l.values.items
+AreLightest prices xs l = AreLeastBy prices xs (option_map price_numbers l.price) (values_of l.values.items)
 
 -- the numbers of one kind, and behind them those of another
 abbrev pub then_by : {A : Type 0} → (front rest : A → List ℕ) → A → List ℕ

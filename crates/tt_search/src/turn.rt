@@ -1,13 +1,13 @@
 //! A turn: the class that is drawn, and the value of the least price.
 
-ghost use Rattle.std.specs.Prelude.{◌≡◌, ◌+◌, ◌<◌, ◌≤◌, ◌∷◌, ◌++◌, [], List, IfSome, length, vec_capacity};
+ghost use Rattle.std.specs.Prelude.{◌≡◌, ◌+◌, ◌<◌, ◌≤◌, ◌∷◌, ◌++◌, [], All, List, IfSome, length, vec_capacity};
 ghost use Rattle.std.specs.List.{filter};
 ghost use Rattle.std.specs.Option.{option_map};
 ghost use Rattle.tt_published.specs.Aim.{IsAimOf};
 ghost use Rattle.tt_plan.specs.Domain.{IsOfDomain};
 ghost use Rattle.tt_search.specs.Turns.{available_values, chosen_value, is_available, turn_of};
 ghost use Rattle.tt_search.specs.Drawing.{AreCandidates};
-ghost use Rattle.tt_search.specs.LeastNow.{AreLightest, HasRoomForValues};
+ghost use Rattle.tt_search.specs.LeastNow.{AreLightest, HasRoomForValues, IsPlacementOf};
 ghost use Rattle.tt_search.specs.Numbers.{IsAvailable, MayMake, after_making, prices_of};
 
 use crate::drawing::Candidates;
@@ -42,6 +42,8 @@ fn look_at(state: &mut State, aim: &Aim, class: u32, value: Value, least: &mut L
         → AreLightest (prices_of state.old.problem aim.now state.old.present class)
         (xs ++ filter (is_available state.old.problem state.old.present class) (value ∷ []))
         least.new }
+    ensures placements { All (IsPlacementOf state.old.problem class) least.old.values.items
+        → All (IsPlacementOf state.old.problem class) least.new.values.items }
 {
     let placement = state.placement(class, value);
     if !may_be_offered(state, &placement, least.price()) {
@@ -49,7 +51,7 @@ fn look_at(state: &mut State, aim: &Aim, class: u32, value: Value, least: &mut L
     }
     let weight = state.tolls(class, value);
     let strays = is_stray(state.problem(), aim, class, value);
-    least.take(value, Price { weight, strays });
+    least.take(&placement, Price { weight, strays });
 }
 
 // Finds the available values of a class that have the least price.
@@ -63,6 +65,7 @@ fn find_lightest(state: &mut State, aim: &Aim, class: u32, least: &mut LeastValu
     ensures room { HasRoomForValues state.old.problem least.new }
     ensures lightest { AreLightest (prices_of state.old.problem aim.now state.old.present class)
         (available_values state.old.problem state.old.present class) least.new }
+    ensures placements { All (IsPlacementOf state.old.problem class) least.new.values.items }
 {
     least.clear();
     for k in 0..domain_size(state.problem(), class) {

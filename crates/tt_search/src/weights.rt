@@ -1,11 +1,11 @@
 //! How hard each class is: what it weighs in `place`.
 
-ghost use Rattle.std.specs.Prelude.{◌≡◌, ◌+◌, ◌<◌, ◌≤◌, ◌^◌, ◌∷◌, ◌++◌, [], ℕ, List, IfOk, count_by, length, nat_eq, slice_index_or, vec_capacity};
+ghost use Rattle.std.specs.Prelude.{◌≡◌, ◌+◌, ◌<◌, ◌≤◌, ◌^◌, ◌∷◌, ◌++◌, [], ℕ, All, List, IfOk, count_by, length, nat_eq, slice_index_or, vec_capacity};
 ghost use Rattle.tt_base.specs.Limits.{most_classes, most_values};
 ghost use Rattle.std.specs.List.{filter, sum_by};
 ghost use Rattle.tt_plan.specs.Domain.{IsOfDomain};
 ghost use Rattle.tt_search.specs.Turns.{available_values, is_available};
-ghost use Rattle.tt_search.specs.LeastNow.{AreLightest, HasRoomForValues};
+ghost use Rattle.tt_search.specs.LeastNow.{AreLightest, HasRoomForValues, IsPlacementOf};
 ghost use Rattle.tt_search.specs.PlacingNow.{CountsOuts, prices_by, taken_by, weight_by};
 
 use crate::least::LeastValues;
@@ -98,6 +98,8 @@ impl ClassWeights {
             (prices_by state.old.problem state.old.present self.now.outs.items class)
             (xs ++ filter (is_available state.old.problem state.old.present class) (value ∷ []))
             least.new }
+        ensures placements { All (IsPlacementOf state.old.problem class) least.old.values.items
+            → All (IsPlacementOf state.old.problem class) least.new.values.items }
     {
         let placement = state.placement(class, value);
         if !may_be_offered(state, &placement, least.price()) {
@@ -108,7 +110,7 @@ impl ClassWeights {
             weight,
             strays: false,
         };
-        least.take(value, price);
+        least.take(&placement, price);
     }
 
     // Finds the available values of a class that have the least price.
@@ -124,6 +126,7 @@ impl ClassWeights {
         ensures lightest { AreLightest
             (prices_by state.old.problem state.old.present self.now.outs.items class)
             (available_values state.old.problem state.old.present class) least.new }
+        ensures placements { All (IsPlacementOf state.old.problem class) least.new.values.items }
     {
         least.clear();
         for k in 0..domain_size(state.problem(), class) {

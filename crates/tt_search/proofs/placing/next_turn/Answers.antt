@@ -6,7 +6,7 @@ use Rattle.tt_search.specs.Numbers.{IsAvailable}
 use Rattle.tt_search.specs.PlacingNow.{burden_by, prices_by}
 use Rattle.tt_search.proofs.ChoiceLemmas.{least_by_both}
 use Rattle.tt_search.proofs.DrawingLemmas.{drawn_below}
-use Rattle.tt_search.proofs.KeptLemmas.{least_available, least_of_domain, standing_available}
+use Rattle.tt_search.proofs.KeptLemmas.{least_available, standing_available}
 use Rattle.tt_search.proofs.PlacingLemmas.{least_same, no_class, one_class}
 use Rattle.tt_search.proofs.placing.next_turn.Goals as goal
 
@@ -26,11 +26,8 @@ keep_least-requires-clause-class c =
     let start = c.args.state.now in
     rw c.find_lightest.ensures.problem (drawn_below start.problem start.present c.args.class_word _ (sym (c.drawn.ensures start.problem start.present c.requires.candidates) ∙ c.in-Some.is))
 
-pub keep_least-requires-clause-values : goal.keep_least-requires-clause-values
-keep_least-requires-clause-values c =
-    let start = c.args.state.now in
-    let found = c.find_lightest.ensures in
-    rw found.problem (least_of_domain start.problem start.present c.in-Some.class (prices_by start.problem start.present c.args.weights.now.outs.items c.in-Some.class) _ found.lightest.items)
+pub keep_least-requires-clause-placements : goal.keep_least-requires-clause-placements
+keep_least-requires-clause-placements c = rw c.find_lightest.ensures.problem c.find_lightest.ensures.placements
 
 pub returns-clause-turn : goal.returns-clause-turn
 returns-clause-turn c = λ outs counts.

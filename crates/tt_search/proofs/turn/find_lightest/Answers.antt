@@ -14,6 +14,7 @@ loop-k-init c =
       entries = refl;
       room = λ other below. omega (arith, c.clear.ensures.room, c.requires.room other below);
       few = rw c.clear.ensures.values (omega arith);
+      placements = rw c.clear.ensures.values (λ k d lt. absurd (omega (arith, lt)));
       lightest = none_found (prices_of start.problem c.args.aim.now start.present c.args.class) c.clear.new.self c.clear.ensures.price c.clear.ensures.values;
     }
 
@@ -35,5 +36,6 @@ loop-k-preserved c =
       entries = cc;
       room = λ other below. omega (arith, c.look_at.ensures.room, c.loop-k.invariant.room other below);
       few = omega (arith, c.look_at.ensures.few, c.loop-k.invariant.few);
+      placements = (rw problem at c.look_at.ensures.placements) c.loop-k.invariant.placements;
       lightest = one_further (prices_of start.problem c.args.aim.now start.present c.args.class) (is_available start.problem start.present c.args.class) (domain_of start.problem c.args.class) c.loop-k.k c.value_at-value.result c.look_at.new.least at (looked _ c.loop-k.invariant.lightest);
     }

@@ -1,7 +1,8 @@
 use Rattle.std.proofs.Common.{◌≡◌, ◌≤◌, length, take}
+use Rattle.std.specs.Prelude.{All}
 use Rattle.std.specs.List.{filter}
 use Rattle.tt_plan.specs.Domain.{domain_of}
-use Rattle.tt_search.specs.LeastNow.{AreLightest, HasRoomForValues}
+use Rattle.tt_search.specs.LeastNow.{AreLightest, HasRoomForValues, IsPlacementOf}
 use Rattle.tt_search.specs.Numbers.{prices_of}
 use Rattle.tt_search.specs.Turns.{is_available}
 use Rattle.tt_search.proofs.turn.find_lightest.Given as goal
@@ -15,5 +16,6 @@ invariant-loop-k l =
       entries : l.state.entries ≡ start.entries;
       room : HasRoomForValues start.problem l.least;
       few : length l.least.values.items ≤ l.k;
+      placements : All (IsPlacementOf start.problem l.class) l.least.values.items;
       lightest : AreLightest (prices_of start.problem l.aim start.present l.class) (filter (is_available start.problem start.present l.class) (take l.k (domain_of start.problem l.class))) l.least;
     }

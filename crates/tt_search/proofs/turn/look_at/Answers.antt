@@ -14,4 +14,7 @@ returns-clause-lightest c = λ xs are.
     let start = c.args.state.now in
     let prices = prices_of start.problem c.args.aim.now start.present c.args.class in
     let priced = price_after start c.may_be_offered.new.state c.args.aim.now c.args.class c.args.value _ _ (rw (c.placement-placement.ensures.class, c.placement-placement.ensures.value) at (c.may_be_offered.ensures.found c.if-not-may_be_offered.false)) c.tolls-weight.ensures.tolls (rw c.problem.ensures at c.is_stray-strays.ensures) in
-    passed_on prices (is_available start.problem start.present c.args.class) xs c.take.new.self c.args.value (rw (c.placement-placement.ensures.class, c.placement-placement.ensures.value) at (c.may_be_offered.ensures.available c.if-not-may_be_offered.false)) (c.take.ensures.lightest prices xs priced are)
+    passed_on prices (is_available start.problem start.present c.args.class) xs c.take.new.self c.args.value (rw (c.placement-placement.ensures.class, c.placement-placement.ensures.value) at (c.may_be_offered.ensures.available c.if-not-may_be_offered.false)) ((rw c.placement-placement.ensures.value at c.take.ensures.lightest) prices xs priced are)
+
+pub returns-clause-placements : goal.returns-clause-placements
+returns-clause-placements c = λ are. c.take.ensures.placements c.args.state.now.problem c.args.class (record { class_is = c.placement-placement.ensures.class; placement = c.placement-placement.ensures.placement }) are

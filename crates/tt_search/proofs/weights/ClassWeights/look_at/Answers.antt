@@ -15,4 +15,7 @@ returns-clause-lightest c = λ xs are.
     let outs = c.args.self.now.outs.items in
     let prices = prices_by start.problem start.present outs c.args.class in
     let priced = weight_after start c.may_be_offered.new.state outs c.args.class c.args.value c.of_taken-weight.result (rw (c.placement-placement.ensures.class, c.placement-placement.ensures.value) at (c.may_be_offered.ensures.found c.if-not-may_be_offered.false)) c.of_taken-weight.ensures in
-    passed_on prices (is_available start.problem start.present c.args.class) xs c.take.new.self c.args.value (rw (c.placement-placement.ensures.class, c.placement-placement.ensures.value) at (c.may_be_offered.ensures.available c.if-not-may_be_offered.false)) (c.take.ensures.lightest prices xs priced are)
+    passed_on prices (is_available start.problem start.present c.args.class) xs c.take.new.self c.args.value (rw (c.placement-placement.ensures.class, c.placement-placement.ensures.value) at (c.may_be_offered.ensures.available c.if-not-may_be_offered.false)) ((rw c.placement-placement.ensures.value at c.take.ensures.lightest) prices xs priced are)
+
+pub returns-clause-placements : goal.returns-clause-placements
+returns-clause-placements c = λ are. c.take.ensures.placements c.args.state.now.problem c.args.class (record { class_is = c.placement-placement.ensures.class; placement = c.placement-placement.ensures.placement }) are
